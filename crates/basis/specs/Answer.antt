@@ -1,0 +1,6 @@
+-- What a call answers, as document 01 puts it: a value, or the number of a refusal and no value.
+use Prim.Native.Nat.{ℕ}
+
+pub data Answer (A : Type 0) : Type 0 where
+  gives : A → Answer A
+  refuses : ℕ → Answer A

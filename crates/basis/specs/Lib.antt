@@ -1,0 +1,3 @@
+pub mod Choice
+pub mod Answer
+pub mod Letters

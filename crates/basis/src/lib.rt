@@ -1,0 +1,1 @@
+// What the definitions of every other crate are written with stands in specs/. There is no code here.
