@@ -26,3 +26,22 @@ no {t} e h = sym e ∙ not-true t h
 
 pub yes : {t b : Bool} → t ≡ b → not t ≡ false → b ≡ true
 yes {t} e h = sym e ∙ not-false t h
+
+-- the last test of a list stands for itself
+pub both-end : (b : Bool) → both b true ≡ b
+unfolding both
+both-end true = refl
+both-end false = refl
+
+-- a list of tests, test by test
+pub every-goes : (b : Bool) (bs : List Bool) → b ≡ true → every (b ∷ bs) ≡ every bs
+unfolding every both
+every-goes b bs e = λ i. both (e i) (every bs)
+
+pub every-fails : (b : Bool) (bs : List Bool) → b ≡ false → every (b ∷ bs) ≡ false
+unfolding every both
+every-fails b bs e = λ i. both (e i) (every bs)
+
+pub every-ends : (b : Bool) → every (b ∷ []) ≡ b
+unfolding every
+every-ends b = both-end b

@@ -1,0 +1,8 @@
+pub mod Leap
+pub mod Runs
+pub mod Months
+pub mod Years
+pub mod Order
+pub mod Dates
+pub mod Answers
+pub mod Cases

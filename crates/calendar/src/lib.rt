@@ -1,0 +1,142 @@
+// The proleptic Gregorian calendar of document 01: the leap rule, the lengths of the months, the day number of a date
+// and the date of a day number. Days are counted from 0000-01-01, so that no number here is below zero.
+ghost use mathlib.Core.Path.{_≡_};
+ghost use Prim.Native.Nat.{ℕ, _+_, _-_, _*_, _≤_, _<_};
+ghost use Rattle.calendar.specs.Calendar.{leapRow, monthDays, monthRow, yearDays, monthCount, total, GoodDate, dayOf, dateIn, datedOf};
+
+// The lengths of the months, the ordinary year's row and the leap year's.
+const MONTHS: [[u8; 12]; 2] = [
+    [31, 28, 31, 30, 31, 30, 31, 31, 30, 31, 30, 31],
+    [31, 29, 31, 30, 31, 30, 31, 31, 30, 31, 30, 31],
+];
+
+const ORDINARY_YEAR: u64 = 365;
+
+pub struct Date {
+    pub year: u16,
+    pub month: u8,
+    pub day: u8,
+}
+
+// The date of a day number, or that its year is later than the last one asked for.
+pub enum Dated {
+    On(Date),
+    Later,
+}
+
+// The row of the month lengths that a year has.
+pub fn leap_row(year: u16) -> usize
+    ensures { λ r. ⌜ r ≡ leapRow year ⌝ }
+{
+    if year % 400 == 0 {
+        return 1;
+    }
+    if year % 100 == 0 {
+        return 0;
+    }
+    if year % 4 == 0 { 1 } else { 0 }
+}
+
+pub fn month_days(year: u16, month: u8) -> u8
+    requires { ⌜ (1 ≤ month) × (month ≤ monthCount) ⌝ }
+    ensures { λ r. ⌜ r ≡ monthDays year month ⌝ }
+{
+    let row = leap_row(year);
+    let m = (month - 1) as usize;
+    MONTHS[row][m]
+}
+
+pub fn year_days(year: u16) -> u64
+    ensures { λ r. ⌜ r ≡ yearDays year ⌝ }
+{
+    ORDINARY_YEAR + leap_row(year) as u64
+}
+
+// The days of all years before one.
+fn before_year(year: u16) -> u64
+    ensures { λ r. ⌜ r ≡ total yearDays year ⌝ }
+{
+    let mut n: u64 = 0;
+    let mut y: u16 = 0;
+    while y < year {
+        n += year_days(y);
+        y += 1;
+    }
+    n
+}
+
+// The days of all months before one, in its year.
+fn before_month(year: u16, month: u8) -> u64
+    requires { ⌜ (1 ≤ month) × (month ≤ monthCount) ⌝ }
+    ensures { λ r. ⌜ r ≡ total (monthRow (leapRow year)) (month - 1) ⌝ }
+{
+    let mut n: u64 = 0;
+    let mut m: u8 = 1;
+    while m < month {
+        n += month_days(year, m) as u64;
+        m += 1;
+    }
+    n
+}
+
+pub fn day_number(d: Date) -> u64
+    requires { ⌜ GoodDate d ⌝ }
+    ensures { λ r. ⌜ r ≡ dayOf d ⌝ }
+{
+    before_year(d.year) + before_month(d.year, d.month) + (d.day - 1) as u64
+}
+
+// A day by its number within a year. Where the walk stopped at the last year, the number may be beyond that year.
+struct YearDay {
+    year: u16,
+    left: u64,
+}
+
+fn year_of(n: u64, last: u16) -> YearDay
+    ensures { λ r. ⌜ (total yearDays (r .year) + r .left ≡ n) × (r .year ≤ last) × (yearDays (r .year) ≤ r .left → r .year ≡ last) ⌝ }
+{
+    let mut year: u16 = 0;
+    let mut left = n;
+    // The test comes before the sum: no year follows 65535.
+    while year < last {
+        let len = year_days(year);
+        if left < len {
+            return YearDay { year, left };
+        }
+        left -= len;
+        year += 1;
+    }
+    YearDay { year, left }
+}
+
+fn date_in(year: u16, n: u64) -> Date
+    requires { ⌜ n < yearDays year ⌝ }
+    ensures { λ r. ⌜ r ≡ dateIn (record { run = year; left = n }) ⌝ }
+{
+    let mut left = n;
+    let mut m: u8 = 1;
+    loop {
+        let len = month_days(year, m) as u64;
+        if left < len {
+            return Date {
+                year,
+                month: m,
+                day: (left + 1) as u8,
+            };
+        }
+        left -= len;
+        m += 1;
+    }
+}
+
+pub fn date_of(n: u64, last: u16) -> Dated
+    ensures { λ r. ⌜ r ≡ datedOf n last ⌝ }
+{
+    let y = year_of(n, last);
+    let year = y.year;
+    let left = y.left;
+    if year_days(year) <= left {
+        return Dated::Later;
+    }
+    Dated::On(date_in(year, left))
+}

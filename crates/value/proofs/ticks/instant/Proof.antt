@@ -1,0 +1,45 @@
+use Rattle.value.proofs.TwoParts.{span-ticks}
+use Rattle.value.proofs.Instants.{offset-good}
+use Rattle.value.proofs.Good.{good, timed}
+use Rattle.value.specs.declared.Span.{Span}
+use Rattle.value.specs.Ticks.{localOf, instantOf, instantAt, offsetIn, spanOf, ticksOf}
+use Rattle.value.specs.Values.{okOffset}
+use Rattle.value.specs.Bounds.{parts}
+use native.Mathlib.Omega.{arith}
+use Prim.Native.Nat.{ℕ, _/_, _%_}
+use mathlib.Core.Path.{_≡_, ap, _∙_}
+use borrow.Author.Needs.{needs}
+use Rattle.value.proofs.ticks.instant.Statement.{statement}
+use Rattle.value.proofs.ticks.instant.Tie as tie
+use Rattle.value.proofs.ticks.instant.Reads as reads
+use Rattle.value.proofs.ticks.instant.Lts as lts
+use Rattle.value.proofs.ticks.instant_at.Reads as instant-at-reads
+use Rattle.value.proofs.ticks.local.Reads as local-reads
+use Rattle.value.proofs.ticks.offset_in.Reads as offset-in-reads
+
+-- src/ticks.rt:70:9
+local-requires : tie.Need-local-requires
+local-requires c κs = search needs
+
+-- src/ticks.rt:72:9
+offset-in-requires : tie.Need-offset-in-requires
+offset-in-requires c κs = search needs
+
+-- src/ticks.rt:73:5
+instant-at-requires : tie.Need-instant-at-requires
+instant-at-requires c κs =
+    let t = timed _ (c .before .before .pre .0) in
+    let es : c .before .local .result .seconds ≡ localOf (c .before .before .args .d) / parts = ap (λ (x : Span). x .seconds) (c .before .local .ensures) in
+    let ep : c .before .local .result .part ≡ localOf (c .before .before .args .d) % parts = ap (λ (x : Span). x .part) (c .before .local .ensures) in
+    (omega arith, omega arith, omega arith, ap okOffset (c .offset-in .ensures) ∙ offset-good _ _ (c .before .before .pre .1) (good _ (c .before .before .pre .0) .zone))
+
+-- src/ticks.rt:66:1
+returns : tie.Need-returns
+unfolding instantOf
+returns c =
+    c .instant-at .ensures
+    ∙ (λ i. spanOf (instantAt (ticksOf (c .before .before .local .ensures i)) (c .before .offset-in .ensures i)))
+    ∙ ap (λ (t : ℕ). spanOf (instantAt t (offsetIn (c .before .before .before .args .given) (c .before .before .before .args .d .zone)))) (span-ticks (localOf (c .before .before .before .args .d)))
+
+pub instant-spec : {M : Type 1} → statement M
+instant-spec = tie.close (tie.spec local-requires offset-in-requires instant-at-requires returns)

@@ -1,0 +1,69 @@
+-- Document 01, "Operations", components for library callers: each field and the zone, or that there is none; of a
+-- duration its normalised parts, none above zero if it is negative. F&O 10.5.
+use mathlib.Core.Bool.{Bool, true, false}
+use Prim.Native.Nat.{ℕ, _/_, _%_}
+use lib.IntN.{ℤ, pos, negℤ}
+use Rattle.basis.specs.Choice.{pick}
+use Rattle.basis.specs.Answer.{Answer, gives, refuses}
+use Rattle.calendar.specs.declared.Date.{Date}
+use Rattle.value.specs.Bounds.{parts, minuteTicks, hourTicks, dayTicks}
+use Rattle.value.specs.Refusals.{outside}
+use Rattle.value.specs.Kinds.{okValue}
+use Rattle.value.specs.declared.Zone.{Zone}
+use Rattle.value.specs.declared.DateTime.{DateTime}
+use Rattle.value.specs.declared.Clock.{Clock}
+use Rattle.value.specs.declared.Lasting.{Lasting}
+use Rattle.value.specs.declared.Value.{Value}
+use Rattle.value.specs.declared.Value.the-variants as VV
+use Rattle.value.specs.declared.Components.{Components}
+use Rattle.value.specs.declared.Components.the-variants as CV
+
+-- the parts of a value: those that its kind has, and the zone; of either duration kind all six
+pub data Parts : Type 0 where
+  ofDate : Date → Zone → Parts
+  ofTime : Clock → Zone → Parts
+  ofDateTime : Date → Clock → Zone → Parts
+  ofDuration : Lasting → Parts
+
+-- what an answer says: the parts, or the number of a refusal
+abbrev pub meaning : Components → Answer Parts
+meaning (CV.Date d z) = gives (ofDate d z)
+meaning (CV.Time c z) = gives (ofTime c z)
+meaning (CV.DateTime d c z) = gives (ofDateTime d c z)
+meaning (CV.Duration l) = gives (ofDuration l)
+meaning (CV.Refused r) = refuses (r .number)
+
+abbrev pub dateIn : DateTime → Date
+dateIn d = record { year = d .year; month = d .month; day = d .day }
+
+-- hours, minutes, seconds and their fraction
+abbrev pub clockIn : ℕ → Clock
+clockIn t = record { hours = t / hourTicks; minutes = t / minuteTicks % 60; seconds = t / parts % 60; micros = t % parts }
+
+-- a number with a duration's sign
+abbrev pub signed : Bool → ℕ → ℤ
+signed true n = negℤ (pos n)
+signed false n = pos n
+
+-- a number of months and a number of ticks under one sign, normalised
+abbrev pub lasting : Bool → ℕ → ℕ → Lasting
+lasting negative months ticks =
+    record {
+      years = signed negative (months / 12);
+      months = signed negative (months % 12);
+      days = signed negative (ticks / dayTicks);
+      hours = signed negative (ticks / hourTicks % 24);
+      minutes = signed negative (ticks / minuteTicks % 60);
+      seconds = signed negative (ticks / parts % 60);
+      micros = signed negative (ticks % parts);
+    }
+
+abbrev pub partsOf : Value → Parts
+partsOf (VV.Date d) = ofDate (dateIn d) (d .zone)
+partsOf (VV.Time d) = ofTime (clockIn (d .micros)) (d .zone)
+partsOf (VV.DateTime d) = ofDateTime (dateIn d) (clockIn (d .micros)) (d .zone)
+partsOf (VV.DayTime d) = ofDuration (lasting (d .negative) 0 (d .micros))
+partsOf (VV.YearMonth d) = ofDuration (lasting (d .negative) (d .months) 0)
+
+unfoldable pub componentsOf : Value → Answer Parts
+componentsOf v = pick (okValue v) (gives (partsOf v)) (refuses outside)

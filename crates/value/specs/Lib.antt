@@ -1,0 +1,7 @@
+pub mod Bounds
+pub mod Refusals
+pub mod Values
+pub mod Durations
+pub mod Kinds
+pub mod Ticks
+pub mod Components

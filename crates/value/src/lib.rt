@@ -1,0 +1,234 @@
+// The values of the five kinds: records, bounds, makers, validity, components, and the spans of time between them.
+use calendar::Date;
+ghost use mathlib.Core.Path.{_≡_};
+ghost use mathlib.Core.Bool.{Bool, true, false};
+ghost use Prim.Native.Nat.{ℕ, _+_, _*_, _≤_, _<_};
+ghost use Rattle.value.specs.Bounds.{minYear, maxYear, maxMicros, maxZone, maxDayTime, maxYearMonth, parts};
+ghost use Rattle.value.specs.Kinds.{made, meaning, kindOf};
+ghost use Rattle.value.specs.declared.Value.the-variants as VV;
+
+pub mod bounds; // bounds.rt: each constant is the number of the definitions
+pub mod parts; // parts.rt: the parts of a value, for library callers
+pub mod kinds; // kinds.rt: which parts a kind has
+pub mod spans; // spans.rt: spans of time, as whole seconds and a part of a second
+pub mod ticks; // ticks.rt: local time and instant of a record, and the record at a local time
+pub mod valid; // valid.rt: which records are within the bounds
+
+// Minutes from UTC. Zero minutes are east.
+pub enum Offset {
+    East(u16),
+    West(u16),
+}
+
+pub enum Zone {
+    Absent,
+    At(Offset),
+}
+
+// A date, a time and a dateTime: a date is at 00:00:00, a time is on 1972-12-31.
+pub struct DateTime {
+    pub year: u16,
+    pub month: u8,
+    pub day: u8,
+    pub micros: u64,
+    pub zone: Zone,
+}
+
+// A signed number of microseconds. Zero is not negative.
+pub struct DayTime {
+    pub negative: bool,
+    pub micros: u64,
+}
+
+// A signed number of months. Zero is not negative.
+pub struct YearMonth {
+    pub negative: bool,
+    pub months: u32,
+}
+
+pub enum Kind {
+    Date,
+    Time,
+    DateTime,
+    DayTimeDuration,
+    YearMonthDuration,
+}
+
+pub enum Value {
+    Date(DateTime),
+    Time(DateTime),
+    DateTime(DateTime),
+    DayTime(DayTime),
+    YearMonth(YearMonth),
+}
+
+// A refusal has a number of document 01 and no value.
+pub struct Refusal {
+    pub number: u8,
+}
+
+// What a call that makes a value answers.
+pub enum Outcome {
+    Is(Value),
+    Refused(Refusal),
+}
+
+// Whole seconds, and a part of a second in ticks.
+pub struct Span {
+    pub seconds: u64,
+    pub part: u32,
+}
+
+// The record at a local time, or that the time is beyond the years.
+pub enum Placed {
+    At(DateTime),
+    Beyond,
+}
+
+// The time of day by its fields.
+pub struct Clock {
+    pub hours: u8,
+    pub minutes: u8,
+    pub seconds: u8,
+    pub micros: u32,
+}
+
+// The six parts of a duration, the seconds with their fraction beside them. All have the duration's sign.
+pub struct Lasting {
+    pub years: i32,
+    pub months: i32,
+    pub days: i32,
+    pub hours: i32,
+    pub minutes: i32,
+    pub seconds: i32,
+    pub micros: i32,
+}
+
+// The parts that a value's kind has.
+pub enum Components {
+    Date(Date, Zone),
+    Time(Clock, Zone),
+    DateTime(Date, Clock, Zone),
+    Duration(Lasting),
+    Refused(Refusal),
+}
+
+impl Refusal {
+    pub const BAD_TEXT: u8 = 1;
+
+    pub const BEYOND_BOUNDS: u8 = 2;
+
+    pub const LONG_FRACTION: u8 = 3;
+
+    pub const BEYOND_RESULT: u8 = 4;
+
+    pub const BAD_ZONE: u8 = 5;
+
+    pub const NO_FIELD: u8 = 6;
+
+    pub const BAD_CONDITION: u8 = 7;
+
+    pub const TOO_DEEP: u8 = 8;
+
+    pub const WRONG_KIND: u8 = 9;
+
+    pub const NO_SEAT: u8 = 10;
+
+    pub const WRONG_TIMETABLE: u8 = 11;
+
+    pub const NOT_SOUND: u8 = 12;
+
+    pub const NO_TICKET: u8 = 13;
+
+    pub const NO_MORE_TICKETS: u8 = 14;
+
+    pub const NO_ROOM: u8 = 15;
+
+    pub const OUTSIDE: u8 = 16;
+}
+
+impl Span {
+    // The ticks of a second: a part is below this.
+    pub const PARTS: u32 = 1_000_000;
+}
+
+impl DateTime {
+    pub const MIN_YEAR: u16 = 1;
+
+    pub const MAX_YEAR: u16 = 9999;
+
+    pub const MAX_MICROS: u64 = 86_399_999_999;
+
+    pub const MAX_ZONE: u16 = 840;
+
+    pub fn new(year: u16, month: u8, day: u8, micros: u64, zone: Zone) -> Outcome
+        ensures { λ r. ⌜ meaning r ≡ made (VV.DateTime (record { year = year; month = month; day = day; micros = micros; zone = zone })) ⌝ }
+    {
+        valid::checked(Value::DateTime(DateTime {
+            year,
+            month,
+            day,
+            micros,
+            zone,
+        }))
+    }
+
+    pub fn date(year: u16, month: u8, day: u8, zone: Zone) -> Outcome
+        ensures { λ r. ⌜ meaning r ≡ made (VV.Date (record { year = year; month = month; day = day; micros = 0; zone = zone })) ⌝ }
+    {
+        valid::checked(Value::Date(DateTime {
+            year,
+            month,
+            day,
+            micros: 0,
+            zone,
+        }))
+    }
+
+    pub fn time(micros: u64, zone: Zone) -> Outcome
+        ensures { λ r. ⌜ meaning r ≡ made (VV.Time (record { year = 1972; month = 12; day = 31; micros = micros; zone = zone })) ⌝ }
+    {
+        let t = kinds::template(Kind::Time);
+        valid::checked(Value::Time(DateTime {
+            year: t.year,
+            month: t.month,
+            day: t.day,
+            micros,
+            zone,
+        }))
+    }
+}
+
+impl DayTime {
+    pub const MAX: u64 = 1_000_000_000_000_000_000;
+
+    pub fn new(negative: bool, micros: u64) -> Outcome
+        ensures { λ r. ⌜ meaning r ≡ made (VV.DayTime (record { negative = negative; micros = micros })) ⌝ }
+    {
+        valid::checked(Value::DayTime(DayTime { negative, micros }))
+    }
+}
+
+impl YearMonth {
+    pub const MAX: u32 = 1_000_000;
+
+    pub fn new(negative: bool, months: u32) -> Outcome
+        ensures { λ r. ⌜ meaning r ≡ made (VV.YearMonth (record { negative = negative; months = months })) ⌝ }
+    {
+        valid::checked(Value::YearMonth(YearMonth { negative, months }))
+    }
+}
+
+impl Value {
+    pub fn kind(self) -> Kind
+        ensures { λ r. ⌜ r ≡ kindOf self ⌝ }
+    {
+        match self {
+            Value::Date(_) => Kind::Date,
+            Value::Time(_) => Kind::Time,
+            Value::DateTime(_) => Kind::DateTime,
+            Value::DayTime(_) => Kind::DayTimeDuration,
+            Value::YearMonth(_) => Kind::YearMonthDuration,
+        }
+    }
+}

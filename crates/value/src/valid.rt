@@ -1,0 +1,116 @@
+// Which records are within the bounds of document 01.
+use crate::DateTime;
+use crate::DayTime;
+use crate::Kind;
+use crate::Offset;
+use crate::Outcome;
+use crate::Refusal;
+use crate::Value;
+use crate::YearMonth;
+use crate::Zone;
+use crate::kinds;
+ghost use mathlib.Core.Path.{_≡_};
+ghost use Rattle.value.specs.Values.{okDate, okOffset, okZone, okDateTime, okSigned};
+ghost use Rattle.value.specs.Kinds.{okValue, made, meaning};
+
+pub fn date_ok(year: u16, month: u8, day: u8) -> bool
+    ensures { λ r. ⌜ r ≡ okDate year month day ⌝ }
+{
+    if year < DateTime::MIN_YEAR {
+        return false;
+    }
+    if DateTime::MAX_YEAR < year {
+        return false;
+    }
+    if month < 1 {
+        return false;
+    }
+    if 12 < month {
+        return false;
+    }
+    if day < 1 {
+        return false;
+    }
+    day <= calendar::month_days(year, month)
+}
+
+pub fn offset_ok(o: Offset) -> bool
+    ensures { λ r. ⌜ r ≡ okOffset o ⌝ }
+{
+    match o {
+        Offset::East(m) => m <= DateTime::MAX_ZONE,
+        Offset::West(m) => {
+            if m < 1 {
+                return false;
+            }
+            m <= DateTime::MAX_ZONE
+        }
+    }
+}
+
+pub fn zone_ok(z: Zone) -> bool
+    ensures { λ r. ⌜ r ≡ okZone z ⌝ }
+{
+    match z {
+        Zone::Absent => true,
+        Zone::At(o) => offset_ok(o),
+    }
+}
+
+pub fn date_time_ok(d: DateTime) -> bool
+    ensures { λ r. ⌜ r ≡ okDateTime d ⌝ }
+{
+    if !date_ok(d.year, d.month, d.day) {
+        return false;
+    }
+    if DateTime::MAX_MICROS < d.micros {
+        return false;
+    }
+    let zone = d.zone;
+    zone_ok(zone)
+}
+
+// A sign and a magnitude within a bound. Zero has no sign.
+pub fn signed_ok(bound: u64, negative: bool, n: u64) -> bool
+    ensures { λ r. ⌜ r ≡ okSigned bound negative n ⌝ }
+{
+    if bound < n {
+        return false;
+    }
+    if negative { 0 < n } else { true }
+}
+
+pub fn value_ok(v: Value) -> bool
+    ensures { λ r. ⌜ r ≡ okValue v ⌝ }
+{
+    match v {
+        Value::Date(d) => {
+            if !date_time_ok(d) {
+                return false;
+            }
+            kinds::of_kind(Kind::Date, d)
+        }
+        Value::Time(d) => {
+            if !date_time_ok(d) {
+                return false;
+            }
+            kinds::of_kind(Kind::Time, d)
+        }
+        Value::DateTime(d) => date_time_ok(d),
+        Value::DayTime(d) => signed_ok(DayTime::MAX, d.negative, d.micros),
+        Value::YearMonth(d) => signed_ok(YearMonth::MAX as u64, d.negative, d.months as u64),
+    }
+}
+
+// The value that was given, or that it is outside the bounds.
+pub fn checked(v: Value) -> Outcome
+    ensures { λ r. ⌜ meaning r ≡ made v ⌝ }
+{
+    if value_ok(v) {
+        Outcome::Is(v)
+    } else {
+        Outcome::Refused(Refusal {
+            number: Refusal::OUTSIDE,
+        })
+    }
+}
