@@ -1,0 +1,102 @@
+-- Worked cases by computation: document 01, "Either side of the line", and where reading stops.
+use mathlib.Core.Path.{_≡_, refl}
+use mathlib.Core.Bool.{true, false}
+use Prim.Native.Nat.{ℕ}
+use Prim.Native.String.{String}
+use Rattle.basis.specs.Choice.{both}
+use Rattle.basis.specs.Letters.{bytes}
+use Rattle.basis.specs.Answer.{gives, refuses}
+use Rattle.value.specs.declared.Value.the-variants as VV
+use Rattle.numerals.specs.Reading.{isDigit, number, fractionAt}
+use Rattle.numerals.specs.Writing.{digits, shortest, decimal, stripped, fractionText}
+use Rattle.durations.specs.Forms.{weight, dayTime, yearMonth}
+use Rattle.durations.specs.Walks.{component, components, shapeFrom, shape, counted, readBy, readDayTime, readYearMonth, placeIn}
+use Rattle.durations.specs.Spelling.{shown, shownAll, left, body, textBy, dayTimeText, yearMonthText}
+
+-- 10. PT36H is written P1DT12H; -PT0S is written PT0S
+pub reads-36-hours : readDayTime (bytes "PT36H") ≡ gives (VV.DayTime (record { negative = false; micros = 129_600_000_000 }))
+unfolding isDigit number fractionAt both weight component components shapeFrom shape counted readBy
+reads-36-hours = refl
+
+pub writes-36-hours : dayTimeText (record { negative = false; micros = 129_600_000_000 }) ≡ bytes "P1DT12H"
+unfolding digits shortest decimal stripped fractionText both weight shown shownAll left body textBy
+writes-36-hours = refl
+
+pub reads-minus-zero : readDayTime (bytes "-PT0S") ≡ gives (VV.DayTime (record { negative = false; micros = 0 }))
+unfolding isDigit number fractionAt both weight component components shapeFrom shape counted readBy
+reads-minus-zero = refl
+
+pub writes-zero : dayTimeText (record { negative = false; micros = 0 }) ≡ bytes "PT0S"
+unfolding textBy
+writes-zero = refl
+
+-- 11. P83333Y4M reads; P83333Y5M: 2
+pub reads-most-months : readYearMonth (bytes "P83333Y4M") ≡ gives (VV.YearMonth (record { negative = false; months = 1_000_000 }))
+unfolding isDigit number fractionAt both weight component components shapeFrom shape counted readBy
+reads-most-months = refl
+
+pub one-month-more : readYearMonth (bytes "P83333Y5M") ≡ refuses 2
+unfolding isDigit number fractionAt both weight component components shapeFrom shape counted readBy
+one-month-more = refl
+
+pub writes-most-months : yearMonthText (record { negative = true; months = 1_000_000 }) ≡ bytes "-P83333Y4M"
+unfolding digits shortest decimal stripped fractionText both weight shown shownAll left body textBy
+writes-most-months = refl
+
+pub writes-no-months : yearMonthText (record { negative = false; months = 0 }) ≡ bytes "P0M"
+unfolding textBy
+writes-no-months = refl
+
+-- a fraction: of six digits it reads, of seven it is 3, also where the total is beyond the bound; of none it has no shape
+pub reads-fraction : readDayTime (bytes "-P1DT0.000001S") ≡ gives (VV.DayTime (record { negative = true; micros = 86_400_000_001 }))
+unfolding isDigit number fractionAt both weight component components shapeFrom shape counted readBy
+reads-fraction = refl
+
+pub writes-fraction : dayTimeText (record { negative = true; micros = 86_400_500_000 }) ≡ bytes "-P1DT0.5S"
+unfolding digits shortest decimal stripped fractionText both weight shown shownAll left body textBy
+writes-fraction = refl
+
+pub seven-digits : readDayTime (bytes "PT99999999999999999999.0000000S") ≡ refuses 3
+unfolding isDigit number fractionAt both weight component components shapeFrom shape counted readBy
+seven-digits = refl
+
+pub no-fraction-digit : readDayTime (bytes "PT1.S") ≡ refuses 1
+unfolding isDigit number fractionAt both weight component components shapeFrom shape counted readBy
+no-fraction-digit = refl
+
+-- 10^18 microseconds and one more, and a component of many digits
+pub most-seconds : readDayTime (bytes "PT1000000000000S") ≡ gives (VV.DayTime (record { negative = false; micros = 1_000_000_000_000_000_000 }))
+unfolding isDigit number fractionAt both weight component components shapeFrom shape counted readBy
+most-seconds = refl
+
+pub one-tick-more : readDayTime (bytes "-PT1000000000000.000001S") ≡ refuses 2
+unfolding isDigit number fractionAt both weight component components shapeFrom shape counted readBy
+one-tick-more = refl
+
+pub many-digits : readDayTime (bytes "P00000000000000000000000000000000001D") ≡ gives (VV.DayTime (record { negative = false; micros = 86_400_000_000 }))
+unfolding isDigit number fractionAt both weight component components shapeFrom shape counted readBy
+many-digits = refl
+
+-- where reading stops: at the first byte that no good text could have there, or at the end of a text that stops short
+abbrev stops : String → ℕ
+stops t = placeIn dayTime (bytes t)
+
+pub places :
+    (stops "" ≡ 0)
+    × (stops "-" ≡ 1)
+    × (stops "P" ≡ 1)
+    × (stops "PT" ≡ 2)
+    × (stops "P1DT" ≡ 4)
+    × (stops "P1" ≡ 2)
+    × (stops "P1Y" ≡ 2)
+    × (stops "P1D1H" ≡ 3)
+    × (stops "PT1M1H" ≡ 5)
+    × (stops "PT1.S" ≡ 4)
+    × (stops "PT1.5X" ≡ 5)
+    × (stops "PT1.5SX" ≡ 6)
+    × (stops "P1DX" ≡ 3)
+    × (stops "X" ≡ 0)
+    × (placeIn yearMonth (bytes "P1YT") ≡ 3)
+    × (placeIn yearMonth (bytes "P1M1Y") ≡ 3)
+unfolding isDigit number fractionAt both weight component components shapeFrom shape
+places = (refl, refl, refl, refl, refl, refl, refl, refl, refl, refl, refl, refl, refl, refl, refl, refl)

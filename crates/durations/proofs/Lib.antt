@@ -1,0 +1,12 @@
+pub mod Weights
+pub mod Capping
+pub mod Ways
+pub mod Going
+pub mod Judging
+pub mod Written
+pub mod Valid
+pub mod Lengths
+pub mod Cases
+pub mod Back
+pub mod Trip
+pub mod Round

@@ -1,0 +1,63 @@
+-- Document 01, "Reading text" and "Writing text": the components of a duration's text. "dayTimeDuration has D, H, M, S;
+-- yearMonthDuration Y, M."
+use mathlib.Core.Bool.{Bool}
+use mathlib.Core.List.{List, []}
+use Prim.Native.Nat.{ℕ, _/_}
+use lib.Dec.{eqb}
+use Rattle.basis.specs.Choice.{pick, both}
+use Rattle.basis.specs.Letters.{bytes}
+use Rattle.value.specs.Bounds.{maxDayTime, maxYearMonth, parts, minuteTicks, hourTicks, dayTicks}
+
+-- The letters that stand in a duration's text: Y, M, D, H, S of the components (M for months, and after T for minutes), and
+-- the punctuation.
+abbrev pub years : ℕ
+years = 89
+
+abbrev pub months : ℕ
+months = 77
+
+abbrev pub days : ℕ
+days = 68
+
+abbrev pub hours : ℕ
+hours = 72
+
+abbrev pub minutes : ℕ
+minutes = 77
+
+abbrev pub seconds : ℕ
+seconds = 83
+
+abbrev pub minusSign : ℕ
+minusSign = 45
+
+abbrev pub point : ℕ
+point = 46
+
+abbrev pub startMark : ℕ
+startMark = 80
+
+abbrev pub timeMark : ℕ
+timeMark = 84
+
+-- what one of a component counts: of years and months in months, of the others in seconds
+unfoldable pub weight : Bool → ℕ → ℕ
+weight time c =
+    pick (eqb c years) 12
+    (pick (eqb c days) (dayTicks / parts)
+    (pick (eqb c hours) (hourTicks / parts) (pick (both time (eqb c minutes)) (minuteTicks / parts) 1)))
+
+-- The form of a kind's text: its components before T and after it, in order; into how many parts a month or a second is
+-- divided; the bound, in those parts; and the text of zero.
+pub record Form : Type 0 where
+  pub before : List ℕ
+  pub after : List ℕ
+  pub unit : ℕ
+  pub most : ℕ
+  pub nothing : List ℕ
+
+abbrev pub dayTime : Form
+dayTime = record { before = bytes "D"; after = bytes "HMS"; unit = parts; most = maxDayTime; nothing = bytes "PT0S" }
+
+abbrev pub yearMonth : Form
+yearMonth = record { before = bytes "YM"; after = []; unit = 1; most = maxYearMonth; nothing = bytes "P0M" }

@@ -1,0 +1,11 @@
+pub mod Ways
+pub mod Pieces
+pub mod Keeping
+pub mod Back
+pub mod Round
+pub mod Trip
+pub mod OfKinds
+pub mod Lengths
+pub mod Valid
+pub mod ReadsValid
+pub mod Cases

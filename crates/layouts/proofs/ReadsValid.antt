@@ -1,0 +1,122 @@
+-- Whatever a text of a kind reads as is a valid value of that kind: along the kind's layout the fraction stays below a
+-- second, and the fields that the layout has no letter for stay the template's.
+use mathlib.Core.Path.{_≡_, refl, sym, _∙_}
+use mathlib.Core.Bool.{Bool, true, false}
+use mathlib.Core.List.{List, [], _∷_}
+use Prim.Native.Nat.{ℕ, _<_}
+use native.Mathlib.Omega.{arith}
+use lib.Dec.{eqb, leb}
+use lib.ListN.{length}
+use Rattle.basis.specs.Answer.{gives}
+use Rattle.value.specs.Bounds.{maxYear, parts}
+use Rattle.value.specs.Kinds.{template}
+use Rattle.value.specs.declared.Kind.{Kind}
+use Rattle.value.specs.declared.Kind.the-variants as KV
+use Rattle.value.specs.declared.Value.{Value}
+use Rattle.numerals.proofs.Fractions.{fraction-lt}
+use Rattle.scan.specs.declared.Scan.{Scan}
+use Rattle.scan.specs.declared.Pair.{Pair}
+use Rattle.scan.specs.Scanning.{whole, isPair, placed, layout, startOf, partsOf}
+use Rattle.scan.proofs.Lasting.{Leaves, Everywhere, ended, letter, lasts}
+use Rattle.layouts.specs.Reading.{ticksOf, bounded, judge, readLayout}
+use Rattle.layouts.proofs.Valid.{Valid, Fine, Suits, fine-refusal, fine-pick, fine-on-calendar}
+
+never : false ≡ true → ⊥
+never q =
+    let z : _≡_ {A = ℕ} 0 1 = cc in
+    omega arith
+
+-- a letter that is none of a part's leaves every fact
+mark-leaves : (P : Scan → Type 0) (p : ℕ) → (p ≡ 89 → ⊥) → (p ≡ 102 → ⊥) → isPair p ≡ false → Leaves P p
+mark-leaves P p a b c =
+    record { year = λ q. absurd (a q); fraction = λ q. absurd (b q); pair = λ q. absurd (never (sym c ∙ q)) }
+
+pair-leaves : (P : Scan → Type 0) (p : ℕ) → (p ≡ 89 → ⊥) → (p ≡ 102 → ⊥) → ((t : Scan) (g : Pair) → P t → P (placed p t g)) → Leaves P p
+pair-leaves P p a b f = record { year = λ q. absurd (a q); fraction = λ q. absurd (b q); pair = λ q. f }
+
+-- a fraction is less than a second
+abbrev Short : Scan → Type 0
+Short t = t .part < parts
+
+placed-short : (p : ℕ) (t : Scan) (g : Pair) → Short t → Short (placed p t g)
+unfolding placed
+placed-short p t g a = go (eqb p 77) (eqb p 68) (eqb p 104) (eqb p 109) refl refl refl refl
+  where
+    go : (b c d e : Bool) → eqb p 77 ≡ b → eqb p 68 ≡ c → eqb p 104 ≡ d → eqb p 109 ≡ e → Short (placed p t g)
+    go true c d e w x y z = rw w a
+    go false true d e w x y z = rw (w, x) a
+    go false false true e w x y z = rw (w, x, y) a
+    go false false false true w x y z = rw (w, x, y, z) a
+    go false false false false w x y z = rw (w, x, y, z) a
+
+short-everywhere : (ps : List ℕ) → Everywhere Short ps
+short-everywhere [] = ended
+short-everywhere (p ∷ ps) =
+    letter (record { year = λ q t n y a. a; fraction = λ q t s i a. fraction-lt s i; pair = λ q t g a. placed-short p t g a }) (short-everywhere ps)
+
+short : (k : Kind) (s : List ℕ) → Short (partsOf whole k s)
+short k s = lasts Short (record { place = λ t i g a. a; zone = λ t z h m i a. a }) whole (short-everywhere (layout k)) s (startOf (template k)) (omega arith)
+
+-- a date's clock is the template's
+abbrev AtMidnight : Scan → Type 0
+AtMidnight t = (t .hour ≡ 0) × (t .minute ≡ 0) × (t .second ≡ 0) × (t .part ≡ 0)
+
+date-letters : Everywhere AtMidnight (layout KV.Date)
+unfolding isPair placed
+date-letters =
+    letter (record { year = λ q t n y a. a; fraction = λ q. absurd (odd q); pair = λ q. absurd (never q) })
+    (letter (mark-leaves AtMidnight 45 (λ q. omega arith) (λ q. omega arith) refl)
+    (letter (pair-leaves AtMidnight 77 (λ q. omega arith) (λ q. omega arith) (λ t g a. a))
+    (letter (mark-leaves AtMidnight 45 (λ q. omega arith) (λ q. omega arith) refl)
+    (letter (pair-leaves AtMidnight 68 (λ q. omega arith) (λ q. omega arith) (λ t g a. a))
+    (letter (mark-leaves AtMidnight 122 (λ q. omega arith) (λ q. omega arith) refl) ended)))))
+  where
+    odd : _≡_ {A = ℕ} 89 102 → ⊥
+    odd q = omega arith
+
+-- a time's day is the template's
+abbrev OnReferenceDay : Scan → Type 0
+OnReferenceDay t = (t .year ≡ 1972) × (t .month ≡ 12) × (t .day ≡ 31)
+
+time-letters : Everywhere OnReferenceDay (layout KV.Time)
+unfolding isPair placed
+time-letters =
+    letter (pair-leaves OnReferenceDay 104 (λ q. omega arith) (λ q. omega arith) (λ t g a. a))
+    (letter (mark-leaves OnReferenceDay 58 (λ q. omega arith) (λ q. omega arith) refl)
+    (letter (pair-leaves OnReferenceDay 109 (λ q. omega arith) (λ q. omega arith) (λ t g a. a))
+    (letter (mark-leaves OnReferenceDay 58 (λ q. omega arith) (λ q. omega arith) refl)
+    (letter (pair-leaves OnReferenceDay 115 (λ q. omega arith) (λ q. omega arith) (λ t g a. a))
+    (letter (record { year = λ q. absurd (odd q); fraction = λ q t s i a. a; pair = λ q. absurd (never q) })
+    (letter (mark-leaves OnReferenceDay 122 (λ q. omega arith) (λ q. omega arith) refl) ended))))))
+  where
+    odd : _≡_ {A = ℕ} 102 89 → ⊥
+    odd q = omega arith
+
+suits : (k : Kind) (s : List ℕ) → (t : Scan) → t ≡ partsOf whole k s → Suits k (record { year = t .year; month = t .month; day = t .day }) (ticksOf (t .hour) (t .minute) (t .second) (t .part))
+unfolding ticksOf
+suits KV.Date s t e =
+    let a : AtMidnight t = rw e (lasts AtMidnight (record { place = λ t i g a. a; zone = λ t z h m i a. a }) whole date-letters s (startOf (template KV.Date)) (refl, refl, refl, refl)) in
+    λ i. ticksOf (a .0 i) (a .1 i) (a .2 i) (a .3 i)
+suits KV.Time s t e = rw e (lasts OnReferenceDay (record { place = λ t i g a. a; zone = λ t z h m i a. a }) whole time-letters s (startOf (template KV.Time)) (refl, refl, refl))
+suits KV.DateTime s t e = refl
+suits KV.DayTimeDuration s t e = refl
+suits KV.YearMonthDuration s t e = refl
+
+fine-judge : (k : Kind) (n : ℕ) (t : Scan) → t .part < parts
+    → Suits k (record { year = t .year; month = t .month; day = t .day }) (ticksOf (t .hour) (t .minute) (t .second) (t .part)) → Fine k (judge k n t)
+unfolding judge bounded
+fine-judge k n t l e =
+    fine-pick k (t .good) _ _
+    (λ a. fine-pick k (eqb (t .at) n) _ _
+    (λ b. fine-pick k (t .long) _ _ (λ c. fine-refusal k 3)
+    (λ c. fine-pick k (t .negative) _ _ (λ d. fine-refusal k 2)
+    (λ d. fine-pick k (leb (t .year) maxYear) _ _
+    (λ f. fine-on-calendar k (record { year = t .year; month = t .month; day = t .day }) (t .hour) (t .minute) (t .second) (t .part) (t .sign) (t .zh) (t .zm) l e)
+    (λ f. fine-refusal k 2))))
+    (λ b. fine-refusal k 1))
+    (λ a. fine-refusal k 1)
+
+-- WHAT READS IS VALID
+pub reads-valid : (k : Kind) (s : List ℕ) (v : Value) → readLayout k s ≡ gives v → Valid k v
+unfolding readLayout
+reads-valid k s = fine-judge k (length s) (partsOf whole k s) (short k s) (suits k s (partsOf whole k s) refl)

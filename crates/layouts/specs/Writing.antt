@@ -1,0 +1,65 @@
+-- Document 01, "Writing text": the text of a date, a time or a dateTime. Local fields and zone are kept; zone 0 is Z; a
+-- fraction loses its final zeros and vanishes if zero. The text is that of the parts of the kind's layout, in order.
+use mathlib.Core.Path.{_≡_}
+use mathlib.Core.List.{List, [], _∷_, _++_}
+use Prim.Native.Nat.{ℕ, _+_, _/_, _%_, _≤_}
+use Prim.Native.Char.{code}
+use lib.Dec.{eqb}
+use lib.ListN.{length}
+use Rattle.basis.specs.Choice.{pick}
+use Rattle.value.specs.Bounds.{parts, minuteTicks, hourTicks}
+use Rattle.value.specs.declared.Offset.{Offset}
+use Rattle.value.specs.declared.Offset.the-variants.{East, West}
+use Rattle.value.specs.declared.Zone.{Zone}
+use Rattle.value.specs.declared.Zone.the-variants.{Absent, At}
+use Rattle.value.specs.declared.DateTime.{DateTime}
+use Rattle.value.specs.declared.Kind.{Kind}
+use Rattle.numerals.specs.Reading.{fractionDigits}
+use Rattle.numerals.specs.Writing.{digits, fractionText, textIn, longest}
+use Rattle.numerals.specs.declared.Text.{Text}
+use Rattle.scan.specs.Scanning.{layout, isPair}
+
+abbrev pub hhmm : ℕ → List ℕ
+hhmm n = digits 2 (n / 60) ++ (code ":" ∷ digits 2 (n % 60))
+
+abbrev pub offsetText : Offset → List ℕ
+offsetText (East n) = pick (eqb n 0) (code "Z" ∷ []) (code "+" ∷ hhmm n)
+offsetText (West n) = code "-" ∷ hhmm n
+
+abbrev pub zoneText : Zone → List ℕ
+zoneText Absent = []
+zoneText (At o) = offsetText o
+
+-- the number of a part of two digits
+unfoldable pub pairOf : ℕ → DateTime → ℕ
+pairOf p d =
+    pick (eqb p (code "M")) (d .month)
+    (pick (eqb p (code "D")) (d .day)
+    (pick (eqb p (code "h")) (d .micros / hourTicks) (pick (eqb p (code "m")) (d .micros / minuteTicks % 60) (d .micros / parts % 60))))
+
+unfoldable pub partText : ℕ → DateTime → List ℕ
+partText p d =
+    pick (eqb p (code "Y")) (digits 4 (d .year))
+    (pick (eqb p (code "f")) (fractionText (d .micros % parts))
+    (pick (eqb p (code "z")) (zoneText (d .zone)) (pick (isPair p) (digits 2 (pairOf p d)) (p ∷ []))))
+
+unfoldable pub textBy : List ℕ → DateTime → List ℕ
+textBy [] d = []
+textBy (p ∷ ps) d = partText p d ++ textBy ps d
+
+abbrev pub textOf : Kind → DateTime → List ℕ
+textOf k d = textBy (layout k) d
+
+-- how long a part's text can be: a zone is a sign with hh:mm
+unfoldable pub width : ℕ → ℕ
+width p = pick (eqb p (code "Y")) 4 (pick (eqb p (code "f")) (1 + fractionDigits) (pick (eqb p (code "z")) 6 (pick (isPair p) 2 1)))
+
+unfoldable pub widths : List ℕ → ℕ
+widths [] = 0
+widths (p ∷ ps) = width p + widths ps
+
+-- a text that grew to w
+pub record Holds (t : Text) (w : List ℕ) : Type 0 where
+  pub text : textIn t ≡ w
+  pub own : t .len ≡ length w
+  pub fits : t .len ≤ longest

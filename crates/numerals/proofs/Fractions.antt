@@ -1,0 +1,109 @@
+-- The digits after a point: what the reader keeps of them, where they end, and that a fraction's text reads as its ticks.
+use mathlib.Core.Path.{_≡_, refl, ap, sym, _∙_}
+use mathlib.Core.Bool.{Bool, true, false}
+use mathlib.Core.List.{List, [], _∷_, _++_}
+use Prim.Native.Nat.{ℕ, _+_, _-_, _*_, _^_, _≤_, _<_}
+use native.Mathlib.Omega.{arith}
+use lib.Dec.{eqb, leb, lit≤}
+use lib.ListN.{length, getD, drop}
+use borrow.Author.Tests.{le-leb, lt-leb, leb-true, ne-eqb}
+use Rattle.basis.specs.Choice.{pick}
+use Rattle.numerals.specs.declared.Run.{Run}
+use Rattle.numerals.specs.declared.Kept.{Kept}
+use Rattle.numerals.specs.declared.Text.{Text}
+use Rattle.numerals.specs.Reading.{isDigit, number, run, Found, fractionDigits, fractionOf, fractionAt}
+use Rattle.numerals.specs.Writing.{digits, stripped, fractionText, Added}
+use Rattle.numerals.proofs.Powers.{widened, filled}
+use Rattle.numerals.proofs.Runs.{run-le, run-lt}
+use Rattle.numerals.proofs.Decimals.{length-digits, digits-run}
+use Rattle.numerals.proofs.Stripping.{stripped-le, stripped-lt, given-back}
+use Rattle.numerals.proofs.Texts.{then, unchanged, named}
+
+-- what the reader keeps, with a cap that no fraction reaches
+module _ (s : List ℕ) (i : ℕ) {cap : ℕ} (ec : cap ≡ 1 * 10 ^ fractionDigits) (r : Run) (f : Found s i cap r) where
+  count : r .end - i ≡ run s i .count
+  count = omega (arith, f .ends)
+
+  pub too-many : fractionDigits < r .end - i → record { ticks = 0; long = true; end = r .end } ≡ fractionAt s i
+  unfolding fractionAt
+  too-many h = rw (lt-leb (run s i .count) fractionDigits (omega (arith, count)), f .ends)
+
+  module _ (h : r .end - i ≤ fractionDigits) where
+    exact : r .value ≡ run s i .value
+    exact = omega (arith, f .capped, widened (run s i .value) (run s i .count) fractionDigits (omega (arith, count)) (run-lt s i))
+
+    pub ticks-fit : r .value * 10 ^ (fractionDigits - (r .end - i)) < 10 ^ fractionDigits
+    ticks-fit = rw (exact, count) (filled (run s i .value) (run s i .count) fractionDigits (omega (arith, count)) (run-lt s i))
+
+    pub some-ticks : {t : ℕ} → t ≡ r .value * 10 ^ (fractionDigits - (r .end - i)) → record { ticks = t; long = false; end = r .end } ≡ fractionAt s i
+    unfolding fractionAt
+    some-ticks {t} e =
+        let g : t ≡ run s i .value * 10 ^ (fractionDigits - run s i .count) = e ∙ rw (exact, count) in
+        rw (le-leb (run s i .count) fractionDigits (omega (arith, count)), f .ends, g)
+
+-- where the digits end
+pub fraction-end : (s : List ℕ) (i : ℕ) → fractionAt s i .end ≡ i + run s i .count
+unfolding fractionAt
+fraction-end s i = go (leb (run s i .count) fractionDigits) refl
+  where
+    go : (b : Bool) → leb (run s i .count) fractionDigits ≡ b → fractionOf i (run s i) .end ≡ i + run s i .count
+    go true e = rw e
+    go false e = rw e
+
+pub fraction-le : (s : List ℕ) (i : ℕ) → i ≤ length s → fractionAt s i .end ≤ length s
+fraction-le s i h = omega (arith, fraction-end s i, run-le s i h)
+
+-- there are never ticks for a whole second
+pub fraction-lt : (s : List ℕ) (i : ℕ) → fractionAt s i .ticks < 10 ^ fractionDigits
+unfolding fractionAt
+fraction-lt s i = go (leb (run s i .count) fractionDigits) refl
+  where
+    go : (b : Bool) → leb (run s i .count) fractionDigits ≡ b → fractionOf i (run s i) .ticks < 10 ^ fractionDigits
+    go true e = rw e (filled (run s i .value) (run s i .count) fractionDigits (leb-true _ _ e) (run-lt s i))
+    go false e = rw e (omega arith)
+
+-- the digits of a fraction's text
+abbrev pub kept : ℕ → List ℕ
+kept u = digits (stripped fractionDigits u .count) (stripped fractionDigits u .value)
+
+pub no-fraction : (u : ℕ) → u ≡ 0 → fractionText u ≡ []
+unfolding fractionText
+no-fraction u e = rw e
+
+pub a-fraction : (u : ℕ) → (u ≡ 0 → ⊥) → fractionText u ≡ 46 ∷ kept u
+unfolding fractionText
+a-fraction u e = rw (ne-eqb u 0 e)
+
+pub kept-length : (u : ℕ) → length (kept u) ≡ stripped fractionDigits u .count
+kept-length u = length-digits (stripped fractionDigits u .count) (stripped fractionDigits u .value)
+
+-- they read as its ticks
+pub fraction-back : (s : List ℕ) (i u : ℕ) (rest : List ℕ) → u < 10 ^ fractionDigits → isDigit (getD rest 0 0) ≡ false → drop i s ≡ kept u ++ rest
+    → fractionAt s i ≡ record { ticks = u; long = false; end = i + length (kept u) }
+unfolding fractionAt
+fraction-back s i u rest h q e =
+    let k : ℕ = stripped fractionDigits u .count in
+    let w : ℕ = stripped fractionDigits u .value in
+    let r : run s i ≡ record { value = w; count = k } = ap (number 0 0) e ∙ digits-run k w rest (stripped-lt fractionDigits u h) q in
+    rw (r, le-leb k fractionDigits (stripped-le fractionDigits u), given-back fractionDigits u h, kept-length u)
+
+-- writing it
+pub wrote-none : {t : Text} (u : ℕ) → u ≡ 0 → Added t t (fractionText u) (length (fractionText u))
+wrote-none {t} u e = named (no-fraction u e) refl (unchanged t)
+
+pub wrote-some : {t q r : Text} {k : Kept} (u : ℕ) → (u ≡ 0 → ⊥) → k ≡ stripped fractionDigits u → Added t q (46 ∷ []) 1 → Added q r (digits (k .count) (k .value)) (k .count)
+    → Added t r (fractionText u) (length (fractionText u))
+wrote-some {t} {q} {r} {k} u e ek a b =
+    let x : fractionText u ≡ 46 ∷ digits (k .count) (k .value) = a-fraction u e ∙ ap (λ (y : Kept). 46 ∷ digits (y .count) (y .value)) (sym ek) in
+    named x (omega (arith, length-digits (k .count) (k .value))) (then a b)
+
+pub strip-length : {k : Kept} (u : ℕ) → (u ≡ 0 → ⊥) → k ≡ stripped fractionDigits u → length (fractionText u) ≡ 1 + k .count
+strip-length {k} u e ek = omega (arith, ap length (a-fraction u e), kept-length u, ap (λ (q : Kept). q .count) ek)
+
+pub fraction-short : (u : ℕ) → length (fractionText u) ≤ 1 + fractionDigits
+unfolding fractionText
+fraction-short u = go (eqb u 0)
+  where
+    go : (b : Bool) → length (pick b [] (46 ∷ kept u)) ≤ 1 + fractionDigits
+    go true = lit≤ tt
+    go false = omega (arith, kept-length u, stripped-le fractionDigits u)

@@ -1,0 +1,73 @@
+-- A fraction's final zeros, taken off when it is written and given back by its scale when it is read.
+use mathlib.Core.Path.{_≡_, refl}
+use mathlib.Core.Bool.{Bool, true, false}
+use Prim.Native.Nat.{ℕ, zero, suc, _-_, _*_, _/_, _%_, _^_, _≤_, _<_}
+use native.Mathlib.Nat.{pow-suc, mul-assoc}
+use native.Mathlib.Omega.{arith}
+use lib.Dec.{eqb}
+use borrow.Author.Tests.{eq-eqb, ne-eqb, eqb-true}
+use Rattle.basis.specs.Choice.{pick}
+use Rattle.numerals.specs.Writing.{stripped}
+
+pub stripped-le : (k n : ℕ) → stripped k n .count ≤ k
+unfolding stripped
+stripped-le zero n = omega arith
+stripped-le (suc k) n = go (eqb (n % 10) 0) (stripped-le k (n / 10))
+  where
+    go : (b : Bool) → stripped k (n / 10) .count ≤ k → pick b (stripped k (n / 10)) (record { value = n; count = suc k }) .count ≤ suc k
+    go true h = omega arith
+    go false h = omega arith
+
+-- the final zeros are given back by the scale
+pub given-back : (k n : ℕ) → n < 10 ^ k → stripped k n .value * 10 ^ (k - stripped k n .count) ≡ n
+unfolding stripped
+given-back zero n h = omega arith
+given-back (suc k) n h = go (eqb (n % 10) 0) refl (given-back k (n / 10) (omega (arith, pow-suc 10 k))) (stripped-le k (n / 10))
+  where
+    go : (b : Bool) → eqb (n % 10) 0 ≡ b → (r : stripped k (n / 10) .value * 10 ^ (k - stripped k (n / 10) .count) ≡ n / 10) → stripped k (n / 10) .count ≤ k
+        → pick b (stripped k (n / 10)) (record { value = n; count = suc k }) .value
+        * 10 ^ (suc k - pick b (stripped k (n / 10)) (record { value = n; count = suc k }) .count) ≡ n
+    go true e r l =
+        let w = stripped k (n / 10) in
+        let z : n % 10 ≡ 0 = eqb-true (n % 10) 0 e in
+        let d : suc k - w .count ≡ suc (k - w .count) = omega arith in
+        rw (d, pow-suc 10 (k - w .count), ← mul-assoc (w .value) (10 ^ (k - w .count)) 10, r) (omega arith)
+    go false e r l =
+        let d : suc k - suc k ≡ 0 = omega arith in
+        rw d (omega arith)
+
+pub stripped-lt : (k n : ℕ) → n < 10 ^ k → stripped k n .value < 10 ^ stripped k n .count
+unfolding stripped
+stripped-lt zero n h = h
+stripped-lt (suc k) n h = go (eqb (n % 10) 0) refl (stripped-lt k (n / 10) (omega (arith, pow-suc 10 k)))
+  where
+    go : (b : Bool) → eqb (n % 10) 0 ≡ b → stripped k (n / 10) .value < 10 ^ stripped k (n / 10) .count → stripped (suc k) n .value < 10 ^ stripped (suc k) n .count
+    go true e r = rw e r
+    go false e r = rw e h
+
+-- a digit is left of a number that is not zero
+pub stripped-some : (k n : ℕ) → (n ≡ 0 → ⊥) → n < 10 ^ k → 1 ≤ stripped k n .count
+stripped-some k n nz h = go (stripped k n .count) (stripped k n .value) (stripped-lt k n h) (given-back k n h)
+  where
+    go : (c w : ℕ) → w < 10 ^ c → w * 10 ^ (k - c) ≡ n → 1 ≤ c
+    go zero w a b =
+        let z : w ≡ 0 = omega arith in
+        let y : 0 * 10 ^ (k - 0) ≡ n = rw z at b in
+        absurd (nz (omega arith))
+    go (suc c) w a b = omega arith
+
+pub strip-none : (n k : ℕ) → k ≡ 0 → record { value = n; count = 0 } ≡ stripped k n
+unfolding stripped
+strip-none n k e = rw e
+
+pub strip-zero : (n k : ℕ) → (k ≡ 0 → ⊥) → n % 10 ≡ 0 → stripped (k - 1) (n / 10) ≡ stripped k n
+unfolding stripped
+strip-zero n zero h e = absurd (h refl)
+strip-zero n (suc k) h e =
+    let d : suc k - 1 ≡ k = omega arith in
+    rw (d, eq-eqb (n % 10) 0 e)
+
+pub strip-kept : (n k : ℕ) → (k ≡ 0 → ⊥) → (n % 10 ≡ 0 → ⊥) → record { value = n; count = k } ≡ stripped k n
+unfolding stripped
+strip-kept n zero h e = absurd (h refl)
+strip-kept n (suc k) h e = rw (ne-eqb (n % 10) 0 e)

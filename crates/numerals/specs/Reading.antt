@@ -1,0 +1,57 @@
+-- Document 01, "Reading text": digits, runs of them, and the digits of a fraction. A number that is read has no bound
+-- here, however many digits it has. A byte past the end of a text counts as 0, which is no digit and no punctuation.
+use mathlib.Core.Bool.{Bool, true, false}
+use mathlib.Core.List.{List, [], _∷_}
+use Prim.Native.Nat.{ℕ, suc, _+_, _-_, _*_, _^_, _≤_, min}
+use mathlib.Core.Path.{_≡_}
+use lib.Dec.{leb}
+use lib.ListN.{getD, length, drop}
+use Rattle.basis.specs.Choice.{pick, both}
+use Rattle.numerals.specs.declared.Run.{Run}
+use Rattle.numerals.specs.declared.Fraction.{Fraction}
+
+-- the byte of a text at a place
+abbrev pub at : List ℕ → ℕ → ℕ
+at s i = getD s i 0
+
+-- 0 to 9
+unfoldable pub isDigit : ℕ → Bool
+isDigit b = both (leb 48 b) (leb b 57)
+
+-- a run of digits: their number, and how many they are
+pub record Number : Type 0 where
+  pub value : ℕ
+  pub count : ℕ
+
+-- the longest run of digits at the head of a list, after k digits of the number v
+unfoldable pub number : ℕ → ℕ → List ℕ → Number
+number v k [] = record { value = v; count = k }
+number v k (x ∷ xs) = pick (isDigit x) (number (v * 10 + (x - 48)) (suc k) xs) (record { value = v; count = k })
+
+-- the longest run of digits of a text from a place on
+abbrev pub run : List ℕ → ℕ → Number
+run s i = number 0 0 (drop i s)
+
+-- what code keeps of the run at i: where it ends, and its number as far as a cap
+pub record Found (s : List ℕ) (i cap : ℕ) (r : Run) : Type 0 where
+  pub ends : r .end ≡ i + run s i .count
+  pub capped : r .value ≡ min cap (run s i .value)
+  pub within : r .end ≤ length s
+
+-- a fraction has at most so many digits, each a tenth of the one before; the last counts ticks
+abbrev pub fractionDigits : ℕ
+fractionDigits = 6
+
+-- the digits after a point: their ticks, or that they are too many, and where they end
+abbrev pub fractionOf : ℕ → Number → Fraction
+fractionOf i n =
+    pick (leb (n .count) fractionDigits) (record { ticks = n .value * 10 ^ (fractionDigits - n .count); long = false; end = i + n .count })
+    (record { ticks = 0; long = true; end = i + n .count })
+
+unfoldable pub fractionAt : List ℕ → ℕ → Fraction
+fractionAt s i = fractionOf i (run s i)
+
+-- the letters by which a text is read have no byte 0 among them, which would stand past every end
+unfoldable pub marked : List ℕ → Bool
+marked [] = true
+marked (c ∷ cs) = both (leb 1 c) (marked cs)

@@ -1,0 +1,46 @@
+-- Document 01, "Writing text": numbers and fractions as digits, and text that grows.
+use mathlib.Core.Path.{_≡_}
+use mathlib.Core.List.{List, [], _∷_, _++_}
+use Prim.Native.Nat.{ℕ, zero, suc, _+_, _/_, _%_}
+use lib.Dec.{eqb, ltb}
+use lib.ListN.{take}
+use Rattle.basis.specs.Choice.{pick}
+use Rattle.numerals.specs.Reading.{fractionDigits}
+use Rattle.numerals.specs.declared.Kept.{Kept}
+use Rattle.numerals.specs.declared.Text.{Text}
+
+-- the longest text has so many bytes
+abbrev pub longest : ℕ
+longest = 32
+
+-- the last k decimal digits of n, with leading zeros
+unfoldable pub digits : ℕ → ℕ → List ℕ
+digits zero n = []
+digits (suc k) n = digits k (n / 10) ++ (48 + n % 10) ∷ []
+
+-- n in decimal without leading zeros, in at most k digits
+unfoldable pub shortest : ℕ → ℕ → List ℕ
+shortest zero n = []
+shortest (suc k) n = pick (ltb n 10) ((48 + n) ∷ []) (shortest k (n / 10) ++ (48 + n % 10) ∷ [])
+
+-- n in decimal without leading zeros: n is below 10 ^ (n + 1)
+unfoldable pub decimal : ℕ → List ℕ
+decimal n = shortest (suc n) n
+
+-- a number of k digits less its final zeros
+unfoldable pub stripped : ℕ → ℕ → Kept
+stripped zero n = record { value = n; count = 0 }
+stripped (suc k) n = pick (eqb (n % 10) 0) (stripped k (n / 10)) (record { value = n; count = suc k })
+
+-- a fraction loses its final zeros and vanishes if zero
+unfoldable pub fractionText : ℕ → List ℕ
+fractionText u = pick (eqb u 0) [] (46 ∷ digits (stripped fractionDigits u .count) (stripped fractionDigits u .value))
+
+-- the bytes of a text that grows
+abbrev pub textIn : Text → List ℕ
+textIn t = take (t .len) (t .bytes)
+
+-- r is t with n more bytes, those of w
+pub record Added (t r : Text) (w : List ℕ) (n : ℕ) : Type 0 where
+  pub text : textIn r ≡ textIn t ++ w
+  pub more : r .len ≡ t .len + n

@@ -1,0 +1,18 @@
+-- Answers of equal meaning are equal.
+use mathlib.Core.Path.{_≡_, refl, ap}
+use Prim.Native.Nat.{ℕ}
+use Rattle.basis.specs.Answer.{Answer, gives, refuses}
+use Rattle.text.specs.Writing.{meaning}
+use Rattle.text.specs.declared.Written.{Written}
+use Rattle.text.specs.declared.Written.the-variants as WV
+
+abbrev writtenOf : Answer ℕ → Written
+writtenOf (gives n) = WV.Length n
+writtenOf (refuses n) = WV.Refused (record { number = n })
+
+written-back : (a : Written) → writtenOf (meaning a) ≡ a
+written-back (WV.Length n) = refl
+written-back (WV.Refused r) = refl
+
+pub written-determined : (a b : Written) → meaning a ≡ meaning b → a ≡ b
+written-determined a b e = cc (ap writtenOf e, written-back a, written-back b)

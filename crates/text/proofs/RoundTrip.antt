@@ -1,0 +1,131 @@
+-- What is written reads back as the same value; what reads is valid; and values with one zone and one instant, or one
+-- number, are written alike. One statement each over the five kinds.
+use mathlib.Core.Path.{_≡_, refl, ap, sym, _∙_}
+use mathlib.Core.Bool.{Bool, true, false}
+use mathlib.Core.List.{List, [], _∷_}
+use Prim.Native.Nat.{ℕ, _+_, _≤_}
+use native.Mathlib.Omega.{arith}
+use lib.Dec.{ltb}
+use lib.ListN.{length}
+use Rattle.basis.specs.Choice.{both, every}
+use Rattle.basis.specs.Answer.{Answer, gives, refuses}
+use Rattle.basis.proofs.Tests.{both-left, both-right}
+use Rattle.value.specs.Bounds.{maxDayTime, maxYearMonth}
+use Rattle.value.specs.Durations.{plus, minus, apart}
+use Rattle.value.specs.Kinds.{kindOf, okValue, template}
+use Rattle.value.specs.Ticks.{utc, instantOf}
+use Rattle.value.specs.Values.{okDate, okOffset, okZone, okDateTime, okSigned}
+use Rattle.value.specs.declared.DateTime.{DateTime}
+use Rattle.value.specs.declared.Kind.{Kind}
+use Rattle.value.specs.declared.Kind.the-variants as KV
+use Rattle.value.specs.declared.Value.{Value}
+use Rattle.value.specs.declared.Value.the-variants as VV
+use Rattle.value.proofs.Instants.{same-instant}
+use Rattle.value.proofs.KindParts.{kept-of-kind}
+use Rattle.value.proofs.Signs.{signed-back, same-difference}
+use Rattle.numerals.specs.Writing.{longest}
+use Rattle.layouts.proofs.OfKinds.{round-trip}
+use Rattle.layouts.proofs.Lengths.{text-fits}
+use Rattle.layouts.proofs.ReadsValid.{reads-valid}
+use Rattle.layouts.proofs.Valid.{Valid}
+use Rattle.durations.specs.declared.Amount.{Amount}
+use Rattle.durations.specs.Walks.{asDayTime, asYearMonth, readBy}
+use Rattle.durations.specs.Forms.{dayTime, yearMonth}
+use Rattle.durations.proofs.Round.{day-time-round-trip, year-month-round-trip, day-time-valid, year-month-valid}
+use Rattle.durations.proofs.Lengths.{day-time-length, year-month-length}
+use Rattle.text.specs.Reading.{readAs}
+use Rattle.text.specs.Writing.{textOf}
+use Rattle.text.specs.Alike.{Alike, momentOf, signOf, magnitudeOf}
+
+-- for every valid value of each of the five kinds, reading what is written gives that value
+pub written-reads-back : (v : Value) → okValue v ≡ true → readAs (kindOf v) (textOf v) ≡ gives v
+unfolding readAs textOf okValue
+written-reads-back (VV.Date d) g = round-trip KV.Date d (both-left _ _ g) (both-right _ _ g)
+written-reads-back (VV.Time d) g = round-trip KV.Time d (both-left _ _ g) (both-right _ _ g)
+written-reads-back (VV.DateTime d) g = round-trip KV.DateTime d g (kept-of-kind KV.DateTime d refl)
+written-reads-back (VV.DayTime d) g = day-time-round-trip d g
+written-reads-back (VV.YearMonth d) g = year-month-round-trip d g
+
+-- no text is longer than the longest
+pub text-within : (v : Value) → okValue v ≡ true → length (textOf v) ≤ longest
+unfolding textOf okValue
+text-within (VV.Date d) g = text-fits KV.Date d
+text-within (VV.Time d) g = text-fits KV.Time d
+text-within (VV.DateTime d) g = text-fits KV.DateTime d
+text-within (VV.DayTime d) g = day-time-length d g
+text-within (VV.YearMonth d) g = year-month-length d g
+
+-- a duration that is read is of the kind that was asked for
+day-time-kind : (x : Answer Amount) (v : Value) → asDayTime x ≡ gives v → kindOf v ≡ KV.DayTimeDuration
+day-time-kind (gives a) v e = let k : VV.DayTime (record { negative = a .negative; micros = a .number }) ≡ v = cc in ap kindOf (sym k)
+day-time-kind (refuses n) v e = let z : _≡_ {A = ℕ} 0 1 = cc in cc
+
+year-month-kind : (x : Answer Amount) (v : Value) → asYearMonth x ≡ gives v → kindOf v ≡ KV.YearMonthDuration
+year-month-kind (gives a) v e = let k : VV.YearMonth (record { negative = a .negative; months = a .number }) ≡ v = cc in ap kindOf (sym k)
+year-month-kind (refuses n) v e = let z : _≡_ {A = ℕ} 0 1 = cc in cc
+
+-- what reads is within the bounds of the kind that was asked for
+pub what-reads-is-valid : (k : Kind) (s : List ℕ) (v : Value) → readAs k s ≡ gives v → Valid k v
+unfolding readAs
+what-reads-is-valid KV.Date s v e = reads-valid KV.Date s v e
+what-reads-is-valid KV.Time s v e = reads-valid KV.Time s v e
+what-reads-is-valid KV.DateTime s v e = reads-valid KV.DateTime s v e
+what-reads-is-valid KV.DayTimeDuration s v e = record { ok = day-time-valid s v e; kind = day-time-kind (readBy dayTime s) v e }
+what-reads-is-valid KV.YearMonthDuration s v e = record { ok = year-month-valid s v e; kind = year-month-kind (readBy yearMonth s) v e }
+
+-- a value is its kind, its record, its sign and its magnitude
+abbrev rebuilt : Kind → DateTime → Bool → ℕ → Value
+rebuilt KV.Date d b n = VV.Date d
+rebuilt KV.Time d b n = VV.Time d
+rebuilt KV.DateTime d b n = VV.DateTime d
+rebuilt KV.DayTimeDuration d b n = VV.DayTime (record { negative = b; micros = n })
+rebuilt KV.YearMonthDuration d b n = VV.YearMonth (record { negative = b; months = n })
+
+rebuilt-is : (v : Value) → rebuilt (kindOf v) (momentOf v) (signOf v) (magnitudeOf v) ≡ v
+rebuilt-is (VV.Date d) = refl
+rebuilt-is (VV.Time d) = refl
+rebuilt-is (VV.DateTime d) = refl
+rebuilt-is (VV.DayTime d) = refl
+rebuilt-is (VV.YearMonth d) = refl
+
+moment-ok : (v : Value) → okValue v ≡ true → okDateTime (momentOf v) ≡ true
+unfolding okValue okDateTime okDate okZone every both
+moment-ok (VV.Date d) g = both-left _ _ g
+moment-ok (VV.Time d) g = both-left _ _ g
+moment-ok (VV.DateTime d) g = g
+moment-ok (VV.DayTime d) g = refl
+moment-ok (VV.YearMonth d) g = refl
+
+Signed : Value → Type 0
+Signed v =
+    (ltb (plus (signOf v) (magnitudeOf v)) (minus (signOf v) (magnitudeOf v)) ≡ signOf v)
+    × (apart (plus (signOf v) (magnitudeOf v)) (minus (signOf v) (magnitudeOf v)) ≡ magnitudeOf v)
+
+signed-is : (v : Value) → okValue v ≡ true → Signed v
+unfolding Signed okValue
+signed-is (VV.Date d) g = (refl, refl)
+signed-is (VV.Time d) g = (refl, refl)
+signed-is (VV.DateTime d) g = (refl, refl)
+signed-is (VV.DayTime d) g = signed-back maxDayTime (d .micros) (d .negative) g
+signed-is (VV.YearMonth d) g = signed-back maxYearMonth (d .months) (d .negative) g
+
+utc-ok : okOffset utc ≡ true
+unfolding okOffset
+utc-ok = refl
+
+-- valid values of one kind that are alike are one value
+pub alike-is-same : (v w : Value) → okValue v ≡ true → okValue w ≡ true → kindOf v ≡ kindOf w → Alike v w → v ≡ w
+unfolding Signed
+alike-is-same v w gv gw k a =
+    let m : momentOf v ≡ momentOf w = same-instant utc (momentOf v) (momentOf w) utc-ok (moment-ok v gv) (moment-ok w gw) (a .zone) (a .instant) in
+    let d = same-difference (plus (signOf v) (magnitudeOf v)) (minus (signOf v) (magnitudeOf v)) (plus (signOf w) (magnitudeOf w)) (minus (signOf w) (magnitudeOf w)) (a .number) in
+    let s : signOf v ≡ signOf w = sym (signed-is v gv .0) ∙ d .0 ∙ signed-is w gw .0 in
+    let n : magnitudeOf v ≡ magnitudeOf w = sym (signed-is v gv .1) ∙ d .1 ∙ signed-is w gw .1 in
+    sym (rebuilt-is v) ∙ (λ i. rebuilt (k i) (m i) (s i) (n i)) ∙ rebuilt-is w
+
+-- two texts that read, as one kind, as values that are alike are written alike
+pub written-alike : (k : Kind) (s t : List ℕ) (v w : Value) → readAs k s ≡ gives v → readAs k t ≡ gives w → Alike v w → textOf v ≡ textOf w
+written-alike k s t v w ev ew a =
+    let x = what-reads-is-valid k s v ev in
+    let y = what-reads-is-valid k t w ew in
+    ap textOf (alike-is-same v w (x .ok) (y .ok) (x .kind ∙ sym (y .kind)) a)

@@ -1,0 +1,40 @@
+-- Two values that are to be written alike: the same zone, or the same absence of one, and the same instant; of durations the
+-- same number.
+use mathlib.Core.Bool.{Bool, false}
+use mathlib.Core.Path.{_≡_}
+use Prim.Native.Nat.{ℕ, _+_}
+use Rattle.value.specs.Durations.{plus, minus}
+use Rattle.value.specs.Kinds.{template}
+use Rattle.value.specs.Ticks.{utc, instantOf}
+use Rattle.value.specs.declared.DateTime.{DateTime}
+use Rattle.value.specs.declared.Kind.the-variants as KV
+use Rattle.value.specs.declared.Value.{Value}
+use Rattle.value.specs.declared.Value.the-variants as VV
+
+-- the record of a date, a time or a dateTime; durations have none, and all their kind's template for it
+abbrev pub momentOf : Value → DateTime
+momentOf (VV.Date d) = d
+momentOf (VV.Time d) = d
+momentOf (VV.DateTime d) = d
+momentOf (VV.DayTime t) = template KV.DayTimeDuration
+momentOf (VV.YearMonth m) = template KV.YearMonthDuration
+
+-- the sign and the magnitude of a duration's number; the other kinds have none
+abbrev pub signOf : Value → Bool
+signOf (VV.Date d) = false
+signOf (VV.Time d) = false
+signOf (VV.DateTime d) = false
+signOf (VV.DayTime t) = t .negative
+signOf (VV.YearMonth m) = m .negative
+
+abbrev pub magnitudeOf : Value → ℕ
+magnitudeOf (VV.Date d) = 0
+magnitudeOf (VV.Time d) = 0
+magnitudeOf (VV.DateTime d) = 0
+magnitudeOf (VV.DayTime t) = t .micros
+magnitudeOf (VV.YearMonth m) = m .months
+
+pub record Alike (v w : Value) : Type 0 where
+  pub zone : momentOf v .zone ≡ momentOf w .zone
+  pub instant : instantOf utc (momentOf v) ≡ instantOf utc (momentOf w)
+  pub number : plus (signOf v) (magnitudeOf v) + minus (signOf w) (magnitudeOf w) ≡ plus (signOf w) (magnitudeOf w) + minus (signOf v) (magnitudeOf v)

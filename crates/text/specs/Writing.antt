@@ -1,0 +1,39 @@
+-- Document 01, "Writing text" and refusals 16 and 15: the text of a value, and what a lent room holds after it was written.
+use mathlib.Core.Bool.{Bool, true, false}
+use mathlib.Core.List.{List, _++_}
+use Prim.Native.Nat.{ℕ}
+use lib.Dec.{leb}
+use lib.ListN.{length, drop}
+use Rattle.basis.specs.Choice.{pick}
+use Rattle.basis.specs.Answer.{Answer, gives, refuses}
+use Rattle.value.specs.Refusals.{noRoom, outside}
+use Rattle.value.specs.Kinds.{okValue}
+use Rattle.value.specs.declared.Kind.the-variants as KV
+use Rattle.value.specs.declared.Value.{Value}
+use Rattle.value.specs.declared.Value.the-variants as VV
+use Rattle.layouts.specs.Writing as layouts
+use Rattle.durations.specs.Spelling.{dayTimeText, yearMonthText}
+use Rattle.text.specs.declared.Written.{Written}
+use Rattle.text.specs.declared.Written.the-variants as WV
+
+unfoldable pub textOf : Value → List ℕ
+textOf (VV.Date d) = layouts.textOf KV.Date d
+textOf (VV.Time d) = layouts.textOf KV.Time d
+textOf (VV.DateTime d) = layouts.textOf KV.DateTime d
+textOf (VV.DayTime d) = dayTimeText d
+textOf (VV.YearMonth d) = yearMonthText d
+
+-- what an answer says: the length written, or the number of a refusal
+abbrev pub meaning : Written → Answer ℕ
+meaning (WV.Length n) = gives n
+meaning (WV.Refused r) = refuses (r .number)
+
+-- 16 for a value outside the bounds, then 15 for a room that the text does not fit
+unfoldable pub written : Value → ℕ → Answer ℕ
+written v room =
+    pick (okValue v) (pick (leb (length (textOf v)) room) (gives (length (textOf v))) (refuses noRoom)) (refuses outside)
+
+-- a refusal leaves every byte; bytes after the text are untouched
+unfoldable pub afterWrite : Value → List ℕ → List ℕ
+afterWrite v room =
+    pick (okValue v) (pick (leb (length (textOf v)) (length room)) (textOf v ++ drop (length (textOf v)) room) room) room

@@ -1,0 +1,73 @@
+// Values from text and to text: the two calls of document 01 over the five kinds.
+use numerals::Text;
+use value::Kind;
+use value::Outcome;
+use value::Refusal;
+use value::Value;
+ghost use mathlib.Core.Path.{_≡_};
+ghost use lib.ListN.{length};
+ghost use Rattle.value.specs.Kinds as kinds;
+ghost use Rattle.layouts.specs.Writing.{Holds};
+ghost use Rattle.text.specs.Reading.{readAs};
+ghost use Rattle.text.specs.Writing as its;
+
+// How many bytes were written, or why none was.
+pub enum Written {
+    Length(usize),
+    Refused(Refusal),
+}
+
+// What a text of a kind reads as. The text is the whole field or literal.
+pub fn read(kind: Kind, s: &[u8]) -> Outcome
+    ensures { λ r. ⌜ kinds.meaning r ≡ readAs kind (now (s .entry)) ⌝ }
+{
+    match kind {
+        Kind::Date => layouts::read_layout(Kind::Date, s),
+        Kind::Time => layouts::read_layout(Kind::Time, s),
+        Kind::DateTime => layouts::read_layout(Kind::DateTime, s),
+        Kind::DayTimeDuration => {
+            let r = durations::read_day_time(s);
+            let outcome = r.outcome;
+            outcome
+        }
+        Kind::YearMonthDuration => {
+            let r = durations::read_year_month(s);
+            let outcome = r.outcome;
+            outcome
+        }
+    }
+}
+
+pub fn text_of(v: Value) -> Text
+    ensures { λ r. ⌜ Holds r (its.textOf v) ⌝ }
+{
+    match v {
+        Value::Date(d) => layouts::layout_text(Kind::Date, d),
+        Value::Time(d) => layouts::layout_text(Kind::Time, d),
+        Value::DateTime(d) => layouts::layout_text(Kind::DateTime, d),
+        Value::DayTime(d) => durations::day_time_text(d),
+        Value::YearMonth(d) => durations::year_month_text(d),
+    }
+}
+
+// The text of a value at the start of a lent room.
+pub fn write(v: Value, room: &mut [u8]) -> Written
+    ensures { λ r. ⌜ its.meaning r ≡ its.written v (length (now (room .entry))) ⌝ }
+    ensures { λ r. ⌜ now (room .exit) ≡ its.afterWrite v (now (room .entry)) ⌝ }
+{
+    if !value::valid::value_ok(v) {
+        return Written::Refused(Refusal {
+            number: Refusal::OUTSIDE,
+        });
+    }
+    let t = text_of(v);
+    let n = t.len;
+    let bytes = t.bytes;
+    if room.len() < n {
+        return Written::Refused(Refusal {
+            number: Refusal::NO_ROOM,
+        });
+    }
+    bytes::copy(&bytes[..n], room);
+    Written::Length(n)
+}
