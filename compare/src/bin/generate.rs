@@ -1,0 +1,102 @@
+//! Writes generated cases; the same seed always gives the same.
+//!
+//!     generate calls SEED COUNT          prints so many calculator lines
+//!     generate desk SEED DIR             writes one desk case into DIR: timetable.tsv and conditions
+//!     generate desks SEED COUNT DIR      writes desk cases into DIR/1, DIR/2, .. and those at the bounds into DIR/edge-1, ..
+//!     generate edges DIR                 writes calculator inputs at the bounds of a whole input
+//!
+//! With --histogram after these, what the cases cover is printed to standard error.
+
+use compare::generator::desks::{self, Case, Timetable};
+use compare::generator::{calls, histogram::Histogram, random::Random};
+use compare::programs;
+use std::fs;
+use std::io::{self, BufWriter, Write};
+use std::path::Path;
+use std::process::ExitCode;
+
+fn main() -> ExitCode {
+    let mut words: Vec<String> = std::env::args().skip(1).collect();
+    let shown = words.iter().any(|word| word == "--histogram");
+    words.retain(|word| word != "--histogram");
+    let words: Vec<&str> = words.iter().map(String::as_str).collect();
+    let mut histogram = Histogram::default();
+    let done = match words[..] {
+        ["calls", seed, count] => generate_calls(number(seed), number(count), &mut histogram),
+        ["desk", seed, dir] => write_desk(&desks::case(number(seed)), Path::new(dir), &mut histogram),
+        ["desks", seed, count, dir] => generate_desks(number(seed), number(count), Path::new(dir), &mut histogram),
+        ["edges", dir] => generate_edges(Path::new(dir)),
+        _ => Err(io::Error::other("words: calls SEED COUNT | desk SEED DIR | desks SEED COUNT DIR | edges DIR")),
+    };
+    if let Err(error) = done {
+        eprintln!("generate: {error}");
+        return ExitCode::from(2);
+    }
+    if shown {
+        histogram.print();
+    }
+    ExitCode::SUCCESS
+}
+
+fn number(word: &str) -> u64 {
+    word.parse().unwrap_or_else(|_| panic!("a whole number is wanted, not {word}"))
+}
+
+fn generate_calls(seed: u64, count: u64, histogram: &mut Histogram) -> io::Result<()> {
+    let mut random = Random::new(seed);
+    let mut output = BufWriter::new(io::stdout());
+    for _ in 0..count {
+        let line = calls::call(&mut random);
+        histogram.count_call(&line);
+        output.write_all(&line)?;
+        output.write_all(b"\n")?;
+    }
+    output.flush()
+}
+
+fn write_desk(case: &Case, dir: &Path, histogram: &mut Histogram) -> io::Result<()> {
+    fs::create_dir_all(dir)?;
+    match &case.timetable {
+        Timetable::Missing => {}
+        Timetable::Folder => fs::create_dir_all(dir.join("timetable.tsv"))?,
+        Timetable::Bytes(bytes) => fs::write(dir.join("timetable.tsv"), bytes)?,
+    }
+    fs::write(dir.join("conditions"), &case.conditions)?;
+    histogram.count_desk(&programs::desk(case.timetable_bytes(), &case.conditions));
+    Ok(())
+}
+
+fn generate_desks(seed: u64, count: u64, dir: &Path, histogram: &mut Histogram) -> io::Result<()> {
+    for place in 1..=count {
+        let own = seed.wrapping_mul(1_000_003).wrapping_add(place);
+        write_desk(&desks::case(own), &dir.join(place.to_string()), histogram)?;
+    }
+    for (place, case) in (1..).zip(desks::edges(seed)) {
+        write_desk(&case, &dir.join(format!("edge-{place}")), histogram)?;
+    }
+    Ok(())
+}
+
+/// Empty input, input without a final newline, and inputs of 65,536 bytes and one beside it.
+fn generate_edges(dir: &Path) -> io::Result<()> {
+    fs::create_dir_all(dir)?;
+    let call = b"add\txs:date\t2000-01-31\txs:yearMonthDuration\tP1M";
+    fs::write(dir.join("empty"), b"")?;
+    fs::write(dir.join("newline"), b"\n")?;
+    fs::write(dir.join("newlines"), b"\n\n\n")?;
+    fs::write(dir.join("unended"), call)?;
+    fs::write(dir.join("ended"), [call.as_slice(), b"\n"].concat())?;
+    fs::write(dir.join("blank-end"), [call.as_slice(), b"\n\n"].concat())?;
+    fs::write(dir.join("return-end"), [call.as_slice(), b"\r\n"].concat())?;
+    for length in [65_535, 65_536, 65_537, 131_072] {
+        let line = [call.as_slice(), b"\n"].concat();
+        let calls: Vec<u8> = line.iter().copied().cycle().take(length).collect();
+        fs::write(dir.join(format!("calls-{length}")), calls)?;
+        let zeros = [b"read\txs:dayTimeDuration\tP".as_slice(), &vec![b'0'; length - 30], b"7D\n"].concat();
+        fs::write(dir.join(format!("zeros-{length}")), [zeros.as_slice(), &vec![b'\n'; length - zeros.len()]].concat())?;
+        let nines = [b"read\txs:dayTimeDuration\tP".as_slice(), &vec![b'9'; length - 27], b"D"].concat();
+        fs::write(dir.join(format!("nines-{length}")), nines)?;
+        fs::write(dir.join(format!("newlines-{length}")), vec![b'\n'; length])?;
+    }
+    Ok(())
+}

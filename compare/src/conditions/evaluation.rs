@@ -1,0 +1,39 @@
+//! The answer of a condition at one line, from the left, up to the first refusal.
+
+use super::tree::Expression;
+use crate::values::operations::{add, cast, compare, multiply, subtract};
+use crate::values::reading::read;
+use crate::values::Value;
+use crate::{Refusal, KINDS_DO_NOT_FIT, TOO_FEW_FIELDS};
+
+/// Whether a condition holds. Only for a tree whose kinds fit.
+pub fn holds(tree: &Expression, fields: &[&[u8]]) -> Result<bool, Refusal> {
+    match tree {
+        Expression::Or(left, right) => Ok(holds(left, fields)? || holds(right, fields)?),
+        Expression::And(left, right) => Ok(holds(left, fields)? && holds(right, fields)?),
+        Expression::Test(left, comparison, right) => {
+            let first = value(left, fields)?;
+            let second = value(right, fields)?;
+            Ok(comparison.holds(compare(&first, &second)?))
+        }
+        _ => Err(KINDS_DO_NOT_FIT),
+    }
+}
+
+fn value(tree: &Expression, fields: &[&[u8]]) -> Result<Value, Refusal> {
+    match tree {
+        Expression::Literal(kind, text) => read(*kind, text),
+        Expression::Field(kind, number) => read(*kind, fields.get(number - 1).ok_or(TOO_FEW_FIELDS)?),
+        Expression::Cast(kind, inner) => cast(&value(inner, fields)?, *kind),
+        Expression::Product(left, factor) => multiply(&value(left, fields)?, *factor),
+        Expression::Sum(left, right) => {
+            let first = value(left, fields)?;
+            add(&first, &value(right, fields)?)
+        }
+        Expression::Difference(left, right) => {
+            let first = value(left, fields)?;
+            subtract(&first, &value(right, fields)?)
+        }
+        _ => Err(KINDS_DO_NOT_FIT),
+    }
+}

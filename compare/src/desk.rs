@@ -1,0 +1,135 @@
+//! Document 01, "Timetable, seats and turns".
+
+use crate::conditions::{accept, evaluation::holds};
+use crate::lines::fields;
+use crate::{Refusal, ALL_SEATS_HELD, NOT_SOUND, NO_SUCH_TICKET, NO_TICKET_LEFT, WRONG_LENGTH};
+
+pub const SEATS: usize = 16;
+pub const MOST_TIMETABLE_BYTES: usize = 65_536;
+pub const LAST_TICKET: u32 = 4_294_967_295;
+
+#[derive(Clone, Default, PartialEq, Eq, Debug)]
+pub struct Seat {
+    pub held: bool,
+    pub ticket: u32,
+    pub condition: Vec<u8>,
+    pub offset: usize,
+    pub hits: usize,
+    pub unreadable: usize,
+}
+
+#[derive(Clone, PartialEq, Eq, Debug)]
+pub struct Desk {
+    pub seats: [Seat; SEATS],
+    pub last_served: usize,
+    pub last_issued: u32,
+    pub length: usize,
+}
+
+#[derive(Clone, Copy, PartialEq, Eq, Debug)]
+pub enum Turn {
+    Hit { ticket: u32, offset: usize },
+    Miss { ticket: u32, offset: usize },
+    Unreadable { ticket: u32, offset: usize, number: Refusal },
+    Done { ticket: u32, hits: usize, unreadable: usize },
+    Idle,
+}
+
+impl Desk {
+    pub fn fresh(length: usize) -> Result<Desk, Refusal> {
+        if length > MOST_TIMETABLE_BYTES {
+            return Err(WRONG_LENGTH);
+        }
+        Ok(Desk { seats: Default::default(), last_served: SEATS - 1, last_issued: 0, length })
+    }
+
+    pub fn is_sound(&self) -> bool {
+        let held: Vec<&Seat> = self.seats.iter().filter(|seat| seat.held).collect();
+        let mut tickets: Vec<u32> = held.iter().map(|seat| seat.ticket).collect();
+        tickets.sort();
+        self.last_served < SEATS
+            && self.length <= MOST_TIMETABLE_BYTES
+            && tickets.windows(2).all(|pair| pair[0] != pair[1])
+            && held.iter().all(|seat| self.is_sound_seat(seat))
+    }
+
+    fn is_sound_seat(&self, seat: &Seat) -> bool {
+        (1..=self.last_issued).contains(&seat.ticket)
+            && accept(&seat.condition).is_ok()
+            && seat.offset <= self.length
+            && seat.hits.checked_add(seat.unreadable).is_some_and(|counted| counted <= seat.offset)
+    }
+
+    /// Gives the ticket.
+    pub fn open(&mut self, condition: &[u8]) -> Result<u32, Refusal> {
+        if !self.is_sound() {
+            return Err(NOT_SOUND);
+        }
+        accept(condition)?;
+        let free = self.seats.iter().position(|seat| !seat.held).ok_or(ALL_SEATS_HELD)?;
+        if self.last_issued == LAST_TICKET {
+            return Err(NO_TICKET_LEFT);
+        }
+        self.last_issued += 1;
+        let ticket = self.last_issued;
+        self.seats[free] = Seat { held: true, ticket, condition: condition.to_vec(), ..Seat::default() };
+        Ok(ticket)
+    }
+
+    pub fn close(&mut self, ticket: u32) -> Result<(), Refusal> {
+        if !self.is_sound() {
+            return Err(NOT_SOUND);
+        }
+        let seat = self.seats.iter_mut().find(|seat| seat.held && seat.ticket == ticket).ok_or(NO_SUCH_TICKET)?;
+        *seat = Seat::default();
+        Ok(())
+    }
+
+    pub fn turn(&mut self, timetable: &[u8]) -> Result<Turn, Refusal> {
+        if !self.is_sound() {
+            return Err(NOT_SOUND);
+        }
+        if timetable.len() != self.length {
+            return Err(WRONG_LENGTH);
+        }
+        Ok(self.serve(timetable))
+    }
+
+    /// A turn of a desk that is known to be sound and of this timetable's length.
+    pub fn serve(&mut self, timetable: &[u8]) -> Turn {
+        let mut round = (1..=SEATS).map(|step| (self.last_served + step) % SEATS);
+        let Some(place) = round.find(|&place| self.seats[place].held) else {
+            return Turn::Idle;
+        };
+        self.last_served = place;
+        let seat = &mut self.seats[place];
+        if seat.offset == timetable.len() {
+            let done = Turn::Done { ticket: seat.ticket, hits: seat.hits, unreadable: seat.unreadable };
+            *seat = Seat::default();
+            return done;
+        }
+        seat.judge_next_line(timetable)
+    }
+}
+
+impl Seat {
+    fn judge_next_line(&mut self, timetable: &[u8]) -> Turn {
+        let (ticket, offset) = (self.ticket, self.offset);
+        let rest = &timetable[offset..];
+        let line = rest.split(|&byte| byte == b'\n').next().unwrap_or(rest);
+        let ended = line.len() < rest.len();
+        self.offset += line.len() + usize::from(ended);
+        let judged = accept(&self.condition).and_then(|tree| holds(&tree, &fields(line)));
+        match judged {
+            Ok(true) => {
+                self.hits += 1;
+                Turn::Hit { ticket, offset }
+            }
+            Ok(false) => Turn::Miss { ticket, offset },
+            Err(number) => {
+                self.unreadable += 1;
+                Turn::Unreadable { ticket, offset, number }
+            }
+        }
+    }
+}

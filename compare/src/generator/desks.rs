@@ -1,0 +1,203 @@
+//! Whole cases of the desk program: a timetable and a file of conditions.
+
+use super::conditions::{self, Setting};
+use super::damage::{damaged, noise};
+use super::random::Random;
+use super::texts;
+
+pub enum Timetable {
+    /// No file of that name.
+    Missing,
+    /// A folder of that name: it can be opened and not read.
+    Folder,
+    Bytes(Vec<u8>),
+}
+
+pub struct Case {
+    pub timetable: Timetable,
+    pub conditions: Vec<u8>,
+}
+
+impl Case {
+    pub fn timetable_bytes(&self) -> &[u8] {
+        match &self.timetable {
+            Timetable::Bytes(bytes) => bytes,
+            _ => b"",
+        }
+    }
+}
+
+pub fn case(seed: u64) -> Case {
+    let random = &mut Random::new(seed);
+    let setting = Setting::new(random);
+    match random.below(1000) {
+        0..=5 => Case { timetable: Timetable::Missing, conditions: input(random, &setting) },
+        6..=7 => Case { timetable: Timetable::Folder, conditions: input(random, &setting) },
+        8..=13 => {
+            let length = random.pick(&[65_535, 65_536, 65_536, 65_536, 65_537, 70_000]);
+            let bytes = great_timetable(random, &setting, length);
+            Case { timetable: Timetable::Bytes(bytes), conditions: few(random, &setting) }
+        }
+        14 => Case { timetable: Timetable::Bytes(newlines(random)), conditions: one(random, &setting) },
+        15..=24 => {
+            let length = random.pick(&[4_095, 4_096, 4_096, 4_097, 4_097, 5_000]);
+            let conditions = great_input(random, &setting, length);
+            Case { timetable: Timetable::Bytes(timetable(random, &setting)), conditions }
+        }
+        _ => Case { timetable: Timetable::Bytes(timetable(random, &setting)), conditions: input(random, &setting) },
+    }
+}
+
+/// Cases at the bounds of the whole timetable and of the whole input, which chance alone would seldom make.
+pub fn edges(seed: u64) -> Vec<Case> {
+    let random = &mut Random::new(seed);
+    let setting = &Setting::new(random);
+    let mut cases = Vec::new();
+    for (timetable, input) in [(65_535, 4_095), (65_536, 4_096), (65_537, 4_096), (65_536, 4_097), (65_537, 4_097)] {
+        let bytes = great_timetable(random, setting, timetable);
+        cases.push(Case { timetable: Timetable::Bytes(bytes), conditions: few(random, setting) });
+        let bytes = self::timetable(random, setting);
+        cases.push(Case { timetable: Timetable::Bytes(bytes), conditions: great_input(random, setting, input) });
+        let bytes = vec![b'x'; timetable];
+        cases.push(Case { timetable: Timetable::Bytes(bytes), conditions: great_input(random, setting, input) });
+    }
+    for timetable in ["", "\n", "\n\n", "\t", "\r\n", "x"] {
+        let conditions = input(random, setting);
+        cases.push(Case { timetable: Timetable::Bytes(timetable.as_bytes().to_vec()), conditions });
+    }
+    for input in ["", "\n", "\n\n", " ", "\r\n", "x"] {
+        let timetable = Timetable::Bytes(self::timetable(random, setting));
+        cases.push(Case { timetable, conditions: input.as_bytes().to_vec() });
+    }
+    cases.push(Case { timetable: Timetable::Missing, conditions: few(random, setting) });
+    cases.push(Case { timetable: Timetable::Folder, conditions: few(random, setting) });
+    cases
+}
+
+fn timetable(random: &mut Random, setting: &Setting) -> Vec<u8> {
+    let rows = match random.weighted(&[5, 70, 20, 5]) {
+        0 => 0,
+        1 => random.below(12),
+        2 => random.below(40),
+        _ => random.below(200),
+    };
+    let mut bytes: Vec<u8> = Vec::new();
+    for _ in 0..rows {
+        bytes.extend(row(random, setting));
+        bytes.push(b'\n');
+    }
+    if random.chance(25) {
+        bytes.pop();
+    }
+    if random.chance(4) {
+        bytes.extend(random.pick(&["\n", "\n\n", "\t", "\r\n", "\t\n", "\n\t"]).as_bytes());
+    }
+    bytes
+}
+
+fn row(random: &mut Random, setting: &Setting) -> Vec<u8> {
+    if random.chance(5) {
+        return random.pick(&["", "", "\t", "\t\t", "\r", " "]).as_bytes().to_vec();
+    }
+    let mut fields: Vec<Vec<u8>> = setting.columns.iter().map(|&kind| field(random, setting, kind)).collect();
+    if random.chance(8) {
+        fields.truncate(random.below(fields.len()) + 1);
+    }
+    if random.chance(5) {
+        fields.push(noise(random));
+    }
+    let mut line = fields.join(&b'\t');
+    if random.chance(3) {
+        line.push(b'\r');
+    }
+    line
+}
+
+fn field(random: &mut Random, setting: &Setting, kind: crate::values::Kind) -> Vec<u8> {
+    match random.weighted(&[55, 32, 5, 5, 3]) {
+        0 => setting.pooled(random, kind).into_bytes(),
+        1 => texts::good(random, kind).into_bytes(),
+        2 => texts::beyond(random, kind).into_bytes(),
+        3 => {
+            let text = texts::good(random, kind);
+            damaged(random, text.as_bytes())
+        }
+        _ => Vec::new(),
+    }
+}
+
+/// A timetable of so many bytes, with long lines.
+fn great_timetable(random: &mut Random, setting: &Setting, length: usize) -> Vec<u8> {
+    let mut bytes: Vec<u8> = Vec::new();
+    while bytes.len() < length {
+        bytes.extend(row(random, setting));
+        bytes.push(b'\t');
+        bytes.extend(vec![b'x'; random.below(1200)]);
+        bytes.push(b'\n');
+    }
+    bytes.truncate(length);
+    bytes
+}
+
+/// Almost nothing but empty lines.
+fn newlines(random: &mut Random) -> Vec<u8> {
+    let mut bytes = vec![b'\n'; random.pick(&[9_999, 10_000, 20_000])];
+    let place = random.below(bytes.len());
+    bytes[place] = b'\t';
+    bytes
+}
+
+fn one(random: &mut Random, setting: &Setting) -> Vec<u8> {
+    format!("{}\n", conditions::fitting(random, setting, 0, 0)).into_bytes()
+}
+
+fn few(random: &mut Random, setting: &Setting) -> Vec<u8> {
+    (0..random.between(1, 3)).flat_map(|_| one(random, setting)).collect()
+}
+
+fn input(random: &mut Random, setting: &Setting) -> Vec<u8> {
+    let count = match random.weighted(&[3, 65, 17, 15]) {
+        0 => 0,
+        1 => random.between(1, 6),
+        2 => random.between(7, 14),
+        _ => random.between(15, 20),
+    };
+    let mut bytes: Vec<u8> = Vec::new();
+    for _ in 0..count {
+        let condition = condition(random, setting, count);
+        if bytes.len() + condition.len() + 1 > 4_096 {
+            break;
+        }
+        bytes.extend(condition);
+        bytes.push(b'\n');
+    }
+    if random.chance(25) {
+        bytes.pop();
+    }
+    bytes
+}
+
+/// Where there are many conditions most are good, so that all seats are taken.
+fn condition(random: &mut Random, setting: &Setting, count: i64) -> Vec<u8> {
+    if random.chance(3) {
+        return random.pick(&["", " ", "\r", "\t"]).as_bytes().to_vec();
+    }
+    if count >= 15 && random.chance(90) {
+        return conditions::fitting(random, setting, 0, 0).into_bytes();
+    }
+    conditions::any(random, setting)
+}
+
+/// Input of so many bytes.
+fn great_input(random: &mut Random, setting: &Setting, length: usize) -> Vec<u8> {
+    let mut bytes: Vec<u8> = Vec::new();
+    while bytes.len() < length {
+        bytes.extend(one(random, setting));
+        let blanks = random.below(6);
+        if random.chance(20) {
+            bytes.extend(vec![b'\n'; blanks]);
+        }
+    }
+    bytes.truncate(length);
+    bytes
+}

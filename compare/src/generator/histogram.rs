@@ -1,0 +1,55 @@
+//! Counts that show how well the generated cases cover what can be answered.
+
+use crate::programs::answer_line;
+use std::collections::BTreeMap;
+
+#[derive(Default)]
+pub struct Histogram {
+    counts: BTreeMap<String, usize>,
+}
+
+impl Histogram {
+    fn count(&mut self, name: String) {
+        *self.counts.entry(name).or_insert(0) += 1;
+    }
+
+    /// A call by its word, by its kinds, and by its answer.
+    pub fn count_call(&mut self, line: &[u8]) {
+        let answer = answer_line(line);
+        let result = match answer.trim_end().strip_prefix("refused\t") {
+            Some(number) => format!("refused {number:>2}"),
+            None => "answered".to_string(),
+        };
+        self.count(format!("answer     {result}"));
+        let fields: Vec<String> =
+            line.split(|&byte| byte == b'\t').map(|field| String::from_utf8_lossy(field).into_owned()).collect();
+        if result == "refused  7" {
+            return;
+        }
+        self.count(format!("call       {} {result}", fields[0]));
+        if fields[0] == "compare" && result == "answered" {
+            self.count(format!("compare    {}", answer.trim_end()));
+        }
+        let kinds: Vec<&str> = fields[1..].iter().filter(|field| field.starts_with("xs:")).map(|field| &field[3..]).collect();
+        self.count(format!("kinds      {} {}", fields[0], kinds.join(" ")));
+    }
+
+    /// The desk program's output by the words of its lines and by its numbers.
+    pub fn count_desk(&mut self, output: &str) {
+        for line in output.lines() {
+            let fields: Vec<&str> = line.split('\t').collect();
+            let name = match fields[0] {
+                "refused" => format!("refused {:>2}", fields[1]),
+                "unreadable" => format!("unreadable {:>2}", fields[3]),
+                word => word.to_string(),
+            };
+            self.count(name);
+        }
+    }
+
+    pub fn print(&self) {
+        for (name, count) in &self.counts {
+            eprintln!("{count:>9}  {name}");
+        }
+    }
+}

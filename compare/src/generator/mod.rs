@@ -1,0 +1,10 @@
+//! Seeded cases for the comparison: texts near every bound that document 01 names, calls made of them, desk cases, and
+//! damaged forms of all of these. The same seed gives the same cases on every machine.
+
+pub mod calls;
+pub mod conditions;
+pub mod damage;
+pub mod desks;
+pub mod histogram;
+pub mod random;
+pub mod texts;

@@ -1,0 +1,108 @@
+//! The five kinds of value. A date is a count of days and a dateTime a count of microseconds, both local and both from
+//! 1970-01-01; year, month and day are worked out when they are asked for.
+
+pub mod calendar;
+pub mod operations;
+pub mod reading;
+pub mod writing;
+
+use calendar::{days_from_civil, Civil};
+
+pub const MICROS_A_SECOND: i128 = 1_000_000;
+pub const MICROS_A_MINUTE: i128 = 60 * MICROS_A_SECOND;
+pub const MICROS_AN_HOUR: i128 = 60 * MICROS_A_MINUTE;
+pub const MICROS_A_DAY: i128 = 24 * MICROS_AN_HOUR;
+
+pub const FIRST_YEAR: i64 = 1;
+pub const LAST_YEAR: i64 = 9999;
+pub const MOST_ZONE_MINUTES: i64 = 840;
+pub const MOST_DURATION_MICROS: i128 = 1_000_000_000_000_000_000;
+pub const MOST_DURATION_MONTHS: i128 = 1_000_000;
+pub const MOST_FACTOR: i128 = 999_999;
+
+#[derive(Clone, Copy, PartialEq, Eq, Debug, PartialOrd, Ord)]
+pub enum Kind {
+    Date,
+    Time,
+    DateTime,
+    DayTime,
+    YearMonth,
+}
+
+pub const KINDS: [Kind; 5] = [Kind::Date, Kind::Time, Kind::DateTime, Kind::DayTime, Kind::YearMonth];
+
+impl Kind {
+    pub fn name(self) -> &'static str {
+        match self {
+            Kind::Date => "xs:date",
+            Kind::Time => "xs:time",
+            Kind::DateTime => "xs:dateTime",
+            Kind::DayTime => "xs:dayTimeDuration",
+            Kind::YearMonth => "xs:yearMonthDuration",
+        }
+    }
+
+    pub fn named(name: &[u8]) -> Option<Kind> {
+        KINDS.into_iter().find(|kind| kind.name().as_bytes() == name)
+    }
+
+    pub fn is_duration(self) -> bool {
+        matches!(self, Kind::DayTime | Kind::YearMonth)
+    }
+}
+
+/// Minutes east of UTC, or no zone.
+pub type Zone = Option<i64>;
+
+#[derive(Clone, Copy, PartialEq, Eq, Debug)]
+pub enum Value {
+    /// Local days from 1970-01-01.
+    Date { day: i64, zone: Zone },
+    /// Microsecond of the local day.
+    Time { micro: i128, zone: Zone },
+    /// Local microseconds from 1970-01-01T00:00:00.
+    DateTime { micro: i128, zone: Zone },
+    /// Microseconds.
+    DayTime(i128),
+    /// Months.
+    YearMonth(i128),
+}
+
+impl Value {
+    pub fn kind(&self) -> Kind {
+        match self {
+            Value::Date { .. } => Kind::Date,
+            Value::Time { .. } => Kind::Time,
+            Value::DateTime { .. } => Kind::DateTime,
+            Value::DayTime(_) => Kind::DayTime,
+            Value::YearMonth(_) => Kind::YearMonth,
+        }
+    }
+
+    pub fn date_within_bounds(day: i128, zone: Zone) -> Option<Value> {
+        let good = (first_day() as i128..=last_day() as i128).contains(&day);
+        good.then_some(Value::Date { day: day as i64, zone })
+    }
+
+    pub fn date_time_within_bounds(micro: i128, zone: Zone) -> Option<Value> {
+        let day = micro.div_euclid(MICROS_A_DAY);
+        let good = (first_day() as i128..=last_day() as i128).contains(&day);
+        good.then_some(Value::DateTime { micro, zone })
+    }
+
+    pub fn day_time_within_bounds(micros: i128) -> Option<Value> {
+        (micros.abs() <= MOST_DURATION_MICROS).then_some(Value::DayTime(micros))
+    }
+
+    pub fn year_month_within_bounds(months: i128) -> Option<Value> {
+        (months.abs() <= MOST_DURATION_MONTHS).then_some(Value::YearMonth(months))
+    }
+}
+
+pub fn first_day() -> i64 {
+    days_from_civil(Civil { year: FIRST_YEAR, month: 1, day: 1 })
+}
+
+pub fn last_day() -> i64 {
+    days_from_civil(Civil { year: LAST_YEAR, month: 12, day: 31 })
+}
