@@ -25,7 +25,7 @@ use Rattle.durations.specs.declared.Walk.{Walk}
 use Rattle.durations.specs.declared.Shape.{Shape}
 use Rattle.durations.specs.declared.Amount.{Amount}
 use Rattle.durations.specs.Forms.{Form, weight, years, months, hours, minutes, seconds, point, timeMark, startMark, minusSign, dayTime, yearMonth}
-use Rattle.durations.specs.Walks.{component, components, timed, ended, onward, begun, shapeFrom, shape, counted, signed, readBy, readDayTime, readYearMonth, asDayTime, asYearMonth}
+use Rattle.durations.specs.Walks.{component, components, timed, ended, onward, begun, shapeFrom, shape, counted, signed, readBy, readDayTime, readYearMonth, asValue, dayTimeOf, yearMonthOf}
 use Rattle.durations.specs.Spelling.{shownAll, left, afterMark, body, spelt, textBy, dayTimeText, yearMonthText}
 use Rattle.durations.proofs.Going.{no-mark}
 use Rattle.durations.proofs.Judging.{is-within}
@@ -232,34 +232,29 @@ sane-year-month =
     }
 
 pub day-time-round-trip : (d : DayTime) → okDayTime d ≡ true → readDayTime (dayTimeText d) ≡ gives (VV.DayTime d)
-day-time-round-trip d ok = ap asDayTime (amount-back dayTime sane-day-time (record { negative = d .negative; number = d .micros }) ok)
+day-time-round-trip d ok = ap (asValue dayTimeOf) (amount-back dayTime sane-day-time (record { negative = d .negative; number = d .micros }) ok)
 
 pub year-month-round-trip : (d : YearMonth) → okYearMonth d ≡ true → readYearMonth (yearMonthText d) ≡ gives (VV.YearMonth d)
-year-month-round-trip d ok = ap asYearMonth (amount-back yearMonth sane-year-month (record { negative = d .negative; number = d .months }) ok)
+year-month-round-trip d ok = ap (asValue yearMonthOf) (amount-back yearMonth sane-year-month (record { negative = d .negative; number = d .months }) ok)
 
 -- what reads is valid
+valid-as : (f : Form) (value : Amount → Value) → ((a : Amount) → okSigned (f .most) (a .negative) (a .number) ≡ true → okValue (value a) ≡ true)
+    → (s : List ℕ) (v : Value) → asValue value (readBy f s) ≡ gives v → okValue v ≡ true
+valid-as f value ok s v e = go (readBy f s) refl e
+  where
+    no : _≡_ {A = ℕ} 0 1 → ⊥
+    no z = omega arith
+
+    go : (x : Answer Amount) → readBy f s ≡ x → asValue value x ≡ gives v → okValue v ≡ true
+    go (gives a) q r =
+        let k : value a ≡ v = cc in
+        ap okValue (sym k) ∙ ok a (reads-within f s a q)
+    go (refuses n) q r = let z : _≡_ {A = ℕ} 0 1 = cc in absurd (no z)
+
 pub day-time-valid : (s : List ℕ) (v : Value) → readDayTime s ≡ gives v → okValue v ≡ true
 unfolding okValue
-day-time-valid s v e = go (readBy dayTime s) refl e
-  where
-    go : (x : Answer Amount) → readBy dayTime s ≡ x → asDayTime x ≡ gives v → okValue v ≡ true
-    go (gives a) q r =
-        let k : VV.DayTime (record { negative = a .negative; micros = a .number }) ≡ v = cc in
-        ap okValue (sym k) ∙ reads-within dayTime s a q
-    go (refuses n) q r = let z : _≡_ {A = ℕ} 0 1 = cc in absurd (no z)
-      where
-        no : _≡_ {A = ℕ} 0 1 → ⊥
-        no z = omega arith
+day-time-valid s v e = valid-as dayTime dayTimeOf (λ a ok. ok) s v e
 
 pub year-month-valid : (s : List ℕ) (v : Value) → readYearMonth s ≡ gives v → okValue v ≡ true
 unfolding okValue
-year-month-valid s v e = go (readBy yearMonth s) refl e
-  where
-    go : (x : Answer Amount) → readBy yearMonth s ≡ x → asYearMonth x ≡ gives v → okValue v ≡ true
-    go (gives a) q r =
-        let k : VV.YearMonth (record { negative = a .negative; months = a .number }) ≡ v = cc in
-        ap okValue (sym k) ∙ reads-within yearMonth s a q
-    go (refuses n) q r = let z : _≡_ {A = ℕ} 0 1 = cc in absurd (no z)
-      where
-        no : _≡_ {A = ℕ} 0 1 → ⊥
-        no z = omega arith
+year-month-valid s v e = valid-as yearMonth yearMonthOf (λ a ok. ok) s v e

@@ -105,13 +105,21 @@ unfoldable pub readBy : Form → List ℕ → Answer Amount
 readBy f s = counted (f .unit) (f .most) (shape (f .before) (f .after) s)
 
 -- the amounts of the two kinds as values
+abbrev pub dayTimeOf : Amount → Value
+dayTimeOf a = VV.DayTime (record { negative = a .negative; micros = a .number })
+
+abbrev pub yearMonthOf : Amount → Value
+yearMonthOf a = VV.YearMonth (record { negative = a .negative; months = a .number })
+
+abbrev pub asValue : (Amount → Value) → Answer Amount → Answer Value
+asValue value (gives a) = gives (value a)
+asValue value (refuses n) = refuses n
+
 abbrev pub asDayTime : Answer Amount → Answer Value
-asDayTime (gives a) = gives (VV.DayTime (record { negative = a .negative; micros = a .number }))
-asDayTime (refuses n) = refuses n
+asDayTime x = asValue dayTimeOf x
 
 abbrev pub asYearMonth : Answer Amount → Answer Value
-asYearMonth (gives a) = gives (VV.YearMonth (record { negative = a .negative; months = a .number }))
-asYearMonth (refuses n) = refuses n
+asYearMonth x = asValue yearMonthOf x
 
 abbrev pub readDayTime : List ℕ → Answer Value
 readDayTime s = asDayTime (readBy dayTime s)

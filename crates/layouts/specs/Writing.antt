@@ -17,7 +17,7 @@ use Rattle.value.specs.declared.Kind.{Kind}
 use Rattle.numerals.specs.Reading.{fractionDigits}
 use Rattle.numerals.specs.Writing.{digits, fractionText, textIn, longest}
 use Rattle.numerals.specs.declared.Text.{Text}
-use Rattle.scan.specs.Scanning.{layout, isPair}
+use Rattle.scan.specs.Scanning.{layout, isPair, yearDigits}
 
 abbrev pub hhmm : ℕ → List ℕ
 hhmm n = digits 2 (n / 60) ++ (code ":" ∷ digits 2 (n % 60))
@@ -39,7 +39,7 @@ pairOf p d =
 
 unfoldable pub partText : ℕ → DateTime → List ℕ
 partText p d =
-    pick (eqb p (code "Y")) (digits 4 (d .year))
+    pick (eqb p (code "Y")) (digits yearDigits (d .year))
     (pick (eqb p (code "f")) (fractionText (d .micros % parts))
     (pick (eqb p (code "z")) (zoneText (d .zone)) (pick (isPair p) (digits 2 (pairOf p d)) (p ∷ []))))
 
@@ -52,7 +52,7 @@ textOf k d = textBy (layout k) d
 
 -- how long a part's text can be: a zone is a sign with hh:mm
 unfoldable pub width : ℕ → ℕ
-width p = pick (eqb p (code "Y")) 4 (pick (eqb p (code "f")) (1 + fractionDigits) (pick (eqb p (code "z")) 6 (pick (isPair p) 2 1)))
+width p = pick (eqb p (code "Y")) yearDigits (pick (eqb p (code "f")) (1 + fractionDigits) (pick (eqb p (code "z")) 6 (pick (isPair p) 2 1)))
 
 unfoldable pub widths : List ℕ → ℕ
 widths [] = 0

@@ -65,7 +65,7 @@ fn part(t: Text, p: u8, d: DateTime) -> Text
     ensures { λ r. ⌜ Added t r (partText p d) (length (partText p d)) ⌝ }
 {
     if p == b'Y' {
-        return fixed(t, d.year as u64, 4);
+        return fixed(t, d.year as u64, scan::YEAR_DIGITS);
     }
     if p == b'f' {
         return with_fraction(t, d.micros % Span::PARTS as u64);

@@ -1,4 +1,4 @@
--- Document 01, "Reading text": the parts of a text, found before they are judged. A kind is a layout, the letters of its
+-- Document 01, "Reading text", check 1, the shape: the parts of a text, found before they are judged. A kind is a layout, the letters of its
 -- parts with the bytes that stand between them, and a text's parts are found one after the other along it.
 -- A byte past the text's end counts as 0, which is no digit and no punctuation.
 use mathlib.Core.Bool.{Bool, true, false}
@@ -56,7 +56,7 @@ withZone t z h m i = found (t .negative) (t .year) (t .month) (t .day) (t .hour)
 unfoldable pub pairAt : List ℕ → ℕ → Pair
 pairAt s i =
     pick (isDigit (at s i))
-    (pick (isDigit (at s (i + 1))) (record { value = (at s i - 48) * 10 + (at s (i + 1) - 48); at = i + 2; good = true })
+    (pick (isDigit (at s (i + 1))) (record { value = (at s i - code "0") * 10 + (at s (i + 1) - code "0"); at = i + 2; good = true })
     (record { value = 0; at = i + 1; good = false }))
     (record { value = 0; at = i; good = false })
 
@@ -103,13 +103,24 @@ whole n = n
 abbrev pub capped : ℕ → ℕ
 capped n = min (suc maxYear) n
 
+-- a year has four digits, or more
+abbrev pub yearDigits : ℕ
+yearDigits = 4
+
+-- its first four digits are all 0, or it has more and the first is 0
+abbrev pub fourZeros : List ℕ → ℕ → Bool
+fourZeros s i = both (eqb (pairAt s i .value) 0) (eqb (pairAt s (i + 2) .value) 0)
+
+abbrev pub leadingZero : List ℕ → ℕ → ℕ → Bool
+leadingZero s i n = both (ltb yearDigits n) (eqb (at s i) (code "0"))
+
 module _ (keep : ℕ → ℕ) where
   -- four digits, not all 0; or more, the first not 0
   abbrev pub yearIs : List ℕ → ℕ → Number → Year
   yearIs s i n =
-      pick (ltb (n .count) 4) (record { value = 0; at = i + n .count; good = false })
-      (pick (both (eqb (pairAt s i .value) 0) (eqb (pairAt s (i + 2) .value) 0)) (record { value = 0; at = i + 3; good = false })
-      (pick (both (ltb 4 (n .count)) (eqb (at s i) (code "0"))) (record { value = 0; at = i + 4; good = false })
+      pick (ltb (n .count) yearDigits) (record { value = 0; at = i + n .count; good = false })
+      (pick (fourZeros s i) (record { value = 0; at = i + 3; good = false })
+      (pick (leadingZero s i (n .count)) (record { value = 0; at = i + 4; good = false })
       (record { value = keep (n .value); at = i + n .count; good = true })))
 
   unfoldable pub yearAt : List ℕ → ℕ → Year

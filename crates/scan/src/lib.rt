@@ -9,12 +9,15 @@ use value::Span;
 ghost use mathlib.Core.Path.{_≡_};
 ghost use mathlib.Core.Bool.{Bool, true, false};
 ghost use Prim.Native.Nat.{ℕ, suc, _+_, _-_, _*_, _≤_, _<_, min};
-ghost use lib.Dec.{eqb, ltb};
+ghost use lib.Dec.{eqb};
 ghost use lib.ListN.{length, getD};
-ghost use Rattle.basis.specs.Choice.{both, pick};
+ghost use Rattle.basis.specs.Choice.{pick};
 ghost use Rattle.value.specs.Kinds.{template};
 ghost use Rattle.numerals.specs.Reading.{marked};
-ghost use Rattle.scan.specs.Scanning.{capped, pairAt, yearAt, yearPart, fractionPart, zonePart, zoneSigned, isPair, placed, partOf, scanned, reached, startOf, partsOf};
+ghost use Rattle.scan.specs.Scanning.{capped, fourZeros, leadingZero, pairAt, yearAt, yearPart, fractionPart, zonePart, zoneSigned, isPair, placed, partOf, scanned, reached, startOf, partsOf};
+
+// A year has so many digits, or more.
+pub const YEAR_DIGITS: usize = 4;
 
 // Two digits, and the place after them; or the place at which there is no digit.
 pub struct Pair {
@@ -23,6 +26,7 @@ pub struct Pair {
     pub good: bool,
 }
 
+// A year, and the place after it; or the place of the first byte that no year could have there.
 pub struct Year {
     pub value: u16,
     pub at: usize,
@@ -48,6 +52,7 @@ pub struct Scan {
     pub good: bool,
 }
 
+// Two digits at a place.
 fn pair_at(s: &[u8], at: usize) -> Pair
     requires { ⌜ at ≤ length (now s) + 8 ⌝ }
     ensures { λ r. ⌜ r ≡ pairAt (now (s .entry)) at ⌝ }
@@ -69,7 +74,7 @@ fn pair_at(s: &[u8], at: usize) -> Pair
         };
     }
     Pair {
-        value: (a - 48) * 10 + (b - 48),
+        value: (a - b'0') * 10 + (b - b'0'),
         at: at + 2,
         good: true,
     }
@@ -83,7 +88,7 @@ fn year_at(s: &[u8], at: usize) -> Year
 {
     let n = digits(s, at, DateTime::MAX_YEAR as u64 + 1);
     let end = n.end;
-    if end - at < 4 {
+    if end - at < YEAR_DIGITS {
         return Year {
             value: 0,
             at: end,
@@ -114,7 +119,7 @@ fn year_at(s: &[u8], at: usize) -> Year
 // Whether the four digits from a place on are all 0.
 fn zeros(s: &[u8], at: usize) -> bool
     requires { ⌜ at ≤ length (now s) ⌝ }
-    ensures { λ r. ⌜ r ≡ both (eqb (pairAt (now (s .entry)) at .value) 0) (eqb (pairAt (now (s .entry)) (at + 2) .value) 0) ⌝ }
+    ensures { λ r. ⌜ r ≡ fourZeros (now (s .entry)) at ⌝ }
 {
     let a = pair_at(s, at);
     if a.value != 0 {
@@ -127,14 +132,15 @@ fn zeros(s: &[u8], at: usize) -> bool
 // Whether a year of more than four digits begins with 0.
 fn leading(s: &[u8], at: usize, end: usize) -> bool
     requires { ⌜ at ≤ end ⌝ }
-    ensures { λ r. ⌜ r ≡ both (ltb 4 (end - at)) (eqb (getD (now (s .entry)) at 0) 48) ⌝ }
+    ensures { λ r. ⌜ r ≡ leadingZero (now (s .entry)) at (end - at) ⌝ }
 {
-    if end - at <= 4 {
+    if end - at <= YEAR_DIGITS {
         return false;
     }
     byte(s, at) == b'0'
 }
 
+// A year, after an optional minus.
 fn year_part(s: &[u8], mut t: Scan) -> Scan
     requires { ⌜ t .at ≤ length (now s) ⌝ }
     ensures { λ r. ⌜ r ≡ yearPart capped (now (s .entry)) t ⌝ }
@@ -156,6 +162,7 @@ fn year_part(s: &[u8], mut t: Scan) -> Scan
     t
 }
 
+// Nothing, or a point and at least one digit.
 fn fraction_part(s: &[u8], mut t: Scan) -> Scan
     requires { ⌜ t .at ≤ length (now s) ⌝ }
     ensures { λ r. ⌜ r ≡ fractionPart (now (s .entry)) t ⌝ }
@@ -179,6 +186,7 @@ fn fraction_part(s: &[u8], mut t: Scan) -> Scan
     t
 }
 
+// A sign with hh:mm.
 fn zone_signed(s: &[u8], mut t: Scan, sign: u8) -> Scan
     requires { ⌜ t .at < length (now s) ⌝ }
     ensures { λ r. ⌜ r ≡ zoneSigned (now (s .entry)) t sign ⌝ }
@@ -208,6 +216,7 @@ fn zone_signed(s: &[u8], mut t: Scan, sign: u8) -> Scan
     t
 }
 
+// The text's end, or Z, or a sign with hh:mm.
 fn zone_part(s: &[u8], mut t: Scan) -> Scan
     requires { ⌜ t .at ≤ length (now s) ⌝ }
     ensures { λ r. ⌜ r ≡ zonePart (now (s .entry)) t ⌝ }
@@ -235,6 +244,7 @@ fn zone_part(s: &[u8], mut t: Scan) -> Scan
     t
 }
 
+// Whether a letter stands for two digits.
 pub fn is_pair(p: u8) -> bool
     ensures { λ r. ⌜ r ≡ isPair p ⌝ }
 {
@@ -253,6 +263,7 @@ pub fn is_pair(p: u8) -> bool
     p == b's'
 }
 
+// Two digits as the part that a letter stands for.
 fn place(p: u8, mut t: Scan, g: Pair) -> Scan
     ensures { λ r. ⌜ r ≡ placed p t g ⌝ }
 {
@@ -287,6 +298,7 @@ fn pair_part(p: u8, s: &[u8], t: Scan) -> Scan
     place(p, t, g)
 }
 
+// A byte that stands for itself.
 fn mark(p: u8, s: &[u8], mut t: Scan) -> Scan
     requires { ⌜ t .at ≤ length (now s) ⌝ }
     ensures { λ r. ⌜ r ≡ pick (eqb (getD (now (s .entry)) (t .at) 0) p) (reached t (t .at + 1) true) (reached t (t .at) false) ⌝ }
@@ -301,6 +313,7 @@ fn mark(p: u8, s: &[u8], mut t: Scan) -> Scan
     t
 }
 
+// One letter of a layout. After a part that is not there nothing more is looked for.
 fn part(p: u8, s: &[u8], t: Scan) -> Scan
     requires { ⌜ t .at ≤ length (now s) ⌝ }
     ensures { λ r. ⌜ r ≡ partOf capped p (now (s .entry)) t ⌝ }

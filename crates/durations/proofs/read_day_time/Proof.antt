@@ -1,7 +1,7 @@
 use Rattle.numerals.specs.Reading.{marked}
 use Rattle.basis.specs.Choice.{both}
 use Rattle.durations.specs.Forms.{weight, dayTime}
-use Rattle.durations.specs.Walks.{asDayTime}
+use Rattle.durations.specs.Walks.{asValue, dayTimeOf}
 use Rattle.durations.proofs.Valid.{of-form, shape-ticks}
 use Rattle.durations.specs.declared.Shape.{Shape}
 use native.Mathlib.Omega.{arith}
@@ -39,10 +39,10 @@ enum-known-c-2 : tie.Need-enum-known-c-2
 enum-known-c-2 c = search needs
 
 returns : tie.Need-returns
-returns c = (ap asDayTime (of-form dayTime _ (omega arith) (c .before .before .before .before .shape .ensures) (c .before .before .before .counted .ensures) (c .before .c .given .1)), ap (λ (t : Shape). t .place) (c .before .before .before .before .shape .ensures))
+returns c = (ap (asValue dayTimeOf) (of-form dayTime _ (omega arith) (c .before .before .before .before .shape .ensures) (c .before .before .before .counted .ensures) (c .before .c .given .1)), ap (λ (t : Shape). t .place) (c .before .before .before .before .shape .ensures))
 
 returns-2 : tie.Need-returns-2
-returns-2 c = (ap asDayTime (of-form dayTime _ (omega arith) (c .before .before .before .before .shape .ensures) (c .before .before .before .counted .ensures) (c .before .c2 .given .1)), ap (λ (t : Shape). t .place) (c .before .before .before .before .shape .ensures))
+returns-2 c = (ap (asValue dayTimeOf) (of-form dayTime _ (omega arith) (c .before .before .before .before .shape .ensures) (c .before .before .before .counted .ensures) (c .before .c2 .given .1)), ap (λ (t : Shape). t .place) (c .before .before .before .before .shape .ensures))
 
 pub read-day-time-spec : {M : Type 1} → statement M
 read-day-time-spec =

@@ -1,7 +1,7 @@
 use Rattle.numerals.specs.Reading.{marked}
 use Rattle.basis.specs.Choice.{both}
 use Rattle.durations.specs.Forms.{weight, yearMonth}
-use Rattle.durations.specs.Walks.{asYearMonth}
+use Rattle.durations.specs.Walks.{asValue, yearMonthOf}
 use Rattle.value.proofs.Signs.{signed-within}
 use Rattle.durations.proofs.Valid.{of-form, shape-ticks, reads-within}
 use Rattle.durations.specs.declared.Shape.{Shape}
@@ -40,10 +40,10 @@ enum-known-c-2 : tie.Need-enum-known-c-2
 enum-known-c-2 c = search needs
 
 returns : tie.Need-returns
-returns c = (ap asYearMonth (of-form yearMonth _ (omega arith) (c .before .before .before .before .before .shape .ensures) (c .before .before .before .before .counted .ensures) (c .before .before .c .given .1)), ap (λ (t : Shape). t .place) (c .before .before .before .before .before .shape .ensures))
+returns c = (ap (asValue yearMonthOf) (of-form yearMonth _ (omega arith) (c .before .before .before .before .before .shape .ensures) (c .before .before .before .before .counted .ensures) (c .before .before .c .given .1)), ap (λ (t : Shape). t .place) (c .before .before .before .before .before .shape .ensures))
 
 returns-2 : tie.Need-returns-2
-returns-2 c = (ap asYearMonth (of-form yearMonth _ (omega arith) (c .before .before .before .before .shape .ensures) (c .before .before .before .counted .ensures) (c .before .c2 .given .1)), ap (λ (t : Shape). t .place) (c .before .before .before .before .shape .ensures))
+returns-2 c = (ap (asValue yearMonthOf) (of-form yearMonth _ (omega arith) (c .before .before .before .before .shape .ensures) (c .before .before .before .counted .ensures) (c .before .c2 .given .1)), ap (λ (t : Shape). t .place) (c .before .before .before .before .shape .ensures))
 
 pub read-year-month-spec : {M : Type 1} → statement M
 read-year-month-spec =
