@@ -7,7 +7,7 @@ use Prim.Native.Nat.{ℕ, _<_}
 use native.Mathlib.Omega.{arith}
 use lib.Dec.{eqb, leb}
 use lib.ListN.{length}
-use Rattle.basis.specs.Answer.{gives}
+use Rattle.basis.specs.Answer.{Answer, gives}
 use Rattle.value.specs.Bounds.{maxYear, parts}
 use Rattle.value.specs.Kinds.{template}
 use Rattle.value.specs.declared.Kind.{Kind}
@@ -102,17 +102,28 @@ suits KV.DateTime s t e = refl
 suits KV.DayTimeDuration s t e = refl
 suits KV.YearMonthDuration s t e = refl
 
+fine-bounded : (k : Kind) (long negative : Bool) (year : ℕ) (x : Answer Value) → Fine k x → Fine k (bounded long negative year x)
+unfolding bounded
+fine-bounded k long negative year x f = go long negative (leb year maxYear) refl refl refl
+  where
+    go : (a b c : Bool) → long ≡ a → negative ≡ b → leb year maxYear ≡ c → Fine k (bounded long negative year x)
+    go true true true d e g = simp (d, e, g) (fine-refusal k _)
+    go true true false d e g = simp (d, e, g) (fine-refusal k _)
+    go true false true d e g = simp (d, e, g) (fine-refusal k _)
+    go true false false d e g = simp (d, e, g) (fine-refusal k _)
+    go false true true d e g = simp (d, e, g) (fine-refusal k _)
+    go false true false d e g = simp (d, e, g) (fine-refusal k _)
+    go false false true d e g = simp (d, e, g) f
+    go false false false d e g = simp (d, e, g) (fine-refusal k _)
+
 fine-judge : (k : Kind) (n : ℕ) (t : Scan) → t .part < parts
     → Suits k (record { year = t .year; month = t .month; day = t .day }) (ticksOf (t .hour) (t .minute) (t .second) (t .part)) → Fine k (judge k n t)
-unfolding judge bounded
+unfolding judge
 fine-judge k n t l e =
     fine-pick k (t .good) _ _
     (λ a. fine-pick k (eqb (t .at) n) _ _
-    (λ b. fine-pick k (t .long) _ _ (λ c. fine-refusal k 3)
-    (λ c. fine-pick k (t .negative) _ _ (λ d. fine-refusal k 2)
-    (λ d. fine-pick k (leb (t .year) maxYear) _ _
-    (λ f. fine-on-calendar k (record { year = t .year; month = t .month; day = t .day }) (t .hour) (t .minute) (t .second) (t .part) (t .sign) (t .zh) (t .zm) l e)
-    (λ f. fine-refusal k 2))))
+    (λ b. fine-bounded k (t .long) (t .negative) (t .year) _
+    (fine-on-calendar k (record { year = t .year; month = t .month; day = t .day }) (t .hour) (t .minute) (t .second) (t .part) (t .sign) (t .zh) (t .zm) l e))
     (λ b. fine-refusal k 1))
     (λ a. fine-refusal k 1)
 

@@ -14,7 +14,7 @@ use Rattle.calendar.specs.declared.Date.{Date}
 use Rattle.calendar.specs.declared.Dated.{Dated}
 use Rattle.calendar.specs.declared.Dated.the-variants.{On, Later}
 use Rattle.value.specs.Bounds.{maxYear, parts}
-use Rattle.value.specs.Refusals.{badText, beyondBounds, longFraction}
+use Rattle.value.specs.Refusals.{badText, beyondBounds}
 use Rattle.value.specs.Values.{okDate}
 use Rattle.value.specs.Kinds.{hasDate}
 use Rattle.value.specs.declared.Zone.{Zone}
@@ -71,12 +71,13 @@ pub past-checks : (k : Kind) (n : ℕ) (t : Scan) → t .good ≡ true → t .at
     → onCalendar k (record { year = t .year; month = t .month; day = t .day }) (t .hour) (t .minute) (t .second) (t .part) (t .sign) (t .zh) (t .zm) ≡ judge k n t
 unfolding judge bounded
 past-checks k n t g e l m y =
-    sym (go (t .good) (eqb (t .at) n) (t .long) (t .negative) (leb (t .year) maxYear) g (eq-eqb (t .at) n e) l m (le-leb (t .year) maxYear y)
+    sym (
+    go (t .good) (eqb (t .at) n) (t .long) (t .negative) (t .year) g (eq-eqb (t .at) n e) l m (le-leb (t .year) maxYear y)
     (onCalendar k (record { year = t .year; month = t .month; day = t .day }) (t .hour) (t .minute) (t .second) (t .part) (t .sign) (t .zh) (t .zm)))
   where
-    go : (a b c d f : Bool) → a ≡ true → b ≡ true → c ≡ false → d ≡ false → f ≡ true → (x : Answer Value)
-        → pick a (pick b (pick c (refuses longFraction) (pick d (refuses beyondBounds) (pick f x (refuses beyondBounds)))) (refuses badText)) (refuses badText) ≡ x
-    go a b c d f pa pb pc pd pf x = rw (pa, pb, pc, pd, pf)
+    go : (a b long negative : Bool) (year : ℕ) → a ≡ true → b ≡ true → long ≡ false → negative ≡ false → leb year maxYear ≡ true → (x : Answer Value)
+        → pick a (pick b (bounded long negative year x) (refuses badText)) (refuses badText) ≡ x
+    go a b long negative year pa pb pc pd pf x = rw (pa, pb, pc, pd, pf)
 
 -- a year that is cut is beyond the greatest exactly where the whole of it is, and else the same
 years-cut : (long negative : Bool) (y : ℕ) (on : ℕ → Answer Value) → bounded long negative (capped y) (on (capped y)) ≡ bounded long negative y (on y)

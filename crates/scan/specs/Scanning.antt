@@ -1,6 +1,6 @@
--- Document 01, "Reading text", check 1, the shape: the parts of a text, found before they are judged. A kind is a layout, the letters of its
--- parts with the bytes that stand between them, and a text's parts are found one after the other along it.
--- A byte past the text's end counts as 0, which is no digit and no punctuation.
+-- Document 01, "Reading text", check 1, the shape: the parts of a text, found before they are judged. A kind is a layout,
+-- the letters of its parts with the bytes that stand between them, and a text's parts are found one after the other along
+-- it. A byte past the text's end counts as 0, which is no digit and no punctuation.
 use mathlib.Core.Bool.{Bool, true, false}
 use mathlib.Core.List.{List, [], _∷_}
 use Prim.Native.Nat.{ℕ, suc, _+_, _-_, _*_, _/_, _%_, min}
