@@ -1,0 +1,179 @@
+-- Every value that a call answers is within its kind's bounds.
+use mathlib.Core.Path.{_≡_, refl, ap, _∙_}
+use mathlib.Core.Bool.{Bool, true, false}
+use Prim.Native.Nat.{ℕ}
+use lib.Dec.{leb}
+use Rattle.basis.specs.Choice.{pick, both}
+use Rattle.basis.specs.Answer.{gives, refuses}
+use Rattle.basis.proofs.Tests.{both-left, both-right, both-true}
+use Rattle.value.specs.Refusals.{outside, wrongKind, badZone}
+use Rattle.value.specs.Durations.{plus, minus}
+use Rattle.value.specs.Values.{okDateTime, okOffset, okZone}
+use Rattle.value.specs.Kinds.{kindOf, ofKind, okValue}
+use Rattle.value.specs.Ticks.{localOf, instantOf, instantAt}
+use Rattle.value.specs.declared.Offset.{Offset}
+use Rattle.value.specs.declared.Zone.{Zone}
+use Rattle.value.specs.declared.Zone.the-variants.{Absent, At}
+use Rattle.value.specs.declared.DateTime.{DateTime}
+use Rattle.value.specs.declared.Kind.{Kind}
+use Rattle.value.specs.declared.Kind.the-variants as KV
+use Rattle.value.specs.declared.Value.{Value}
+use Rattle.value.proofs.Good.{good, record-ok}
+use Rattle.shifting.specs.Operands.{operandOf, valueOf, sameKind}
+use Rattle.shifting.specs.Results.{inTicks}
+use Rattle.shifting.specs.declared.Operand.{Operand}
+use Rattle.shifting.specs.declared.Operand.the-variants.{Moment, DayTime, YearMonth}
+use Rattle.shifting.proofs.Shapes.{valueBack, operand-back, moment-ok}
+use Rattle.shifting.proofs.Given.{valid, valid-given, valid-pick, valid-test}
+use Rattle.shifting.proofs.Valid.{ticks-valid, months-valid, kept-valid, placed-valid, moved-valid, shifted-valid}
+use Rattle.operation.specs.Sums.{sumOf, plusOf, opposite, oppositeMonths, lessMoment, differenceIn, minusIn}
+use Rattle.operation.specs.Products.{maxFactor, productOf, timesOf}
+use Rattle.operation.specs.Casts.{castsTo, castTo, castOf}
+use Rattle.operation.specs.Adjustment.{isZone, zoneOf, localAt, withZone, adjustedFrom, momentTo, operandTo, adjustOf, withoutZone, unzoneOf}
+use Rattle.operation.proofs.Opposites.{opposite-ok, opposite-months-ok}
+use Rattle.operation.proofs.Zones.{zone-ok}
+
+operand-ok : (v : Value) → okValue v ≡ true → okValue (valueBack (operandOf v)) ≡ true
+operand-ok v g = ap okValue (operand-back v) ∙ g
+
+module _ (a b : Value) (e : both (okValue a) (okValue b) ≡ true) where
+  left-ok : okValue (valueBack (operandOf a)) ≡ true
+  left-ok = operand-ok a (both-left _ _ e)
+
+  right-ok : okValue (valueBack (operandOf b)) ≡ true
+  right-ok = operand-ok b (both-right _ _ e)
+
+-- sums and differences
+sum-valid : (x y : Operand) → okValue (valueBack x) ≡ true → okValue (valueBack y) ≡ true → valid (sumOf x y) ≡ true
+unfolding sumOf
+sum-valid (Moment k d) (DayTime t) gx gy = shifted-valid k d (plus (t .negative) (t .micros)) (minus (t .negative) (t .micros)) gx
+sum-valid (Moment k d) (YearMonth m) gx gy = moved-valid k d (plus (m .negative) (m .months)) (minus (m .negative) (m .months)) gx
+sum-valid (Moment k d) (Moment j e) gx gy = refl
+sum-valid (DayTime t) (Moment k d) gx gy = shifted-valid k d (plus (t .negative) (t .micros)) (minus (t .negative) (t .micros)) gy
+sum-valid (DayTime t) (DayTime s) gx gy = ticks-valid _ _
+sum-valid (DayTime t) (YearMonth m) gx gy = refl
+sum-valid (YearMonth m) (Moment k d) gx gy = moved-valid k d (plus (m .negative) (m .months)) (minus (m .negative) (m .months)) gy
+sum-valid (YearMonth m) (DayTime t) gx gy = refl
+sum-valid (YearMonth m) (YearMonth n) gx gy = months-valid _ _
+
+pub plus-valid : (a b : Value) → valid (plusOf a b) ≡ true
+unfolding plusOf
+plus-valid a b =
+    valid-pick (both (okValue a) (okValue b)) (sumOf (operandOf a) (operandOf b)) (refuses outside)
+    (λ e. sum-valid (operandOf a) (operandOf b) (left-ok a b e) (right-ok a b e)) refl
+
+less-valid : (o : Offset) (x : Operand) (k : Kind) (e : DateTime) → valid (lessMoment o x k e) ≡ true
+unfolding lessMoment
+less-valid o (Moment j d) k e =
+    valid-pick (sameKind j k) (inTicks (instantOf o d) (instantOf o e)) (refuses wrongKind) (λ s. ticks-valid (instantOf o d) (instantOf o e)) refl
+less-valid o (DayTime t) k e = refl
+less-valid o (YearMonth m) k e = refl
+
+difference-valid : (o : Offset) (x y : Operand) → okValue (valueBack x) ≡ true → okValue (valueBack y) ≡ true → valid (differenceIn o x y) ≡ true
+unfolding differenceIn okValue
+difference-valid o x (Moment k e) gx gy = less-valid o x k e
+difference-valid o x (DayTime t) gx gy = sum-valid x (DayTime (opposite t)) gx (opposite-ok t gy)
+difference-valid o x (YearMonth m) gx gy = sum-valid x (YearMonth (oppositeMonths m)) gx (opposite-months-ok m gy)
+
+pub minus-valid : (o : Offset) (a b : Value) → valid (minusIn o a b) ≡ true
+unfolding minusIn
+minus-valid o a b =
+    valid-pick (both (okValue a) (okValue b)) (differenceIn o (operandOf a) (operandOf b)) (refuses outside)
+    (λ e. difference-valid o (operandOf a) (operandOf b) (left-ok a b e) (right-ok a b e)) refl
+
+-- products
+product-valid : (x : Operand) (negative : Bool) (n : ℕ) → valid (productOf x negative n) ≡ true
+unfolding productOf
+product-valid (Moment k d) negative n = refl
+product-valid (DayTime t) true n = ticks-valid _ _
+product-valid (DayTime t) false n = ticks-valid _ _
+product-valid (YearMonth m) true n = months-valid _ _
+product-valid (YearMonth m) false n = months-valid _ _
+
+pub times-valid : (a : Value) (negative : Bool) (n : ℕ) → valid (timesOf a negative n) ≡ true
+unfolding timesOf
+times-valid a negative n =
+    valid-pick (both (okValue a) (leb n maxFactor)) (productOf (operandOf a) negative n) (refuses outside)
+    (λ e. product-valid (operandOf a) negative n) refl
+
+-- casts
+cast-to-valid : (k : Kind) (x : Operand) → okValue (valueBack x) ≡ true → okValue (castTo k x) ≡ true
+unfolding castTo
+cast-to-valid k (Moment j d) g = kept-valid k d (moment-ok j d g)
+cast-to-valid k (DayTime t) g = g
+cast-to-valid k (YearMonth m) g = g
+
+pub cast-valid : (a : Value) (k : Kind) → valid (castOf a k) ≡ true
+unfolding castOf
+cast-valid a k =
+    valid-pick (okValue a) (pick (castsTo (kindOf a) k) (gives (castTo k (operandOf a))) (refuses wrongKind)) (refuses outside)
+    (λ g. valid-test (castsTo (kindOf a) k) (castTo k (operandOf a)) wrongKind (λ c. cast-to-valid k (operandOf a) (operand-ok a g))) refl
+
+-- adjustment
+zoned-record : (d : DateTime) (z : Zone) → okDateTime d ≡ true → okZone z ≡ true → okDateTime (withZone d z) ≡ true
+zoned-record d z g h = let r = good d g in record-ok (withZone d z) (record { day = r .day; micros-to = r .micros-to; zone = h })
+
+zoned-valid : (k : Kind) (d : DateTime) (z : Zone) → okValue (valueOf k d) ≡ true → okZone z ≡ true → okValue (valueOf k (withZone d z)) ≡ true
+unfolding okValue ofKind
+zoned-valid KV.Date d z g h = both-true _ _ (zoned-record d z (both-left _ _ g) h) (both-right _ _ g)
+zoned-valid KV.Time d z g h = both-true _ _ (zoned-record d z (both-left _ _ g) h) (both-right _ _ g)
+zoned-valid KV.DateTime d z g h = zoned-record d z g h
+zoned-valid KV.DayTimeDuration d z g h = both-true _ _ (zoned-record d z (both-left _ _ g) h) (both-right _ _ g)
+zoned-valid KV.YearMonthDuration d z g h = both-true _ _ (zoned-record d z (both-left _ _ g) h) (both-right _ _ g)
+
+adjusted-valid : (k : Kind) (d : DateTime) (x : Zone) (z : Offset) → okValue (valueOf k d) ≡ true → okOffset z ≡ true
+    → valid (adjustedFrom k d x z) ≡ true
+unfolding adjustedFrom okZone
+adjusted-valid k d Absent z g h = zoned-valid k d (At z) g h
+adjusted-valid k d (At w) z g h = placed-valid k (localAt (instantAt (localOf d) w) z) (At z) h
+
+moment-to-valid : (k : Kind) (d : DateTime) (y : Operand) → okValue (valueOf k d) ≡ true → okValue (valueBack y) ≡ true
+    → valid (momentTo k d y) ≡ true
+unfolding momentTo okValue
+moment-to-valid k d (Moment j e) gx gy = refl
+moment-to-valid k d (DayTime t) gx gy =
+    valid-pick (isZone t) (adjustedFrom k d (d .zone) (zoneOf t)) (refuses badZone)
+    (λ e. adjusted-valid k d (d .zone) (zoneOf t) gx (zone-ok t gy e)) refl
+moment-to-valid k d (YearMonth m) gx gy = refl
+
+operand-to-valid : (x y : Operand) → okValue (valueBack x) ≡ true → okValue (valueBack y) ≡ true → valid (operandTo x y) ≡ true
+unfolding operandTo
+operand-to-valid (Moment k d) y gx gy = moment-to-valid k d y gx gy
+operand-to-valid (DayTime t) y gx gy = refl
+operand-to-valid (YearMonth m) y gx gy = refl
+
+pub adjust-valid : (a z : Value) → valid (adjustOf a z) ≡ true
+unfolding adjustOf
+adjust-valid a z =
+    valid-pick (both (okValue a) (okValue z)) (operandTo (operandOf a) (operandOf z)) (refuses outside)
+    (λ e. operand-to-valid (operandOf a) (operandOf z) (left-ok a z e) (right-ok a z e)) refl
+
+without-valid : (x : Operand) → okValue (valueBack x) ≡ true → valid (withoutZone x) ≡ true
+unfolding withoutZone okZone
+without-valid (Moment k d) g = zoned-valid k d Absent g refl
+without-valid (DayTime t) g = refl
+without-valid (YearMonth m) g = refl
+
+pub unzone-valid : (a : Value) → valid (unzoneOf a) ≡ true
+unfolding unzoneOf
+unzone-valid a =
+    valid-pick (okValue a) (withoutZone (operandOf a)) (refuses outside) (λ g. without-valid (operandOf a) (operand-ok a g)) refl
+
+-- so a value that is answered is within the bounds
+pub plus-within : (a b v : Value) → plusOf a b ≡ gives v → okValue v ≡ true
+plus-within a b v e = valid-given (plusOf a b) v (plus-valid a b) e
+
+pub minus-within : (o : Offset) (a b v : Value) → minusIn o a b ≡ gives v → okValue v ≡ true
+minus-within o a b v e = valid-given (minusIn o a b) v (minus-valid o a b) e
+
+pub times-within : (a : Value) (negative : Bool) (n : ℕ) (v : Value) → timesOf a negative n ≡ gives v → okValue v ≡ true
+times-within a negative n v e = valid-given (timesOf a negative n) v (times-valid a negative n) e
+
+pub cast-within : (a : Value) (k : Kind) (v : Value) → castOf a k ≡ gives v → okValue v ≡ true
+cast-within a k v e = valid-given (castOf a k) v (cast-valid a k) e
+
+pub adjust-within : (a z v : Value) → adjustOf a z ≡ gives v → okValue v ≡ true
+adjust-within a z v e = valid-given (adjustOf a z) v (adjust-valid a z) e
+
+pub unzone-within : (a v : Value) → unzoneOf a ≡ gives v → okValue v ≡ true
+unzone-within a v e = valid-given (unzoneOf a) v (unzone-valid a) e

@@ -1,0 +1,21 @@
+use mathlib.Core.Path.{ap, _∙_}
+use borrow.Author.Needs.{needs}
+use Rattle.value.specs.Values.{okOffset}
+use Rattle.value.specs.declared.Offset.{Offset}
+use Rattle.operation.specs.Order.{orderIn}
+use Rattle.operation.proofs.Zones.{utc-good}
+use Rattle.operation.proofs.compare.Statement.{statement}
+use Rattle.operation.proofs.compare.Tie as tie
+
+zone-for-none-requires : tie.Need-zone-for-none-requires
+zone-for-none-requires c κs = search needs
+
+compare-in-requires : tie.Need-compare-in-requires
+compare-in-requires c κs = ap okOffset (c .zone-for-none .ensures) ∙ utc-good
+
+returns : tie.Need-returns
+returns c =
+    c .compare-in .ensures ∙ ap (λ (o : Offset). orderIn o (c .before .before .args .a) (c .before .before .args .b)) (c .before .zone-for-none .ensures)
+
+pub compare-spec : {M : Type 1} → statement M
+compare-spec = tie.close (tie.spec zone-for-none-requires compare-in-requires returns)

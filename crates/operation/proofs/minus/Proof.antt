@@ -1,0 +1,21 @@
+use mathlib.Core.Path.{ap, _∙_}
+use borrow.Author.Needs.{needs}
+use Rattle.value.specs.Values.{okOffset}
+use Rattle.value.specs.declared.Offset.{Offset}
+use Rattle.operation.specs.Sums.{minusIn}
+use Rattle.operation.proofs.Zones.{utc-good}
+use Rattle.operation.proofs.minus.Statement.{statement}
+use Rattle.operation.proofs.minus.Tie as tie
+
+zone-for-none-requires : tie.Need-zone-for-none-requires
+zone-for-none-requires c κs = search needs
+
+minus-in-requires : tie.Need-minus-in-requires
+minus-in-requires c κs = ap okOffset (c .zone-for-none .ensures) ∙ utc-good
+
+returns : tie.Need-returns
+returns c =
+    c .minus-in .ensures ∙ ap (λ (o : Offset). minusIn o (c .before .before .args .a) (c .before .before .args .b)) (c .before .zone-for-none .ensures)
+
+pub minus-spec : {M : Type 1} → statement M
+minus-spec = tie.close (tie.spec zone-for-none-requires minus-in-requires returns)

@@ -1,0 +1,9 @@
+pub mod Shapes
+pub mod Spanned
+pub mod Halves
+pub mod Bounded
+pub mod Steps
+pub mod Lengths
+pub mod Given
+pub mod Valid
+pub mod Undo
