@@ -17,8 +17,8 @@ use Rattle.value.specs.declared.Value.the-variants.{Date, Time, DateTime, DayTi
 use Rattle.shifting.specs.Results.{inTicks, atTicks}
 use Rattle.shifting.specs.Shifts.{movedTo, moved, shifted}
 use Rattle.operation.specs.Order.{less, equal, up, down, orderIn}
-use Rattle.operation.specs.Sums.{sumOf, plusOf, lessMoment, differenceIn, minusIn}
-use Rattle.operation.specs.Products.{productOf, timesOf}
+use Rattle.arithmetic.specs.Sums.{sumOf, plusOf, lessMoment, differenceIn, minusIn}
+use Rattle.arithmetic.specs.Products.{productOf, timesOf}
 use Rattle.operation.specs.Adjustment.{isZone, adjustedFrom, momentTo, operandTo, adjustOf}
 
 abbrev date : ℕ → ℕ → ℕ → Value

@@ -85,16 +85,16 @@ adjust-keeps-instant o d e t w z h =
     (own-instant o e (zoneOf t) n ∙ ap (λ (s : ℕ). instantAt s (zoneOf t)) m ∙ instant-back i (zoneOf t) (a .zone-good) (r .from) ∙ sym (own-instant o d w z), n)
 
 -- the local time of a time is on the reference day
-abbrev referenceDay : ℕ
+abbrev pub referenceDay : ℕ
 referenceDay = dayNumber 1972 12 31
 
 reference-from : 1 ≤ referenceDay
 unfolding total
 reference-from = omega arith
 
-kept-local : (l : ℕ) (z : Zone) → localOf (kept KV.Time (atLocal l z)) ≡ referenceDay * dayTicks + l % dayTicks
+pub on-reference : (d : DateTime) → localOf (kept KV.Time d) ≡ referenceDay * dayTicks + d .micros
 unfolding localOf
-kept-local l z = refl
+on-reference d = refl
 
 pub adjust-keeps-time : (o : Offset) (d e : DateTime) (t : D.DayTime) (w : Offset) → d .zone ≡ At w
     → adjustOf (VV.Time d) (VV.DayTime t) ≡ gives (VV.Time e) → (instantOf o e % dayTicks ≡ instantOf o d % dayTicks) × (e .zone ≡ At (zoneOf t))
@@ -109,7 +109,7 @@ adjust-keeps-time o d e t w z h =
     let x : kept KV.Time (atLocal l (At (zoneOf t))) ≡ e = cc in
     let r = instant-reaches d w g (own-zone d w g z) in
     let n : e .zone ≡ At (zoneOf t) = ap (λ (s : DateTime). s .zone) (sym x) in
-    let m : localOf e ≡ referenceDay * dayTicks + l % dayTicks = ap localOf (sym x) ∙ kept-local l (At (zoneOf t)) in
+    let m : localOf e ≡ referenceDay * dayTicks + l % dayTicks = ap localOf (sym x) ∙ on-reference (atLocal l (At (zoneOf t))) in
     let q : instantOf o e ≡ instantAt (referenceDay * dayTicks + l % dayTicks) (zoneOf t) = own-instant o e (zoneOf t) n ∙ ap (λ (s : ℕ). instantAt s (zoneOf t)) m in (
       ap (λ (s : ℕ). s % dayTicks) q
           ∙ round-day referenceDay i (east (zoneOf t)) (west (zoneOf t)) (east-to (zoneOf t) (a .zone-good)) (west-to (zoneOf t) (a .zone-good)) reference-from (r .from)

@@ -1,12 +1,9 @@
-pub mod Opposites
 pub mod Reach
-pub mod Differences
 pub mod Zones
 pub mod Answers
 pub mod Validity
 pub mod CastLaws
-pub mod Undoing
 pub mod Keeping
 pub mod OrderLaws
-pub mod Cases
 pub mod TimeLaws
+pub mod Cases

@@ -1,44 +1,21 @@
--- How far local times, instants and the numbers that values are ordered by reach.
+-- How far the numbers that values are ordered by reach.
 use mathlib.Core.Path.{_≡_}
 use mathlib.Core.Bool.{true}
-use Prim.Native.Nat.{_*_, _≤_}
+use Prim.Native.Nat.{_≤_}
 use native.Mathlib.Omega.{arith}
 use Rattle.basis.proofs.Tests.{both-left}
-use Rattle.calendar.specs.Calendar.{total, yearDays, dayOf}
-use Rattle.calendar.proofs.Years.{years-grow, year-starts}
-use Rattle.value.specs.Bounds.{minYear, maxDayTime, maxYearMonth, dayTicks}
-use Rattle.value.specs.Values.{okOffset, okDateTime}
-use Rattle.value.specs.Components.{dateIn}
+use Rattle.value.specs.Bounds.{maxDayTime, maxYearMonth}
+use Rattle.value.specs.Values.{okOffset}
 use Rattle.value.specs.Kinds.{okValue}
-use Rattle.value.specs.Ticks.{localOf, instantOf}
 use Rattle.value.specs.declared.Offset.{Offset}
 use Rattle.value.specs.declared.DateTime.{DateTime}
 use Rattle.value.specs.declared.Value.{Value}
 use Rattle.value.specs.declared.Value.the-variants as VV
-use Rattle.value.proofs.Good.{good, timed}
-use Rattle.value.proofs.Instants.{record-near}
 use Rattle.value.proofs.Signs.{signed-within}
 use Rattle.shifting.specs.Operands.{operandOf}
 use Rattle.operation.specs.Order.{up, down}
 use Rattle.shifting.proofs.Halves.{plus-to, minus-to}
-
--- the first year comes after a whole year
-two-days : 2 ≤ total yearDays minYear
-unfolding total
-two-days = omega arith
-
-pub local-from : (d : DateTime) → okDateTime d ≡ true → 2 * dayTicks ≤ localOf d
-unfolding localOf
-local-from d e =
-    let s : total yearDays (d .year) ≤ dayOf (dateIn d) = year-starts (dateIn d) in
-    let f : total yearDays minYear ≤ total yearDays (d .year) = years-grow minYear (d .year) (good d e .day .year-from) in
-    omega (arith, two-days)
-
-pub instant-to : (o : Offset) (d : DateTime) → okOffset o ≡ true → okDateTime d ≡ true → instantOf o d ≤ maxDayTime
-instant-to o d go gd =
-    let n = record-near o d go gd in
-    let t = timed d gd in
-    omega (arith, n .under, t .local-few)
+use Rattle.shifting.proofs.Reach.{instant-to}
 
 pub up-to : (o : Offset) (v : Value) → okOffset o ≡ true → okValue v ≡ true → up o (operandOf v) ≤ maxDayTime
 unfolding up okValue

@@ -9,7 +9,7 @@ use borrow.Author.Tests.{leb-false, le-leb}
 use Rattle.basis.specs.Choice.{pick, both}
 use Rattle.basis.specs.Answer.{gives, refuses}
 use Rattle.basis.proofs.Tests.{both-true}
-use Rattle.calendar.specs.Calendar.{total, yearDays, dateOf, dayNumber}
+use Rattle.calendar.specs.Calendar.{total, yearDays, dateOf}
 use Rattle.calendar.proofs.Years.{years-grow, year-up-to, days-up-to}
 use Rattle.value.specs.Bounds.{minYear, maxYear, maxZone, maxMicros, minuteTicks, dayTicks}
 use Rattle.value.specs.Refusals.{outside, badZone}
@@ -27,8 +27,9 @@ use Rattle.value.proofs.Good.{good, east-to, west-to}
 use Rattle.value.proofs.KindParts.{time-good, of-kind-kept}
 use Rattle.shifting.specs.Shifts.{wrapped, shifted}
 use Rattle.shifting.proofs.Undo.{placed-gives}
-use Rattle.operation.specs.Sums.{sumOf, plusOf}
+use Rattle.arithmetic.specs.Sums.{sumOf, plusOf}
 use Rattle.operation.specs.Adjustment.{isZone, zoneOf, localAt, adjustedFrom, adjustedTo, momentTo, operandTo, adjustOf}
+use Rattle.operation.proofs.Keeping.{referenceDay, on-reference}
 use Rattle.operation.proofs.Zones.{zone-ok, own-zone}
 
 pub time-plus-given : (d : DateTime) (t : D.DayTime) → okValue (VV.Time d) ≡ true → okValue (VV.DayTime t) ≡ true
@@ -51,9 +52,6 @@ in-years-by t h l = both-true _ _ (from (leb minYear (dateOf (t / dayTicks) .yea
         let n : _≡_ {A = ℕ} 0 1 = omega arith in
         cc
 
-abbrev referenceDay : ℕ
-referenceDay = dayNumber 1972 12 31
-
 -- the days either side of the reference day
 reference-inside : (total yearDays minYear + 3 ≤ referenceDay) × (referenceDay + 3 ≤ total yearDays 1974)
 unfolding total
@@ -64,10 +62,6 @@ near-reference t h l =
     let r = reference-inside in
     let g = years-grow 1974 (maxYear + 1) (omega arith) in
     in-years-by t (omega arith) (omega arith)
-
-on-reference : (d : DateTime) → localOf (kept KV.Time d) ≡ referenceDay * dayTicks + d .micros
-unfolding localOf
-on-reference d = refl
 
 time-local : (d : DateTime) → okValue (VV.Time d) ≡ true → localOf d ≡ referenceDay * dayTicks + d .micros
 time-local d g =

@@ -7,7 +7,7 @@ use borrow.Author.Tests.{leb-true, le-leb, eqb-true, ltb-true}
 use Rattle.basis.specs.Choice.{pick, every}
 use Rattle.basis.specs.Answer.{gives}
 use Rattle.basis.proofs.Tests.{both-left, both-right, both-true}
-use Rattle.value.specs.Bounds.{parts, maxZone, maxDayTime, minuteTicks, dayTicks}
+use Rattle.value.specs.Bounds.{maxYear, parts, maxZone, maxDayTime, minuteTicks, dayTicks}
 use Rattle.value.specs.Values.{okSigned, okDayTime, okOffset, okZone, okDateTime}
 use Rattle.value.specs.Ticks.{utc, ticksOf, spanOf, localOf, instantAt}
 use Rattle.value.specs.declared.Offset.{Offset}
@@ -25,7 +25,7 @@ use Rattle.shifting.specs.Operands.{valueOf}
 use Rattle.shifting.specs.Results.{atTicks}
 use Rattle.operation.specs.Adjustment.{isZone, zoneOf, localAt, withZone, adjustedFrom}
 use Rattle.shifting.proofs.Spanned.{ticks-of, part-of, seconds-of}
-use Rattle.operation.proofs.Reach.{local-from}
+use Rattle.shifting.proofs.Reach.{local-from}
 
 pub utc-good : okOffset utc ≡ true
 unfolding okOffset
@@ -57,7 +57,7 @@ own-zone d w g e = ap okZone (sym e) ∙ good d g .zone
 -- the instant of a record is far enough from zero for any zone
 pub record Reaches (i : ℕ) : Type 0 where
   pub from : dayTicks ≤ i
-  pub to : i < 2 * 366 * 10000 * dayTicks
+  pub to : i < 2 * 366 * (maxYear + 1) * dayTicks
 
 pub instant-reaches : (d : DateTime) (w : Offset) → okDateTime d ≡ true → okOffset w ≡ true → Reaches (instantAt (localOf d) w)
 instant-reaches d w g h =

@@ -1,5 +1,7 @@
 // The operations of document 01 on values: order, sums and differences, products, casts, adjustment to a zone.
 // Each call checks what it is given (16), then the kinds (9), an adjustment's zone (5), and the result (4).
+use arithmetic::products;
+use arithmetic::sums;
 use shifting::results;
 use value::Kind;
 use value::Offset;
@@ -11,16 +13,14 @@ ghost use mathlib.Core.Path.{_≡_};
 ghost use Rattle.value.specs.Kinds.{meaning};
 ghost use Rattle.value.specs.Ticks.{utc};
 ghost use Rattle.operation.specs.Order as order;
-ghost use Rattle.operation.specs.Sums as sums;
-ghost use Rattle.operation.specs.Products as products;
+ghost use Rattle.arithmetic.specs.Sums as sums;
+ghost use Rattle.arithmetic.specs.Products as products;
 ghost use Rattle.operation.specs.Casts as casts;
 ghost use Rattle.operation.specs.Adjustment as adjustment;
 
 pub mod adjusting; // adjusting.rt: a value in another zone, or in none
 pub mod casting; // casting.rt: which kind casts to which
 pub mod ordering; // ordering.rt: what a value is ordered by
-pub mod products; // products.rt: a duration times a whole number
-pub mod sums; // sums.rt: sums and differences by the kinds of both sides
 
 // What a call that compares answers.
 pub enum Compared {

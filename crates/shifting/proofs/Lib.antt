@@ -7,3 +7,4 @@ pub mod Lengths
 pub mod Given
 pub mod Valid
 pub mod Undo
+pub mod Reach

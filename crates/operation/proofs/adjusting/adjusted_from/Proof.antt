@@ -3,7 +3,7 @@ use Rattle.operation.proofs.Zones.{instant-span, local-span, adjusted-n
 use Rattle.value.proofs.Good.{timed}
 use native.Mathlib.Omega.{arith}
 use mathlib.Core.Path.{_≡_, _∙_}
-use Rattle.operation.proofs.Reach.{local-from}
+use Rattle.shifting.proofs.Reach.{local-from}
 use Rattle.shifting.proofs.Spanned.{part-of, seconds-of, span-at-ticks}
 use Rattle.operation.proofs.Zones.{own-zone}
 use borrow.Author.Needs.{needs}

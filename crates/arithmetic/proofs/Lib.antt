@@ -1,0 +1,4 @@
+pub mod Opposites
+pub mod Differences
+pub mod Validity
+pub mod Undoing

@@ -1,0 +1,88 @@
+// The call on the values that were read, and what it answers in words.
+use crate::One;
+use crate::Reply;
+use crate::Two;
+use crate::building::joined;
+use crate::building::nothing;
+use crate::building::with_text;
+use crate::numbers::with_number;
+use crate::parts;
+use operation::Compared;
+use value::Components;
+use value::Outcome;
+use value::Refusal;
+use value::Value;
+ghost use mathlib.Core.Path.{_≡_};
+ghost use Rattle.text.specs.Writing.{textOf};
+ghost use Rattle.value.specs.Components as components;
+ghost use Rattle.value.specs.Kinds as kinds;
+ghost use Rattle.operation.specs.Order as order;
+ghost use Rattle.calls.specs.Replies.{replyOf, refusedText};
+ghost use Rattle.calls.specs.Parts.{partsText};
+ghost use Rattle.calls.specs.Answers as the;
+
+pub fn refused(r: Refusal) -> Reply
+    ensures { λ s. ⌜ s ≡ replyOf (refusedText (r .number)) ⌝ }
+{
+    with_number(nothing(), b"refused\t", false, r.number as u32, 0)
+}
+
+// The text of a value.
+pub fn written(v: Value) -> Reply
+    ensures { λ r. ⌜ r ≡ replyOf (textOf v) ⌝ }
+{
+    with_text(nothing(), text::text_of(v))
+}
+
+pub fn value_said(a: Outcome) -> Reply
+    ensures { λ r. ⌜ r ≡ replyOf (the.said textOf (kinds.meaning a)) ⌝ }
+{
+    match a {
+        Outcome::Is(v) => written(v),
+        Outcome::Refused(r) => refused(r),
+    }
+}
+
+fn order_said(a: Compared) -> Reply
+    ensures { λ r. ⌜ r ≡ replyOf (the.said the.orderText (order.meaning a)) ⌝ }
+{
+    match a {
+        Compared::Less => joined(nothing(), b"lt"),
+        Compared::Equal => joined(nothing(), b"eq"),
+        Compared::Greater => joined(nothing(), b"gt"),
+        Compared::Refused(r) => refused(r),
+    }
+}
+
+fn components_said(a: Components) -> Reply
+    ensures { λ r. ⌜ r ≡ replyOf (the.said partsText (components.meaning a)) ⌝ }
+{
+    match a {
+        Components::Date(d, z) => parts::of_date(d, z),
+        Components::Time(c, z) => parts::of_time(c, z),
+        Components::DateTime(d, c, z) => parts::of_date_time(d, c, z),
+        Components::Duration(l) => parts::of_duration(l),
+        Components::Refused(r) => refused(r),
+    }
+}
+
+pub fn one_said(o: One, a: Value) -> Reply
+    ensures { λ r. ⌜ r ≡ replyOf (the.oneText o a) ⌝ }
+{
+    match o {
+        One::Read => written(a),
+        One::Unzone => value_said(operation::unzone(a)),
+        One::Components => components_said(value::parts::components(a)),
+    }
+}
+
+pub fn two_said(o: Two, a: Value, b: Value) -> Reply
+    ensures { λ r. ⌜ r ≡ replyOf (the.twoText o a b) ⌝ }
+{
+    match o {
+        Two::Compare => order_said(operation::compare(a, b)),
+        Two::Add => value_said(operation::plus(a, b)),
+        Two::Subtract => value_said(operation::minus(a, b)),
+        Two::Adjust => value_said(operation::adjust(a, b)),
+    }
+}

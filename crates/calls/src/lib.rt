@@ -1,0 +1,124 @@
+// One library call as a line of text, and the text of its answer (docs/LINES.md, "The calculator").
+use timetable::fields::field;
+use value::Kind;
+use value::Outcome;
+use value::Refusal;
+ghost use mathlib.Core.Path.{_≡_};
+ghost use lib.Dec.{leb};
+ghost use lib.ListN.{length};
+ghost use Rattle.calls.specs.Replies.{replyOf};
+ghost use Rattle.calls.specs.Answers as the;
+ghost use Rattle.calls.specs.declared.Form.the-variants as F;
+
+pub mod asking; // asking.rt: which call a line is
+mod building; // building.rt: a reply as it grows
+mod calling; // calling.rt: the call on the values that were read
+mod numbers; // numbers.rt: numbers with a sign
+mod parts; // parts.rt: the text of a value's components
+
+// The calls on one value.
+pub enum One {
+    Read,
+    Unzone,
+    Components,
+}
+
+// The calls on two values.
+pub enum Two {
+    Compare,
+    Add,
+    Subtract,
+    Adjust,
+}
+
+// Which call a line is, with the kinds that it names; its texts and its whole number stay in the line.
+pub enum Form {
+    No,
+    OfOne(One, Kind),
+    OfTwo(Two, Kind, Kind),
+    Product(Kind),
+    Cast(Kind, Kind),
+}
+
+// An input has at most so many bytes.
+pub const MAX_INPUT: usize = 65_536;
+
+// Every reply is shorter.
+pub const REPLY: usize = 192;
+
+// The text of an answer, and zeros after it.
+pub struct Reply {
+    pub bytes: [u8; REPLY],
+    pub len: usize,
+}
+
+fn one_call(line: &[u8], o: One, k: Kind) -> Reply
+    ensures { λ r. ⌜ r ≡ replyOf (the.textBy (now (line .entry)) (F.OfOne o k)) ⌝ }
+{
+    match text::read(k, field(line, 3)) {
+        Outcome::Refused(r) => calling::refused(r),
+        Outcome::Is(a) => calling::one_said(o, a),
+    }
+}
+
+fn two_call(line: &[u8], o: Two, k: Kind, l: Kind) -> Reply
+    ensures { λ r. ⌜ r ≡ replyOf (the.textBy (now (line .entry)) (F.OfTwo o k l)) ⌝ }
+{
+    match text::read(k, field(line, 3)) {
+        Outcome::Refused(r) => calling::refused(r),
+        Outcome::Is(a) => match text::read(l, field(line, 5)) {
+            Outcome::Refused(r) => calling::refused(r),
+            Outcome::Is(b) => calling::two_said(o, a, b),
+        },
+    }
+}
+
+fn product_call(line: &[u8], k: Kind) -> Reply
+    ensures { λ r. ⌜ r ≡ replyOf (the.textBy (now (line .entry)) (F.Product k)) ⌝ }
+{
+    match text::read(k, field(line, 3)) {
+        Outcome::Refused(r) => calling::refused(r),
+        Outcome::Is(a) => {
+            let n = asking::whole(field(line, 4));
+            calling::value_said(operation::times(a, n.negative, n.magnitude))
+        }
+    }
+}
+
+fn cast_call(line: &[u8], k: Kind, l: Kind) -> Reply
+    ensures { λ r. ⌜ r ≡ replyOf (the.textBy (now (line .entry)) (F.Cast k l)) ⌝ }
+{
+    match text::read(k, field(line, 3)) {
+        Outcome::Refused(r) => calling::refused(r),
+        Outcome::Is(a) => calling::value_said(operation::cast(a, l)),
+    }
+}
+
+// Whether an input is short enough to be answered line by line.
+pub fn takes(input: &[u8]) -> bool
+    ensures { λ r. ⌜ r ≡ leb (length (now (input .entry))) the.maxInput ⌝ }
+{
+    input.len() <= MAX_INPUT
+}
+
+// The answer to an input that is too long, and to a line that is no call.
+pub fn no_call() -> Reply
+    ensures { λ r. ⌜ r ≡ replyOf the.noCall ⌝ }
+{
+    calling::refused(Refusal {
+        number: Refusal::BAD_CONDITION,
+    })
+}
+
+// The answer to a line without its byte 10.
+pub fn answer(line: &[u8]) -> Reply
+    ensures { λ r. ⌜ r ≡ replyOf (the.answerOf (now (line .entry))) ⌝ }
+{
+    match asking::form(line) {
+        Form::No => no_call(),
+        Form::OfOne(o, k) => one_call(line, o, k),
+        Form::OfTwo(o, k, l) => two_call(line, o, k, l),
+        Form::Product(k) => product_call(line, k),
+        Form::Cast(k, l) => cast_call(line, k, l),
+    }
+}

@@ -1,0 +1,233 @@
+-- Kinds are settled by the text alone: of an accepted condition the result at any line is hit, miss, or unreadable with 1, 2, 3,
+-- 4 or 6. A tree whose kinds fit gives a valid value of its kind, a truth value where it is one, or one of those numbers.
+use mathlib.Core.Path.{_≡_, refl, sym, ap, subst, _∙_}
+use mathlib.Core.Bool.{Bool, true, false}
+use mathlib.Core.List.{List}
+use Prim.Native.Nat.{ℕ, _<_, _≤_}
+use native.Mathlib.Omega.{arith}
+use Rattle.basis.specs.Choice.{pick}
+use Rattle.basis.specs.Answer.{Answer, gives, refuses}
+use Rattle.value.specs.Kinds.{kindOf, okValue}
+use Rattle.value.specs.Ticks.{utc}
+use Rattle.value.specs.declared.Kind.{Kind}
+use Rattle.value.specs.declared.Kind.the-variants as K
+use Rattle.value.specs.declared.Value.{Value}
+use Rattle.timetable.specs.Fields.{hasField, fieldAt}
+use Rattle.layouts.proofs.Valid.{Valid}
+use Rattle.text.specs.Reading.{readAs}
+use Rattle.text.proofs.RoundTrip.{what-reads-is-valid}
+use Rattle.shifting.specs.Operands.{sameKind}
+use Rattle.operation.specs.Order.{Order, orderIn}
+use Rattle.arithmetic.specs.Sums.{plusOf, minusIn}
+use Rattle.arithmetic.specs.Products.{timesOf}
+use Rattle.operation.specs.Casts.{castsTo, castOf}
+use Rattle.arithmetic.proofs.Validity.{plus-within, minus-within, times-within}
+use Rattle.operation.proofs.Validity.{cast-within}
+use Rattle.words.specs.Runs.{between}
+use Rattle.words.specs.declared.Op.{Op}
+use Rattle.words.specs.declared.Op.the-variants as O
+use Rattle.results.specs.Sorts.{moment, takes, comparedKinds, addedKinds, lessKinds, kindsOf, joins, sortTwo, sortCast, sortTimes}
+use Rattle.results.specs.Data.{Datum, value, truth, valued, tested, ofValues, applied, settles, onto, joined, castDatum, timesDatum}
+use Rattle.results.specs.Givens.{readField}
+use Rattle.results.specs.declared.Sort.{Sort}
+use Rattle.results.specs.declared.Sort.the-variants as S
+use Rattle.results.proofs.Numbers.{atLine, Only, read-only}
+use Rattle.results.proofs.Settled.{Fits, FitsSort, plus-settled, minus-settled, order-settled, times-settled, cast-settled}
+use Rattle.condition.specs.Grammar.{Parsed, none, got}
+use Rattle.condition.specs.Trees.{Tree, leaf, one, two, literal, field, cast, times, parse, sortOf, eval}
+use Rattle.condition.specs.Condition.{accepted, Result, hit, miss, unreadable, shown, ofTree, resultAt}
+use Rattle.condition.proofs.Accepted.{Stated, accepted-stated}
+use Rattle.condition.proofs.Keeps.{All, Bounded, parse-bounded}
+
+-- what a part of a sort may give
+abbrev Typed : Sort → Answer Datum → Type 0
+Typed x (gives (value v)) = (x ≡ S.Of (kindOf v)) × (okValue v ≡ true)
+Typed x (gives (truth b)) = x ≡ S.Truth
+Typed x (refuses n) = atLine n ≡ true
+
+differ : {A : Type 0} (k : Kind) → S.Truth ≡ S.Of k → A
+differ k e = let z : _≡_ {A = ℕ} 0 1 = cc in absurd (omega arith)
+
+-- a value that was answered
+fits-typed : (k : Kind) (r : Answer Value) → Fits k r → ((v : Value) → r ≡ gives v → okValue v ≡ true) → Typed (S.Of k) (valued r)
+fits-typed k (gives v) f w = (ap S.Of (sym f), w v refl)
+fits-typed k (refuses n) f w = ap atLine f
+
+sort-typed : (x : Sort) (r : Answer Value) → (x ≡ S.Clash → ⊥) → (x ≡ S.Truth → ⊥) → FitsSort x r → ((v : Value) → r ≡ gives v → okValue v ≡ true) → Typed x (valued r)
+sort-typed S.Clash r n m f w = absurd (n refl)
+sort-typed S.Truth r n m f w = absurd (m refl)
+sort-typed (S.Of k) r n m f w = fits-typed k r f w
+
+-- literals and fields
+read-typed : (k : Kind) (r : Answer Value) → Only r → ((v : Value) → r ≡ gives v → Valid k v) → Typed (S.Of k) (valued r)
+read-typed k (gives v) h w = (ap S.Of (sym (w v refl .kind)), w v refl .ok)
+read-typed k (refuses n) h w = h
+
+text-typed : (k : Kind) (s : List ℕ) → Typed (S.Of k) (valued (readAs k s))
+text-typed k s = read-typed k (readAs k s) (read-only k s) (what-reads-is-valid k s)
+
+field-typed : (k : Kind) (line : List ℕ) (n : ℕ) → Typed (S.Of k) (valued (readField k line n))
+unfolding readField
+field-typed k line n = by (hasField line n)
+  where
+    by : (b : Bool) → Typed (S.Of k) (valued (pick b (readAs k (fieldAt line n)) (refuses 6)))
+    by true = text-typed k (fieldAt line n)
+    by false = refl
+
+-- no sum, difference or product is a truth value
+no-truth : (b : Bool) (x y : Sort) → (x ≡ S.Truth → ⊥) → (y ≡ S.Truth → ⊥) → pick b x y ≡ S.Truth → ⊥
+no-truth true x y p q = p
+no-truth false x y p q = q
+
+kind-no-truth : (k : Kind) → S.Of k ≡ S.Truth → ⊥
+kind-no-truth k e = differ k (sym e)
+
+clash-no-truth : S.Clash ≡ S.Truth → ⊥
+clash-no-truth e = let z : _≡_ {A = ℕ} 0 1 = cc in omega arith
+
+added-no-truth : (j k : Kind) → addedKinds j k ≡ S.Truth → ⊥
+unfolding addedKinds
+added-no-truth j k = no-truth (takes j k) _ _ (kind-no-truth j)
+    (no-truth (takes k j) _ _ (kind-no-truth k) (no-truth (moment j) _ _ clash-no-truth (no-truth (sameKind j k) _ _ (kind-no-truth j) clash-no-truth)))
+
+less-no-truth : (j k : Kind) → lessKinds j k ≡ S.Truth → ⊥
+unfolding lessKinds
+less-no-truth j k = no-truth (takes j k) _ _ (kind-no-truth j)
+    (no-truth (sameKind j k) _ _ (no-truth (moment j) _ _ (kind-no-truth K.DayTimeDuration) (kind-no-truth j)) clash-no-truth)
+
+times-no-truth : (k : Kind) → sortTimes (S.Of k) ≡ S.Truth → ⊥
+times-no-truth k = no-truth (moment k) _ _ clash-no-truth (kind-no-truth k)
+
+-- one part below
+cast-value : (k : Kind) (v : Value) → okValue v ≡ true → (sortCast k (S.Of (kindOf v)) ≡ S.Clash → ⊥) → Typed (sortCast k (S.Of (kindOf v))) (valued (castOf v k))
+cast-value k v p n = by (castsTo (kindOf v) k) refl n
+  where
+    by : (b : Bool) → castsTo (kindOf v) k ≡ b → (pick b (S.Of k) S.Clash ≡ S.Clash → ⊥) → Typed (pick b (S.Of k) S.Clash) (valued (castOf v k))
+    by true e m = fits-typed k (castOf v k) (cast-settled v p k e) (cast-within v k)
+    by false e m = absurd (m refl)
+
+cast-typed : (k : Kind) (x : Sort) (a : Answer Datum) → (sortCast k x ≡ S.Clash → ⊥) → Typed x a → Typed (sortCast k x) (onto a (castDatum k))
+unfolding onto
+cast-typed k x (gives (value v)) n h = subst (λ y. (sortCast k y ≡ S.Clash → ⊥) → Typed (sortCast k y) (valued (castOf v k))) (sym (h .0)) (cast-value k v (h .1)) n
+cast-typed k x (gives (truth b)) n h = absurd (n (ap (sortCast k) h))
+cast-typed k x (refuses m) n h = h
+
+times-typed : (b : Bool) (v : ℕ) (x : Sort) (a : Answer Datum) → v < 1000000 → (sortTimes x ≡ S.Clash → ⊥) → Typed x a → Typed (sortTimes x) (onto a (timesDatum b v))
+unfolding onto
+times-typed b v x (gives (value u)) l n h = subst (λ y. (sortTimes y ≡ S.Clash → ⊥) → Typed (sortTimes y) (valued (timesOf u b v))) (sym (h .0))
+    (λ m. sort-typed (sortTimes (S.Of (kindOf u))) (timesOf u b v) m (times-no-truth (kindOf u)) (times-settled u (h .1) b v (omega arith)) (times-within u b v)) n
+times-typed b v x (gives (truth c)) l n h = absurd (n (ap sortTimes h))
+times-typed b v x (refuses m) l n h = h
+
+-- two parts
+compared-typed : (o : Op) (v w : Value) → okValue v ≡ true → okValue w ≡ true → (comparedKinds (kindOf v) (kindOf w) ≡ S.Clash → ⊥) →
+    Typed (comparedKinds (kindOf v) (kindOf w)) (tested o (orderIn utc v w))
+unfolding comparedKinds
+compared-typed o v w p q n = by (sameKind (kindOf v) (kindOf w)) refl n
+  where
+    by : (b : Bool) → sameKind (kindOf v) (kindOf w) ≡ b → (pick b S.Truth S.Clash ≡ S.Clash → ⊥) → Typed (pick b S.Truth S.Clash) (tested o (orderIn utc v w))
+    by true e m = rw (order-settled v p w q utc e) refl
+    by false e m = absurd (m refl)
+
+values-typed : (o : Op) (v w : Value) → okValue v ≡ true → okValue w ≡ true → (kindsOf o (kindOf v) (kindOf w) ≡ S.Clash → ⊥) → Typed (kindsOf o (kindOf v) (kindOf w)) (ofValues o v w)
+values-typed O.Or v w p q n = absurd (n refl)
+values-typed O.And v w p q n = absurd (n refl)
+values-typed O.Eq v w p q n = compared-typed O.Eq v w p q n
+values-typed O.Ne v w p q n = compared-typed O.Ne v w p q n
+values-typed O.Lt v w p q n = compared-typed O.Lt v w p q n
+values-typed O.Le v w p q n = compared-typed O.Le v w p q n
+values-typed O.Gt v w p q n = compared-typed O.Gt v w p q n
+values-typed O.Ge v w p q n = compared-typed O.Ge v w p q n
+values-typed O.Plus v w p q n =
+    sort-typed (addedKinds (kindOf v) (kindOf w)) (plusOf v w) n (added-no-truth (kindOf v) (kindOf w)) (plus-settled v p w q) (plus-within v w)
+values-typed O.Minus v w p q n =
+    sort-typed (lessKinds (kindOf v) (kindOf w)) (minusIn utc v w) n (less-no-truth (kindOf v) (kindOf w)) (minus-settled v p w q utc) (minus-within utc v w)
+
+right-clash : (o : Op) (x : Sort) → sortTwo o x S.Clash ≡ S.Clash
+right-clash o S.Clash = refl
+right-clash o S.Truth = refl
+right-clash o (S.Of k) = refl
+
+-- right of a truth value whose sorts fit all is a truth value
+truth-left : (o : Op) (y : Sort) → (sortTwo o S.Truth y ≡ S.Clash → ⊥) → sortTwo o S.Truth y ≡ S.Truth
+truth-left o S.Clash n = absurd (n refl)
+truth-left o S.Truth n = by (joins o) n
+  where
+    by : (b : Bool) → (pick b S.Truth S.Clash ≡ S.Clash → ⊥) → pick b S.Truth S.Clash ≡ S.Truth
+    by true m = refl
+    by false m = absurd (m refl)
+truth-left o (S.Of k) n = absurd (n refl)
+
+joined-truths : (o : Op) (z u : Bool) (y : Sort) → y ≡ S.Truth → (sortTwo o S.Truth y ≡ S.Clash → ⊥) → Typed (sortTwo o S.Truth y) (applied o (truth z) (truth u))
+joined-truths o z u y e n = subst (λ y. (sortTwo o S.Truth y ≡ S.Clash → ⊥) → Typed (sortTwo o S.Truth y) (applied o (truth z) (truth u))) (sym e) (λ m. by (joins o) m) n
+  where
+    by : (b : Bool) → (pick b S.Truth S.Clash ≡ S.Clash → ⊥) → Typed (pick b S.Truth S.Clash) (pick b (gives (truth u)) (refuses 9))
+    by true m = refl
+    by false m = absurd (m refl)
+
+after-truth : (o : Op) (z : Bool) (y : Sort) (b : Answer Datum) → (sortTwo o S.Truth y ≡ S.Clash → ⊥) → Typed y b → Typed (sortTwo o S.Truth y) (onto b (applied o (truth z)))
+unfolding onto
+after-truth o z y (gives (value w)) n h = absurd (n (ap (sortTwo o S.Truth) (h .0)))
+after-truth o z y (gives (truth u)) n h = joined-truths o z u y h n
+after-truth o z y (refuses m) n h = h
+
+settled-typed : (o : Op) (z : Bool) (y : Sort) (b : Answer Datum) (c : Bool) → (sortTwo o S.Truth y ≡ S.Clash → ⊥) → Typed y b →
+    Typed (sortTwo o S.Truth y) (pick c (gives (truth z)) (onto b (applied o (truth z))))
+settled-typed o z y b true n h = truth-left o y n
+settled-typed o z y b false n h = after-truth o z y b n h
+
+after-value : (o : Op) (v : Value) (y : Sort) (b : Answer Datum) → okValue v ≡ true → (sortTwo o (S.Of (kindOf v)) y ≡ S.Clash → ⊥) → Typed y b →
+    Typed (sortTwo o (S.Of (kindOf v)) y) (onto b (applied o (value v)))
+unfolding onto
+after-value o v y (gives (value w)) p n h =
+    subst (λ y. (sortTwo o (S.Of (kindOf v)) y ≡ S.Clash → ⊥) → Typed (sortTwo o (S.Of (kindOf v)) y) (ofValues o v w)) (sym (h .0)) (λ m. values-typed o v w p (h .1) m) n
+after-value o v y (gives (truth u)) p n h = absurd (n (ap (sortTwo o (S.Of (kindOf v))) h))
+after-value o v y (refuses m) p n h = h
+
+two-typed : (o : Op) (x y : Sort) (a b : Answer Datum) → (sortTwo o x y ≡ S.Clash → ⊥) → Typed x a → Typed y b → Typed (sortTwo o x y) (joined o a b)
+unfolding joined onto
+two-typed o x y (gives (value v)) b n h i =
+    subst (λ x. (sortTwo o x y ≡ S.Clash → ⊥) → Typed (sortTwo o x y) (onto b (applied o (value v)))) (sym (h .0)) (λ m. after-value o v y b (h .1) m i) n
+two-typed o x y (gives (truth z)) b n h i =
+    subst (λ x. (sortTwo o x y ≡ S.Clash → ⊥) → Typed (sortTwo o x y) (pick (settles o z) (gives (truth z)) (onto b (applied o (truth z))))) (sym h)
+    (λ m. settled-typed o z y b (settles o z) m i) n
+two-typed o x y (refuses m) b n h i = h
+
+-- a tree whose kinds fit
+tree-typed : (s line : List ℕ) (t : Tree) → Bounded t → (sortOf t ≡ S.Clash → ⊥) → Typed (sortOf t) (eval s line t)
+unfolding sortOf eval
+tree-typed s line (leaf k w (literal from to)) g n = text-typed k (between s from to)
+tree-typed s line (leaf k w (field i p)) g n = field-typed k line i
+tree-typed s line (one (cast k) p t) g n = cast-typed k (sortOf t) (eval s line t) n (tree-typed s line t g (λ e. n (ap (sortCast k) e)))
+tree-typed s line (one (times b v) p t) g n = times-typed b v (sortOf t) (eval s line t) (g .0) n (tree-typed s line t (g .1) (λ e. n (ap sortTimes e)))
+tree-typed s line (two o b p l r) g n = two-typed o (sortOf l) (sortOf r) (eval s line l) (eval s line r) n
+    (tree-typed s line l (g .0) (λ e. n (ap (λ x. sortTwo o x (sortOf r)) e)))
+    (tree-typed s line r (g .1) (λ e. n (ap (sortTwo o (sortOf l)) e ∙ right-clash o (sortOf l))))
+
+-- hit, miss, or unreadable with a number that a line can have
+abbrev pub Readable : Result → Type 0
+Readable hit = Unit {0}
+Readable miss = Unit {0}
+Readable (unreadable n) = atLine n ≡ true
+
+shown-readable : (a : Answer Datum) → Typed S.Truth a → Readable (shown a)
+unfolding shown
+shown-readable (gives (value v)) h = differ (kindOf v) (h .0)
+shown-readable (gives (truth true)) h = tt
+shown-readable (gives (truth false)) h = tt
+shown-readable (refuses n) h = h
+
+clash-no : (t : Tree) → sortOf t ≡ S.Truth → sortOf t ≡ S.Clash → ⊥
+clash-no t e f = clash-no-truth (sym f ∙ e)
+
+stated-readable : (s line : List ℕ) (p : Parsed Tree) → Stated s p → All Bounded p → Readable (ofTree s line p)
+unfolding ofTree All
+stated-readable s line none h g = let z : _≡_ {A = ℕ} 0 1 = cc (h .stated) in absurd (omega arith)
+stated-readable s line (got t n) h g =
+    let e : h .tree ≡ t = cc (h .stated) in
+    let f : sortOf t ≡ S.Truth = ap sortOf (sym e) ∙ h .is-truth in
+    shown-readable (eval s line t) (subst (λ x. Typed x (eval s line t)) f (tree-typed s line t g (clash-no t f)))
+
+pub accepted-readable : (s line : List ℕ) → accepted s ≡ true → Readable (resultAt s line)
+unfolding resultAt
+accepted-readable s line h = stated-readable s line (parse s) (accepted-stated s h) (parse-bounded s)

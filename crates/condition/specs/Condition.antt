@@ -1,0 +1,90 @@
+-- Document 01, "Conditions" and "Refusal numbers": which texts Open accepts, "7 by length, 8, 7 by grammar, 9, the leftmost
+-- bad literal's own number", and the result of an accepted condition at a line.
+use Prim.Native.Nat.{ℕ}
+use mathlib.Core.Bool.{Bool, true, false}
+use mathlib.Core.List.{List}
+use lib.ListN.{length}
+use lib.Dec.{leb}
+use Rattle.basis.specs.Choice.{pick, both}
+use Rattle.basis.specs.Answer.{Answer, gives, refuses}
+use Rattle.value.specs.Refusals.{badCondition, tooDeep, wrongKind}
+use Rattle.words.specs.Depth.{deep}
+use Rattle.results.specs.Data.{Datum, value, truth}
+use Rattle.results.specs.declared.Sort.{Sort}
+use Rattle.results.specs.declared.Sort.the-variants as S
+use Rattle.condition.specs.Grammar.{Parsed, none, got}
+use Rattle.condition.specs.Trees.{Tree, parse, sortOf, firstBad, eval}
+use Rattle.condition.specs.declared.Checked.{Checked}
+use Rattle.condition.specs.declared.Checked.the-variants as C
+use Rattle.condition.specs.declared.Judged.{Judged}
+use Rattle.condition.specs.declared.Judged.the-variants as J
+
+-- "Length 1 to 240 bytes."
+abbrev pub minLength : ℕ
+minLength = 1
+
+abbrev pub maxLength : ℕ
+maxLength = 240
+
+-- whether an answer is no refusal
+unfoldable pub passes : Answer (Unit {0}) → Bool
+passes (gives x) = true
+passes (refuses n) = false
+
+-- "the whole condition need[s] truth values"
+unfoldable pub bySort : Sort → Answer (Unit {0}) → Answer (Unit {0})
+bySort S.Truth literals = literals
+bySort S.Clash literals = refuses wrongKind
+bySort (S.Of k) literals = refuses wrongKind
+
+unfoldable pub byTree : List ℕ → Parsed Tree → Answer (Unit {0})
+byTree s none = refuses badCondition
+byTree s (got t n) = bySort (sortOf t) (firstBad s t)
+
+unfoldable pub checkOf : List ℕ → Answer (Unit {0})
+checkOf s =
+    pick (both (leb minLength (length s)) (leb (length s) maxLength)) (pick (deep s) (refuses tooDeep) (byTree s (parse s))) (refuses badCondition)
+
+-- what an answer says: that the condition is accepted, or the number of a refusal
+abbrev pub checked : Checked → Answer (Unit {0})
+checked C.Accepted = gives tt
+checked (C.Refused r) = refuses (r .number)
+
+-- a condition that passes Open's checks
+unfoldable pub accepted : List ℕ → Bool
+accepted s = passes (checkOf s)
+
+-- a line's result: "Hit, Miss or Unreadable (with a number)"
+pub data Result : Type 0 where
+  hit : Result
+  miss : Result
+  unreadable : ℕ → Result
+
+-- "A refusal in an evaluated part is the line's result." No accepted condition gives a value.
+unfoldable pub shown : Answer Datum → Result
+shown (gives (value v)) = unreadable wrongKind
+shown (gives (truth x)) = pick x hit miss
+shown (refuses n) = unreadable n
+
+unfoldable pub ofTree : List ℕ → List ℕ → Parsed Tree → Result
+ofTree s line none = unreadable badCondition
+ofTree s line (got t n) = shown (eval s line t)
+
+-- the result of an accepted condition at a line
+unfoldable pub resultAt : List ℕ → List ℕ → Result
+resultAt s line = ofTree s line (parse s)
+
+-- the result of any text at a line: Open's number where the text is not accepted
+unfoldable pub ifAccepted : Answer (Unit {0}) → Result → Answer Result
+ifAccepted (gives x) v = gives v
+ifAccepted (refuses n) v = refuses n
+
+unfoldable pub resultOf : List ℕ → List ℕ → Answer Result
+resultOf s line = ifAccepted (checkOf s) (resultAt s line)
+
+-- what an answer says: the line's result, or Open's number
+abbrev pub judged : Judged → Answer Result
+judged J.Hit = gives hit
+judged J.Miss = gives miss
+judged (J.Unreadable r) = gives (unreadable (r .number))
+judged (J.Refused r) = refuses (r .number)

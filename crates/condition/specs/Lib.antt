@@ -1,0 +1,4 @@
+pub mod Grammar
+pub mod Trees
+pub mod Condition
+pub mod Reading

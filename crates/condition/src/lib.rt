@@ -1,0 +1,129 @@
+// Conditions: which texts are accepted, and the result of a condition at a line (document 01, "Conditions").
+use results::Given;
+use results::Mode;
+use results::Part;
+use results::Sort;
+use value::Refusal;
+use words::depth::too_deep;
+ghost use mathlib.Core.Path.{_≡_};
+ghost use mathlib.Core.Bool.{true};
+ghost use Rattle.condition.specs.Condition.{checked, checkOf, accepted, resultAt, resultOf, judged, bySort};
+ghost use Rattle.basis.specs.Answer.{gives, refuses};
+ghost use Rattle.condition.specs.Reading.{literals, resulting};
+
+mod reading; // reading.rt: the readers of a condition, which call one another
+
+// Whether a condition's text is accepted.
+pub enum Checked {
+    Accepted,
+    Refused(Refusal),
+}
+
+// The result of a condition at a line; Refused where its text is not accepted.
+pub enum Judged {
+    Hit,
+    Miss,
+    Unreadable(Refusal),
+    Refused(Refusal),
+}
+
+// What was read, and where its text ends.
+pub enum Read {
+    Bad,
+    Got(Part, usize),
+}
+
+// The least and the greatest length of a condition's text.
+const MIN_LENGTH: usize = 1;
+
+const MAX_LENGTH: usize = 240;
+
+fn refused(number: u8) -> Checked
+    ensures { λ r. ⌜ checked r ≡ refuses number ⌝ }
+{
+    Checked::Refused(Refusal { number })
+}
+
+// Kinds come before literals.
+fn check_part(part: Part) -> Checked
+    ensures { λ r. ⌜ checked r ≡ bySort (part .sort) (literals (part .given)) ⌝ }
+{
+    let sort = part.sort;
+    let given = part.given;
+    match sort {
+        Sort::Clash => refused(Refusal::WRONG_KIND),
+        Sort::Of(_) => refused(Refusal::WRONG_KIND),
+        Sort::Truth => match given {
+            Given::Nothing => Checked::Accepted,
+            Given::Is(_) => Checked::Accepted,
+            Given::Truth(_) => Checked::Accepted,
+            Given::Refused(r) => Checked::Refused(r),
+        },
+    }
+}
+
+// Open's checks of a condition: 7 by length, 8, 7 by grammar, 9, the leftmost bad literal's own number.
+pub fn check(text: &[u8]) -> Checked
+    ensures { λ r. ⌜ checked r ≡ checkOf (now (text .entry)) ⌝ }
+{
+    if text.len() < MIN_LENGTH {
+        return refused(Refusal::BAD_CONDITION);
+    }
+    if MAX_LENGTH < text.len() {
+        return refused(Refusal::BAD_CONDITION);
+    }
+    if too_deep(text) {
+        return refused(Refusal::TOO_DEEP);
+    }
+    match reading::whole(text, text, Mode::Check) {
+        Read::Bad => refused(Refusal::BAD_CONDITION),
+        Read::Got(part, _) => check_part(part),
+    }
+}
+
+// What an evaluated condition says of its line.
+fn judged_of(given: Given) -> Judged
+    ensures { λ r. ⌜ judged r ≡ gives (resulting given) ⌝ }
+{
+    match given {
+        Given::Nothing => Judged::Unreadable(Refusal {
+            number: Refusal::WRONG_KIND,
+        }),
+        Given::Is(_) => Judged::Unreadable(Refusal {
+            number: Refusal::WRONG_KIND,
+        }),
+        Given::Truth(x) => {
+            if x {
+                return Judged::Hit;
+            }
+            Judged::Miss
+        }
+        Given::Refused(r) => Judged::Unreadable(r),
+    }
+}
+
+// The result at a line of a condition that was accepted before.
+pub fn judge(text: &[u8], line: &[u8]) -> Judged
+    requires { ⌜ accepted (now text) ≡ true ⌝ }
+    ensures { λ r. ⌜ judged r ≡ gives (resultAt (now (text .entry)) (now (line .entry))) ⌝ }
+{
+    match reading::whole(text, line, Mode::Live) {
+        Read::Bad => Judged::Unreadable(Refusal {
+            number: Refusal::BAD_CONDITION,
+        }),
+        Read::Got(part, _) => {
+            let given = part.given;
+            judged_of(given)
+        }
+    }
+}
+
+// The result of any text at any line; Open's number for a text that is not accepted.
+pub fn result(text: &[u8], line: &[u8]) -> Judged
+    ensures { λ r. ⌜ judged r ≡ resultOf (now (text .entry)) (now (line .entry)) ⌝ }
+{
+    match check(text) {
+        Checked::Refused(r) => Judged::Refused(r),
+        Checked::Accepted => judge(text, line),
+    }
+}

@@ -1,0 +1,34 @@
+use borrow.Author.Tests.{lt-ltb, le-ltb, le-leb, lt-leb, eq-eqb, ne-eqb}
+use native.Mathlib.Omega.{arith}
+use mathlib.Core.Path.{_≡_, refl, sym, ap, _∙_}
+use Prim.Native.Nat.{ℕ, _<_, _≤_, _+_, _%_}
+use Rattle.basis.proofs.Tests.{no, yes}
+use Rattle.desk.specs.Desk.{turnOf}
+use borrow.Author.Needs.{needs}
+use Rattle.desk.proofs.Desk.turn.Statement.{statement}
+use Rattle.desk.proofs.Desk.turn.Tie as tie
+use Rattle.desk.proofs.Desk.turn.Reads as reads
+use Rattle.desk.proofs.Desk.turn.Lts as lts
+use Rattle.desk.proofs.Desk.next.Reads as next-reads
+use Rattle.desk.proofs.Desk.sound.Reads as sound-reads
+
+sound-requires : tie.Need-sound-requires
+sound-requires c κs = search needs
+
+returns : tie.Need-returns
+unfolding turnOf
+returns c = simp (no (c .before .sound .ensures) (c .if1 .taken))
+
+returns-2 : tie.Need-returns-2
+unfolding turnOf
+returns-2 c = simp (yes (c .before .before .before .sound .ensures) (c .before .before .if1 .left), ne-eqb _ _ (c .if2 .taken))
+
+next-requires : tie.Need-next-requires
+next-requires c κs = (yes (c .before .before .before .sound .ensures) (c .before .before .if1 .left), c .if2 .left)
+
+returns-3 : tie.Need-returns-3
+unfolding turnOf
+returns-3 c = c .next .ensures ∙ sym (simp (yes (c .before .before .before .before .sound .ensures) (c .before .before .before .if1 .left), eq-eqb _ _ (c .before .if2 .left)))
+
+pub turn-spec : {M : Type 1} → statement M
+turn-spec = tie.close (tie.spec sound-requires returns returns-2 next-requires returns-3)

@@ -1,0 +1,115 @@
+-- Document 01, "Timetable, seats and turns": a fresh desk, Open, Close and Turn, with the orders of "Refusal numbers".
+-- A refused call hands back the desk it got.
+use mathlib.Core.Bool.{true, false}
+use mathlib.Core.List.{List}
+use Prim.Native.Nat.{ℕ, _+_, _-_, _%_}
+use lib.Dec.{ltb, leb, eqb}
+use lib.ListN.{length, set, replicate}
+use Rattle.basis.specs.Choice.{pick}
+use Rattle.basis.specs.Answer.{Answer, gives, refuses}
+use Rattle.value.specs.Refusals.{noSeat, wrongTimetable, notSound, noTicket, noMoreTickets}
+use Rattle.desk.specs.Bounds.{seatCount, maxTimetable, lastTicket}
+use Rattle.desk.specs.Query.{checkOf}
+use Rattle.desk.specs.Answers.{After, Turned, idle}
+use Rattle.desk.specs.Seats.{freeSeat, seatFor, seatAt, firstFrom, placeOf}
+use Rattle.desk.specs.Soundness.{soundOf}
+use Rattle.desk.specs.Serving.{Step, serveOf}
+use Rattle.desk.specs.declared.Seat.{Seat}
+use Rattle.desk.specs.declared.Desk.{Desk}
+
+-- the desk as it was, and a refusal
+abbrev pub refused : {A : Type 0} → Desk → ℕ → After A
+refused d n = record { desk = d; answer = refuses n }
+
+-- ---- a fresh desk
+
+-- all seats free, and the last one counts as last served
+abbrev pub freshDesk : ℕ → Desk
+freshDesk long =
+    record { seats = replicate seatCount freeSeat; «last_served» = seatCount - 1; «timetable_length» = long; issued = 0 }
+
+-- "a refused fresh desk is no desk": one fixed record that is not sound
+abbrev pub noDesk : Desk
+noDesk = record { seats = replicate seatCount freeSeat; «last_served» = seatCount; «timetable_length» = 0; issued = 0 }
+
+unfoldable pub freshOf : ℕ → After (Unit {0})
+freshOf long =
+    pick (leb long maxTimetable) (record { desk = freshDesk long; answer = gives tt }) (refused noDesk wrongTimetable)
+
+-- ---- open: 12, the number of the condition, 10, 14
+
+-- the next ticket's query at a place
+abbrev pub seated : List ℕ → Desk → ℕ → Desk
+seated text d i =
+    record {
+      seats = set (d .seats) i (seatFor (d .issued + 1) text);
+      «last_served» = d .«last_served»;
+      «timetable_length» = d .«timetable_length»;
+      issued = d .issued + 1;
+    }
+
+-- after the checks of the condition: the lowest free seat, and the next ticket
+abbrev pub openChecked : List ℕ → Desk → Answer (Unit {0}) → After ℕ
+openChecked text d (gives _) =
+    pick (ltb (firstFrom d false 0) seatCount)
+    (pick (ltb (d .issued) lastTicket)
+    (record { desk = seated text d (firstFrom d false 0); answer = gives (d .issued + 1) })
+    (refused d noMoreTickets))
+    (refused d noSeat)
+openChecked text d (refuses n) = refused d n
+
+unfoldable pub openOf : List ℕ → Desk → After ℕ
+openOf text d = pick (soundOf d) (openChecked text d (checkOf text)) (refused d notSound)
+
+-- ---- close: 12, 13
+
+-- the desk with the seat at a place free again
+abbrev pub freed : Desk → ℕ → Desk
+freed d i =
+    record {
+      seats = set (d .seats) i freeSeat;
+      «last_served» = d .«last_served»;
+      «timetable_length» = d .«timetable_length»;
+      issued = d .issued;
+    }
+
+unfoldable pub closeOf : ℕ → Desk → After (Unit {0})
+closeOf ticket d =
+    pick (soundOf d)
+    (pick (ltb (placeOf d ticket) seatCount)
+    (record { desk = freed d (placeOf d ticket); answer = gives tt })
+    (refused d noTicket))
+    (refused d notSound)
+
+-- ---- turn: 12, 11, then the first held seat after the last served, going round, or Idle
+
+-- a place was served, and becomes last served
+abbrev pub afterStep : Desk → ℕ → Step → After Turned
+afterStep d i s =
+    record {
+      desk =
+          record {
+            seats = set (d .seats) i (s .seat);
+            «last_served» = i;
+            «timetable_length» = d .«timetable_length»;
+            issued = d .issued;
+          };
+      answer = gives (s .answer);
+    }
+
+-- j is the place found, counted on past the last one: 17 after the last served where no seat is held
+abbrev pub turnAt : List ℕ → Desk → ℕ → After Turned
+turnAt t d j =
+    pick (ltb j (d .«last_served» + 1 + seatCount))
+    (afterStep d (j % seatCount) (serveOf t (seatAt d (j % seatCount))))
+    (record { desk = d; answer = gives idle })
+
+-- the turn of a sound desk over a timetable of its length
+unfoldable pub nextOf : List ℕ → Desk → After Turned
+nextOf t d = turnAt t d (firstFrom d true (d .«last_served» + 1))
+
+unfoldable pub turnOf : List ℕ → Desk → After Turned
+turnOf t d =
+    pick (soundOf d)
+    (pick (eqb (length t) (d .«timetable_length»)) (nextOf t d) (refused d wrongTimetable))
+    (refused d notSound)

@@ -1,0 +1,346 @@
+// The desk: sixteen seats, open, close and turn (document 01, "Timetable, seats and turns"). Every call takes the desk by
+// value and hands the next one back beside its answer; a refused call hands back the desk it got.
+use condition::Checked;
+use value::Refusal;
+ghost use mathlib.Core.Path.{_≡_};
+ghost use mathlib.Core.Bool.{true, false};
+ghost use Prim.Native.Nat.{ℕ, _+_, _≤_, _<_};
+ghost use lib.ListN.{length};
+ghost use Rattle.desk.specs.Bounds.{seatCount};
+ghost use Rattle.desk.specs.Seats.{firstFrom, placeOf};
+ghost use Rattle.desk.specs.Soundness.{placeSound, soundOf};
+ghost use Rattle.desk.specs.Desk.{freshOf, openOf, closeOf, turnOf, nextOf};
+ghost use Rattle.desk.specs.Answers.{openMeaning, closeMeaning, turnMeaning, afterFresh, afterOpen, afterClose, afterTurn};
+
+pub mod bounds; // bounds.rt: each constant is the number of the definitions
+mod seats; // seats.rt: one seat by itself
+
+// A seat. Where it is not held, every field is zero.
+pub struct Seat {
+    pub held: bool,
+    pub ticket: u32,
+    pub offset: usize,
+    pub hits: usize,
+    pub unreadable: usize,
+    pub condition_length: usize,
+    pub condition: [u8; Seat::ROOM],
+}
+
+pub struct Desk {
+    pub seats: [Seat; Desk::SEATS],
+    pub last_served: usize,
+    pub timetable_length: usize,
+    pub issued: u32,
+}
+
+// Whose answer it is, and at which line.
+pub struct At {
+    pub ticket: u32,
+    pub offset: usize,
+}
+
+// The two counts of a query that is done.
+pub struct Totals {
+    pub ticket: u32,
+    pub hits: usize,
+    pub unreadable: usize,
+}
+
+pub enum FreshAnswer {
+    Made,
+    Refused(Refusal),
+}
+
+pub enum OpenAnswer {
+    Ticket(u32),
+    Refused(Refusal),
+}
+
+pub enum CloseAnswer {
+    Freed,
+    Refused(Refusal),
+}
+
+pub enum TurnAnswer {
+    Idle,
+    Hit(At),
+    Miss(At),
+    Unreadable(At, Refusal),
+    Done(Totals),
+    Refused(Refusal),
+}
+
+pub struct AfterFresh {
+    pub desk: Desk,
+    pub answer: FreshAnswer,
+}
+
+pub struct AfterOpen {
+    pub desk: Desk,
+    pub answer: OpenAnswer,
+}
+
+pub struct AfterClose {
+    pub desk: Desk,
+    pub answer: CloseAnswer,
+}
+
+pub struct AfterTurn {
+    pub desk: Desk,
+    pub answer: TurnAnswer,
+}
+
+// A seat after a turn of its own, and the answer.
+pub struct Served {
+    pub seat: Seat,
+    pub answer: TurnAnswer,
+}
+
+impl Seat {
+    // The longest condition has so many bytes.
+    pub const ROOM: usize = 240;
+}
+
+// The desk for a timetable of so many bytes. Refused, it is no desk: every call on it is refused as not sound.
+pub fn fresh(timetable_length: usize) -> AfterFresh
+    ensures { λ r. ⌜ afterFresh r ≡ freshOf «timetable_length» ⌝ }
+{
+    let seat = seats::free();
+    if Desk::MAX_TIMETABLE < timetable_length {
+        return AfterFresh {
+            desk: Desk {
+                seats: [seat; Desk::SEATS],
+                last_served: Desk::SEATS,
+                timetable_length: 0,
+                issued: 0,
+            },
+            answer: FreshAnswer::Refused(Refusal {
+                number: Refusal::WRONG_TIMETABLE,
+            }),
+        };
+    }
+    AfterFresh {
+        desk: Desk {
+            seats: [seat; Desk::SEATS],
+            last_served: Desk::SEATS - 1,
+            timetable_length,
+            issued: 0,
+        },
+        answer: FreshAnswer::Made,
+    }
+}
+
+impl Desk {
+    pub const SEATS: usize = 16;
+
+    pub const MAX_TIMETABLE: usize = 65_536;
+
+    pub const LAST_TICKET: u32 = 4_294_967_295;
+
+    // The first place from `start` round whose seat is held, or free, as `want` says; 16 further where there is none.
+    fn find(self, want: bool, start: usize) -> usize
+        requires { ⌜ start ≤ seatCount ⌝ }
+        ensures { λ r. ⌜ (r ≡ firstFrom self want start) × (r ≤ start + seatCount) ⌝ }
+    {
+        let end = start + Desk::SEATS;
+        let mut j = start;
+        while j < end {
+            let held = self.seats[j % Desk::SEATS].held;
+            if held == want {
+                return j;
+            }
+            j += 1;
+        }
+        j
+    }
+
+    // The place of the held seat with the ticket, or 16.
+    fn place(self, ticket: u32) -> usize
+        ensures { λ r. ⌜ (r ≡ placeOf self ticket) × (r ≤ seatCount) ⌝ }
+    {
+        let mut i = 0;
+        while i < Desk::SEATS {
+            let held = self.seats[i].held;
+            if held {
+                let k = self.seats[i].ticket;
+                if k == ticket {
+                    return i;
+                }
+            }
+            i += 1;
+        }
+        i
+    }
+
+    fn place_sound(self, i: usize) -> bool
+        requires { ⌜ i < seatCount ⌝ }
+        ensures { λ r. ⌜ r ≡ placeSound self i ⌝ }
+    {
+        let s = self.seats[i];
+        if s.held {
+            if self.place(s.ticket) != i {
+                return false;
+            }
+            seats::sound(s, self.issued, self.timetable_length)
+        } else {
+            true
+        }
+    }
+
+    pub fn sound(self) -> bool
+        ensures { λ r. ⌜ r ≡ soundOf self ⌝ }
+    {
+        if Desk::SEATS <= self.last_served {
+            return false;
+        }
+        if Desk::MAX_TIMETABLE < self.timetable_length {
+            return false;
+        }
+        let mut i = 0;
+        while i < Desk::SEATS {
+            if !self.place_sound(i) {
+                return false;
+            }
+            i += 1;
+        }
+        true
+    }
+
+    // Takes the lowest free seat and the next ticket. Last served stays.
+    pub fn open(self, text: &[u8]) -> AfterOpen
+        ensures { λ r. ⌜ afterOpen r ≡ openOf (now (text .entry)) self ⌝ }
+    {
+        if !self.sound() {
+            return self.not_opened(Refusal::NOT_SOUND);
+        }
+        let checked = condition::check(text);
+        if let Checked::Refused(refusal) = checked {
+            return self.not_opened(refusal.number);
+        }
+        let i = self.find(false, 0);
+        if Desk::SEATS <= i {
+            return self.not_opened(Refusal::NO_SEAT);
+        }
+        if Desk::LAST_TICKET <= self.issued {
+            return self.not_opened(Refusal::NO_MORE_TICKETS);
+        }
+        let ticket = self.issued + 1;
+        let mut next = self;
+        next.seats[i] = seats::taken(ticket, text);
+        next.issued = ticket;
+        AfterOpen {
+            desk: next,
+            answer: OpenAnswer::Ticket(ticket),
+        }
+    }
+
+    fn not_opened(self, number: u8) -> AfterOpen
+        ensures { λ r. ⌜ (r .desk ≡ self) × (r .answer ≡ OpenAnswer.Refused (record { number = number })) ⌝ }
+    {
+        AfterOpen {
+            desk: self,
+            answer: OpenAnswer::Refused(Refusal { number }),
+        }
+    }
+
+    // Frees the ticket's seat. Last served stays.
+    pub fn close(self, ticket: u32) -> AfterClose
+        ensures { λ r. ⌜ afterClose r ≡ closeOf ticket self ⌝ }
+    {
+        if !self.sound() {
+            return AfterClose {
+                desk: self,
+                answer: CloseAnswer::Refused(Refusal {
+                    number: Refusal::NOT_SOUND,
+                }),
+            };
+        }
+        let i = self.place(ticket);
+        if Desk::SEATS <= i {
+            return AfterClose {
+                desk: self,
+                answer: CloseAnswer::Refused(Refusal {
+                    number: Refusal::NO_TICKET,
+                }),
+            };
+        }
+        let mut next = self;
+        next.seats[i] = seats::free();
+        AfterClose {
+            desk: next,
+            answer: CloseAnswer::Freed,
+        }
+    }
+
+    // Serves the first held seat after the last served, going round.
+    pub fn turn(self, t: &[u8]) -> AfterTurn
+        ensures { λ r. ⌜ afterTurn r ≡ turnOf (now (t .entry)) self ⌝ }
+    {
+        if !self.sound() {
+            return AfterTurn {
+                desk: self,
+                answer: TurnAnswer::Refused(Refusal {
+                    number: Refusal::NOT_SOUND,
+                }),
+            };
+        }
+        if t.len() != self.timetable_length {
+            return AfterTurn {
+                desk: self,
+                answer: TurnAnswer::Refused(Refusal {
+                    number: Refusal::WRONG_TIMETABLE,
+                }),
+            };
+        }
+        self.next(t)
+    }
+
+    // A turn of a desk that is known to be sound, over a timetable of its length.
+    pub fn next(self, t: &[u8]) -> AfterTurn
+        requires { ⌜ (soundOf self ≡ true) × (length (now t) ≡ self .«timetable_length») ⌝ }
+        ensures { λ r. ⌜ afterTurn r ≡ nextOf (now (t .entry)) self ⌝ }
+    {
+        let j = self.find(true, self.last_served + 1);
+        if self.last_served + Desk::SEATS < j {
+            return AfterTurn {
+                desk: self,
+                answer: TurnAnswer::Idle,
+            };
+        }
+        let i = j % Desk::SEATS;
+        let served = seats::served(self.seats[i], t);
+        let seat = served.seat;
+        let answer = served.answer;
+        let mut next = self;
+        next.seats[i] = seat;
+        next.last_served = i;
+        AfterTurn { desk: next, answer }
+    }
+}
+
+// Opens a condition on a desk that is updated where it stands.
+pub fn open_in(desk: &mut Desk, text: &[u8]) -> OpenAnswer
+    ensures { λ r. ⌜ (now (desk .exit) ≡ openOf (now (text .entry)) (now (desk .entry)) .desk) × (openMeaning r ≡ openOf (now (text .entry)) (now (desk .entry)) .answer) ⌝ }
+{
+    let after = desk.open(text);
+    *desk = after.desk;
+    after.answer
+}
+
+// Closes a ticket on a desk that is updated where it stands.
+pub fn close_in(desk: &mut Desk, ticket: u32) -> CloseAnswer
+    ensures { λ r. ⌜ (now (desk .exit) ≡ closeOf ticket (now (desk .entry)) .desk) × (closeMeaning r ≡ closeOf ticket (now (desk .entry)) .answer) ⌝ }
+{
+    let after = desk.close(ticket);
+    *desk = after.desk;
+    after.answer
+}
+
+// Takes a turn of a desk that is updated where it stands.
+pub fn turn_in(desk: &mut Desk, t: &[u8]) -> TurnAnswer
+    ensures { λ r. ⌜ (now (desk .exit) ≡ turnOf (now (t .entry)) (now (desk .entry)) .desk) × (turnMeaning r ≡ turnOf (now (t .entry)) (now (desk .entry)) .answer) ⌝ }
+{
+    let after = desk.turn(t);
+    *desk = after.desk;
+    after.answer
+}

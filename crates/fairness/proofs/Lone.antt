@@ -1,0 +1,79 @@
+-- A lone query is served at every turn: the place that a turn finds is held, and only its own is.
+use mathlib.Core.Path.{_≡_, refl, sym, ap, _∙_}
+use mathlib.Core.Bool.{Bool, true, false, true≢false}
+use mathlib.Core.List.{List, [], _∷_}
+use mathlib.Core.Logic.{⊎-elim}
+use Prim.Native.Nat.{ℕ, zero, suc, _+_, _%_, _≤_, _<_}
+use native.Mathlib.Decide.{ℕ-discrete}
+use native.Mathlib.Nat.{eq-or-lt-of-le}
+use native.Mathlib.Omega.{arith}
+use lib.ListN.{length, take, replicate}
+use Rattle.timetable.specs.Lines.{lineCount}
+use Rattle.desk.specs.Bounds.{seatCount}
+use Rattle.desk.specs.Answers.{Turned}
+use Rattle.desk.specs.Seats.{seatFor, seatAt, firstFrom}
+use Rattle.desk.specs.Serving.{serveOf}
+use Rattle.desk.specs.Desk.{openOf, turnOf}
+use Rattle.desk.specs.declared.Desk.{Desk}
+use Rattle.desk.specs.declared.Seat.{Seat}
+use Rattle.desk.proofs.Sound.{at-other}
+use Rattle.desk.proofs.Steps.{Seated, served-answer}
+use Rattle.fairness.specs.Runs.{Event, turns, mine, answersOf}
+use Rattle.fairness.specs.Demand3.{Query, expected, LoneQuery}
+use Rattle.fairness.proofs.Tracks.{Track, is-mine, within, works, it-track, it-gone, it-answer, it-others}
+use Rattle.fairness.proofs.Fair.{serves, left, left-on, left-off, gone, seated-by, before-sound, some-ticket, taken}
+use Rattle.fairness.proofs.LineForLine.{expected-serves}
+
+-- only place i is held
+abbrev Only : Desk → ℕ → Type 0
+Only d i = (j : ℕ) → j < seatCount → (j ≡ i → ⊥) → seatAt d j .held ≡ false
+
+take-none : (n : ℕ) → _≡_ {A = List Turned} (take n []) []
+take-none zero = refl
+take-none (suc n) = refl
+
+module _ (t : List ℕ) (k : ℕ) (pos : 1 ≤ k) where
+  -- the place found is the query's
+  found : (d : Desk) (i : ℕ) (s : Seat) → Track t k pos d i s → Only d i → firstFrom d true (d .«last_served» + 1) % seatCount ≡ i
+  found d i s r only =
+      let p = firstFrom d true (d .«last_served» + 1) % seatCount in
+      elim (ℕ-discrete p i) [ yes q ↦ q | no n ↦ absurd (true≢false (sym (works t k pos d i s r .held) ∙ only p (omega arith) n)) ]
+
+  served-each : (n : ℕ) (d : Desk) (i : ℕ) (s : Seat) → Track t k pos d i s → Only d i
+      → answersOf k t d (replicate n turns) ≡ take n (serves (suc (left t s)) t s)
+  unfolding answersOf serves
+  served-each zero d i s r only = refl
+  served-each (suc n) d i s r only =
+      let e = found d i s r only in
+      let mineEq : mine k (turnOf t d .answer) (answersOf k t (turnOf t d .desk) (replicate n turns))
+      ≡ serveOf t s .answer ∷ answersOf k t (turnOf t d .desk) (replicate n turns) =
+      rw (it-answer t k pos d i s r e) (is-mine k (serveOf t s .answer) _ (served-answer t s ∙ r .tick))
+      in
+      mineEq
+      ∙ ap (λ (x : List Turned). serveOf t s .answer ∷ x)
+      (⊎-elim
+      (λ z.
+      let f = left-off t s (omega (arith, z)) in
+      gone t k pos (replicate n turns) (turnOf t d .desk) (it-gone t k pos d i s r e (omega (arith, z))) ∙ rw f (sym (take-none n)))
+      (λ l.
+      let lf = left-on t s l in
+      served-each n (turnOf t d .desk) i (serveOf t s .seat) (it-track t k pos d i s r e l)
+      (λ j lj ne. rw (it-others t k pos d i s r e j ne) (only j lj ne))
+      ∙ rw lf)
+      (eq-or-lt-of-le (within t k pos d i s r)))
+
+pub lone-query : LoneQuery
+lone-query t c d k n q free =
+    let sb = seated-by t c d k q in
+    let w = sb .0 in
+    let kq = sb .1 in
+    let z = q .desk in
+    let e = q .timetable in
+    let p = firstFrom d false 0 in
+    let only : Only (openOf c d .desk) (firstFrom d false 0) = λ j lj ne.
+    rw (w .is)
+    (rw (at-other d (before-sound t c d z e w) p (w .free) (seatFor (d .issued + 1) c) (d .«last_served») (d .issued + 1) j ne) (free j lj))
+    in
+    rw (← kq)
+    (served-each t (d .issued + 1) (some-ticket (d .issued)) n (openOf c d .desk) (firstFrom d false 0) (seatFor (d .issued + 1) c) (taken t c d z e w) only
+    ∙ rw (expected-serves t c (d .issued + 1)))

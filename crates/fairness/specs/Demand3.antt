@@ -1,0 +1,115 @@
+-- Demand 3, clause by clause:
+--
+--   "Take a query the desk accepted. Suppose each later open, close or turn is given the desk as the one before handed it
+--   back, every turn the same timetable of L lines, of the length the desk was made for, and nobody closes the query's
+--   ticket. Then it has its last answer no later than the 16 x (L + 1)th turn after acceptance, and its answers are those it
+--   would get with the desk to itself, line for line, only the ticket number aside, however many others open or close
+--   queries meanwhile."
+--
+-- The theorems are `demand3`, `demand3-lines`, `demand3-any-time` and `lone-query` (proofs/).
+use mathlib.Core.Path.{_≡_}
+use mathlib.Core.Bool.{false}
+use mathlib.Core.List.{List, [], _∷_, _++_, map}
+use Prim.Native.Nat.{ℕ, _+_, _*_, _≤_, _<_}
+use lib.ListN.{length, take, replicate}
+use Rattle.basis.specs.Answer.{gives}
+use Rattle.timetable.specs.Lines.{Line, lineCount, placedLines}
+use Rattle.desk.specs.Bounds.{seatCount}
+use Rattle.desk.specs.Query.{Result, hit, miss, unreadable, resultAt}
+use Rattle.desk.specs.Answers.{Turned, idle, hitAt, missAt, unreadableAt, doneWith}
+use Rattle.desk.specs.Seats.{seatAt}
+use Rattle.desk.specs.Desk.{freshOf, openOf}
+use Rattle.desk.specs.declared.Desk.{Desk}
+use Rattle.fairness.specs.Runs.{Event, turns, answersOf, turnCount, Unclosed}
+
+-- "a query the desk accepted": d, a desk of 16 seats, was asked to open the condition c and gave the ticket k.
+-- "every turn the same timetable, of the length the desk was made for": it is t.
+pub record Query (t c : List ℕ) (d : Desk) (k : ℕ) : Type 0 where
+  pub desk : length (d .seats) ≡ seatCount
+  pub timetable : length t ≡ d .«timetable_length»
+  pub accepted : openOf c d .answer ≡ gives k
+
+-- "each later open, close or turn is given the desk as the one before handed it back": `es` is any run of events from
+-- there, and these are the answers that the query gets in it
+abbrev pub gets : (t c : List ℕ) (d : Desk) (k : ℕ) → List Event → List Turned
+gets t c d k es = answersOf k t (openOf c d .desk) es
+
+-- "the 16 x (L + 1)th turn"
+abbrev pub turnsFor : List ℕ → ℕ
+turnsFor t = seatCount * (lineCount t + 1)
+
+-- "nobody closes the query's ticket", and the 16 x (L + 1)th turn after acceptance has been taken
+pub record Run (t : List ℕ) (k : ℕ) (es : List Event) : Type 0 where
+  pub unclosed : Unclosed k es
+  pub taken : turnsFor t ≤ turnCount es
+
+-- ---- the first form: as with the desk to itself
+
+-- "only the ticket number aside"
+abbrev pub ticketAside : Turned → Turned
+ticketAside idle = idle
+ticketAside (hitAt k o) = hitAt 0 o
+ticketAside (missAt k o) = missAt 0 o
+ticketAside (unreadableAt k o n) = unreadableAt 0 o n
+ticketAside (doneWith k h u) = doneWith 0 h u
+
+-- "those it would get with the desk to itself": on a fresh desk for that timetable, which opens this condition alone
+abbrev pub alone : List ℕ → List ℕ → List Turned
+alone t c = gets t c (freshOf (length t) .desk) 1 (replicate (turnsFor t) turns)
+
+abbrev pub Demand3 : Type 0
+Demand3 =
+    (t c : List ℕ) (d : Desk) (k : ℕ) (es : List Event) → Query t c d k → Run t k es
+    → map ticketAside (gets t c d k es) ≡ map ticketAside (alone t c)
+
+-- ---- the second form: line for line
+
+-- the answer to ticket k at a line: the condition's result there, with the line's offset
+abbrev pub answerFor : ℕ → ℕ → Result → Turned
+answerFor k offset hit = hitAt k offset
+answerFor k offset miss = missAt k offset
+answerFor k offset (unreadable n) = unreadableAt k offset n
+
+abbrev pub lineAnswers : ℕ → List ℕ → List Line → List Turned
+lineAnswers k c ls = map (λ l. answerFor k (l .offset) (resultAt c (l .text))) ls
+
+-- how many hits, and how many unreadable lines, a list of answers has
+abbrev pub hitIn : Turned → ℕ
+hitIn idle = 0
+hitIn (hitAt k o) = 1
+hitIn (missAt k o) = 0
+hitIn (unreadableAt k o n) = 0
+hitIn (doneWith k h u) = 0
+
+abbrev pub unreadableIn : Turned → ℕ
+unreadableIn idle = 0
+unreadableIn (hitAt k o) = 0
+unreadableIn (missAt k o) = 0
+unreadableIn (unreadableAt k o n) = 1
+unreadableIn (doneWith k h u) = 0
+
+unfoldable pub howMany : (Turned → ℕ) → List Turned → ℕ
+howMany f [] = 0
+howMany f (a ∷ others) = f a + howMany f others
+
+-- an answer for each line of the timetable in order, then Done with the two counts of that list
+abbrev pub expected : ℕ → List ℕ → List ℕ → List Turned
+expected k t c =
+    lineAnswers k c (placedLines t)
+    ++ (doneWith k (howMany hitIn (lineAnswers k c (placedLines t))) (howMany unreadableIn (lineAnswers k c (placedLines t))) ∷ [])
+
+abbrev pub Demand3Lines : Type 0
+Demand3Lines =
+    (t c : List ℕ) (d : Desk) (k : ℕ) (es : List Event) → Query t c d k → Run t k es → gets t c d k es ≡ expected k t c
+
+-- ---- at any earlier time the answers so far are a prefix of that list
+abbrev pub Demand3AnyTime : Type 0
+Demand3AnyTime =
+    (t c : List ℕ) (d : Desk) (k : ℕ) (es : List Event) → Query t c d k → Unclosed k es
+    → (rest : List Turned) × (gets t c d k es ++ rest ≡ expected k t c)
+
+-- ---- a lone query is served at every turn: empty seats are passed over
+abbrev pub LoneQuery : Type 0
+LoneQuery =
+    (t c : List ℕ) (d : Desk) (k n : ℕ) → Query t c d k → ((i : ℕ) → i < seatCount → seatAt d i .held ≡ false)
+    → gets t c d k (replicate n turns) ≡ take n (expected k t c)

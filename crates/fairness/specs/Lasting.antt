@@ -1,0 +1,43 @@
+-- What lasts over any run of events, refused ones too: a sound desk stays sound, no ticket is issued twice, and another
+-- query's opening, closing or answers alter no seat of this one.
+use mathlib.Core.Path.{_≡_}
+use mathlib.Core.Bool.{true}
+use mathlib.Core.List.{List}
+use Prim.Native.Nat.{ℕ, _<_}
+use lib.ListN.{length}
+use Rattle.basis.specs.Answer.{gives}
+use Rattle.desk.specs.Bounds.{seatCount}
+use Rattle.desk.specs.Answers.{Turned, ticketOf}
+use Rattle.desk.specs.Seats.{seatAt}
+use Rattle.desk.specs.Soundness.{soundOf}
+use Rattle.desk.specs.Desk.{openOf, closeOf, turnOf}
+use Rattle.desk.specs.declared.Desk.{Desk}
+use Rattle.fairness.specs.Runs.{Event, afterAll}
+
+abbrev pub SoundLasts : Type 0
+SoundLasts =
+    (t : List ℕ) (d : Desk) (es : List Event) → length (d .seats) ≡ seatCount → soundOf d ≡ true → soundOf (afterAll t d es) ≡ true
+
+-- a ticket given later is greater
+abbrev pub TicketsOnce : Type 0
+TicketsOnce =
+    (t c later : List ℕ) (d : Desk) (es : List Event) (k j : ℕ)
+    → openOf c d .answer ≡ gives k
+    → openOf later (afterAll t (openOf c d .desk) es) .answer ≡ gives j
+    → k < j
+
+-- the seat at place i is held by a query
+pub record Seated (d : Desk) (i : ℕ) : Type 0 where
+  pub desk : length (d .seats) ≡ seatCount
+  pub sound : soundOf d ≡ true
+  pub place : i < seatCount
+  pub held : seatAt d i .held ≡ true
+
+pub record Untouched (d : Desk) (i : ℕ) : Type 0 where
+  pub byOpening : (c : List ℕ) → seatAt (openOf c d .desk) i ≡ seatAt d i
+  pub byClosing : (j : ℕ) → (seatAt d i .ticket ≡ j → ⊥) → seatAt (closeOf j d .desk) i ≡ seatAt d i
+  pub byAnswers : (t : List ℕ) (a : Turned) → turnOf t d .answer ≡ gives a → (ticketOf a ≡ seatAt d i .ticket → ⊥)
+      → seatAt (turnOf t d .desk) i ≡ seatAt d i
+
+abbrev pub OthersUntouched : Type 0
+OthersUntouched = (d : Desk) (i : ℕ) → Seated d i → Untouched d i

@@ -1,0 +1,65 @@
+-- A sound desk's answers have offsets and counts within a timetable's bound, so that their lines fit the text that is
+-- written; and what its turn hands back is what a turn of its own would.
+use mathlib.Core.Path.{_≡_, refl, sym, ap, _∙_}
+use mathlib.Core.Bool.{true}
+use mathlib.Core.List.{List}
+use mathlib.Core.Logic.{⊎-elim}
+use Prim.Native.Nat.{ℕ, _+_, _%_, _≤_, _<_, min}
+use native.Mathlib.Omega.{arith}
+use lib.ListN.{length, take, length-take}
+use Rattle.basis.specs.Answer.{gives}
+use Rattle.timetable.specs.Lines.{nextLine}
+use Rattle.timetable.proofs.Offsets.{line-or-end}
+use Rattle.numerals.specs.Writing.{textIn, longest}
+use Rattle.numerals.specs.declared.Text.{Text}
+use Rattle.desk.specs.Bounds.{seatCount, maxTimetable}
+use Rattle.desk.specs.Query.{Result, hit, miss, unreadable}
+use Rattle.desk.specs.Answers.{After, Turned, turnMeaning, afterTurn}
+use Rattle.desk.specs.Seats.{seatAt, firstFrom}
+use Rattle.desk.specs.Serving.{judgedAs, resultOf, serveOf}
+use Rattle.desk.specs.Desk.{turnOf, nextOf}
+use Rattle.desk.specs.declared.Desk.{Desk}
+use Rattle.desk.specs.declared.Seat.{Seat}
+use Rattle.desk.specs.declared.AfterTurn.{AfterTurn}
+use Rattle.desk.proofs.Soundness.{Servable, servable}
+use Rattle.desk.proofs.Serving.{serve-line, serve-done}
+use Rattle.desk.proofs.Sound.{Sound}
+use Rattle.desk.proofs.Steps.{turn-cases, turn-next}
+use Rattle.lines.specs.Text.{Holds, Within}
+
+judged-within : (next : ℕ) (s : Seat) (v : Result) → s .offset ≤ maxTimetable → Within (gives (judgedAs next s v .answer))
+judged-within next s hit l = l
+judged-within next s miss l = l
+judged-within next s (unreadable n) l = l
+
+served-within : (t : List ℕ) (long : ℕ) (s : Seat) → Servable long s → long ≤ maxTimetable → Within (gives (serveOf t s .answer))
+served-within t long s v l =
+    let w = v .within in
+    let c = v .counts in
+    ⊎-elim (λ b. rw (serve-line t s b) (judged-within (nextLine t (s .offset)) s (resultOf t s) (omega arith)))
+    (λ b. rw (serve-done t s b) (omega arith, omega arith))
+    (line-or-end t (s .offset))
+
+module _ (t : List ℕ) (d : Desk) (o : Sound d) (e : length t ≡ d .«timetable_length») where
+  turn-within : Within (turnOf t d .answer)
+  turn-within =
+      ⊎-elim (λ n. rw n tt)
+      (λ w.
+      let i = firstFrom d true (d .«last_served» + 1) % seatCount in
+      rw (w .is) (served-within t (d .«timetable_length») (seatAt d i) (servable _ _ _ (o .seat i (omega arith) (w .held))) (o .short)))
+      (turn-cases t d o e)
+
+  -- what the turn of a desk known to be sound handed back
+  module _ (r : AfterTurn) (h : afterTurn r ≡ nextOf t d) where
+    pub next-desk : r .desk ≡ turnOf t d .desk
+    next-desk = ap (λ (x : After Turned). x .desk) (h ∙ sym (turn-next t d o e))
+
+    pub next-answer : turnMeaning (r .answer) ≡ turnOf t d .answer
+    next-answer = ap (λ (x : After Turned). x .answer) (h ∙ sym (turn-next t d o e))
+
+    pub next-within : Within (turnMeaning (r .answer))
+    next-within = rw next-answer turn-within
+
+-- a text that holds its bytes has no more than there is room for
+pub holds-fits : (t : Text) (w : List ℕ) → Holds t w → length (t .bytes) ≡ longest → t .len ≤ longest
+holds-fits t w h e = omega (arith, length-take (t .len) (t .bytes), ap length (h .text), h .size)

@@ -1,0 +1,67 @@
+-- Turns counted by the room that their lines take: every line has a byte, so a room has no more lines than bytes, and the
+-- turns that fit are the next one, where its line fits, and those that fit in what it leaves.
+use mathlib.Core.Path.{_≡_, refl, ap}
+use mathlib.Core.Bool.{Bool, true, false}
+use mathlib.Core.List.{List, [], _∷_, _++_}
+use Prim.Native.Nat.{ℕ, zero, suc, _+_, _-_, _≤_, _<_}
+use native.Mathlib.Omega.{arith}
+use borrow.Author.Tests.{lt-leb, leb-true}
+use lib.Dec.{leb}
+use lib.ListN.{length, length-append}
+use Rattle.basis.specs.Choice.{pick}
+use Rattle.basis.specs.Answer.{Answer, gives, refuses}
+use Rattle.timetable.specs.Lines.{newline}
+use Rattle.desk.specs.Answers.{Turned, idle, hitAt, missAt, unreadableAt, doneWith}
+use Rattle.desk.specs.Desk.{turnOf}
+use Rattle.desk.specs.declared.Desk.{Desk}
+use Rattle.lines.specs.Text.{numbers, lineWith, turnLine}
+use Rattle.lines.specs.Turns.{isIdle, Taken, none, onto, atMost, taken}
+
+line-with-some : (w ns : List ℕ) → 1 ≤ length (lineWith w ns)
+unfolding lineWith
+line-with-some w ns = omega (arith, length-append w (numbers ns ++ (newline ∷ [])), length-append (numbers ns) (newline ∷ []))
+
+pub line-some : (a : Answer Turned) → 1 ≤ length (turnLine a)
+line-some (gives idle) = line-with-some _ _
+line-some (gives (hitAt k o)) = line-with-some _ _
+line-some (gives (missAt k o)) = line-with-some _ _
+line-some (gives (unreadableAt k o n)) = line-with-some _ _
+line-some (gives (doneWith k h u)) = line-with-some _ _
+line-some (refuses n) = line-with-some _ _
+
+abbrev then-on : Bool → Bool → List ℕ → Desk → Desk → Taken → Taken
+then-on fits stops line d next rest = pick fits (onto line (pick stops (record { desk = next; text = []; idle = true }) rest)) (none d)
+
+-- with as many as bytes are left, more change nothing
+enough : (n m : ℕ) (t : List ℕ) (d : Desk) (left : ℕ) → left ≤ n → left ≤ m → atMost n t d left ≡ atMost m t d left
+unfolding atMost
+enough zero zero t d left a b = refl
+enough zero (suc m) t d left a b =
+    let s = line-some (turnOf t d .answer) in
+    rw (lt-leb (length (turnLine (turnOf t d .answer))) left (omega arith))
+enough (suc n) zero t d left a b =
+    let s = line-some (turnOf t d .answer) in
+    rw (lt-leb (length (turnLine (turnOf t d .answer))) left (omega arith))
+enough (suc n) (suc m) t d left a b =
+    let line = turnLine (turnOf t d .answer) in
+    let s = line-some (turnOf t d .answer) in
+    let next = enough n m t (turnOf t d .desk) (left - length (turnLine (turnOf t d .answer))) (omega arith) (omega arith) in
+    ap (then-on (leb (length (turnLine (turnOf t d .answer))) left) (isIdle (turnOf t d .answer)) (turnLine (turnOf t d .answer)) d (turnOf t d .desk)) next
+
+-- the turns that fit, by the next one
+pub taken-next : (t : List ℕ) (d : Desk) (left : ℕ)
+    → taken t d left
+    ≡ pick (leb (length (turnLine (turnOf t d .answer))) left)
+    (onto (turnLine (turnOf t d .answer))
+    (pick (isIdle (turnOf t d .answer)) (record { desk = turnOf t d .desk; text = []; idle = true })
+    (taken t (turnOf t d .desk) (left - length (turnLine (turnOf t d .answer))))))
+    (none d)
+unfolding atMost
+taken-next t d zero =
+    let s = line-some (turnOf t d .answer) in
+    rw (lt-leb (length (turnLine (turnOf t d .answer))) 0 (omega arith))
+taken-next t d (suc left) =
+    let s = line-some (turnOf t d .answer) in
+    let next = enough left (suc left - length (turnLine (turnOf t d .answer))) t (turnOf t d .desk) (suc left - length (turnLine (turnOf t d .answer)))
+    (omega arith) (omega arith) in
+    ap (then-on (leb (length (turnLine (turnOf t d .answer))) (suc left)) (isIdle (turnOf t d .answer)) (turnLine (turnOf t d .answer)) d (turnOf t d .desk)) next

@@ -1,0 +1,10 @@
+pub mod Digits
+pub mod Writing
+pub mod Counting
+pub mod Putting
+pub mod Bounded
+pub mod Going
+pub mod Rounds
+pub mod Calls
+pub mod Answers
+pub mod Singles

@@ -1,0 +1,56 @@
+-- Document 01, "The desk program": "Output lines, tab between fields: `open` ticket; `refused` number; `hit` or `miss` ticket
+-- offset; `unreadable` ticket offset number; `done` ticket hits unreadables; last `idle`." Each line ends with byte 10.
+use mathlib.Core.Path.{_≡_}
+use mathlib.Core.List.{List, [], _∷_, _++_}
+use Prim.Native.Nat.{ℕ, _≤_}
+use lib.ListN.{length}
+use Rattle.basis.specs.Answer.{Answer, gives, refuses}
+use Rattle.basis.specs.Letters.{bytes}
+use Rattle.timetable.specs.Fields.{tab}
+use Rattle.timetable.specs.Lines.{newline}
+use Rattle.numerals.specs.Writing.{decimal, textIn}
+use Rattle.numerals.specs.declared.Text.{Text}
+use Rattle.desk.specs.Bounds.{maxTimetable}
+use Rattle.desk.specs.Answers.{Turned, idle, hitAt, missAt, unreadableAt, doneWith}
+
+-- numbers in decimal without leading zeros, a tab before each
+unfoldable pub numbers : List ℕ → List ℕ
+numbers [] = []
+numbers (n ∷ ns) = tab ∷ (decimal n ++ numbers ns)
+
+-- a line: its word and its numbers
+unfoldable pub lineWith : List ℕ → List ℕ → List ℕ
+lineWith word ns = word ++ (numbers ns ++ (newline ∷ []))
+
+abbrev pub refusedLine : ℕ → List ℕ
+refusedLine n = lineWith (bytes "refused") (n ∷ [])
+
+-- the line of what open answers
+abbrev pub openLine : Answer ℕ → List ℕ
+openLine (gives ticket) = lineWith (bytes "open") (ticket ∷ [])
+openLine (refuses n) = refusedLine n
+
+-- the line of what a turn answers
+abbrev pub turnLine : Answer Turned → List ℕ
+turnLine (gives idle) = lineWith (bytes "idle") []
+turnLine (gives (hitAt ticket offset)) = lineWith (bytes "hit") (ticket ∷ offset ∷ [])
+turnLine (gives (missAt ticket offset)) = lineWith (bytes "miss") (ticket ∷ offset ∷ [])
+turnLine (gives (unreadableAt ticket offset n)) = lineWith (bytes "unreadable") (ticket ∷ offset ∷ n ∷ [])
+turnLine (gives (doneWith ticket hits bad)) = lineWith (bytes "done") (ticket ∷ hits ∷ bad ∷ [])
+turnLine (refuses n) = refusedLine n
+
+-- ---- what the code that writes a line says
+
+-- a text that grows holds these bytes
+pub record Holds (t : Text) (w : List ℕ) : Type 0 where
+  pub text : textIn t ≡ w
+  pub size : t .len ≡ length w
+
+-- the offset and the counts of an answer are within a timetable's bound, as those of a sound desk are
+abbrev pub Within : Answer Turned → Type 0
+Within (gives idle) = Unit {0}
+Within (gives (hitAt ticket offset)) = offset ≤ maxTimetable
+Within (gives (missAt ticket offset)) = offset ≤ maxTimetable
+Within (gives (unreadableAt ticket offset n)) = offset ≤ maxTimetable
+Within (gives (doneWith ticket hits bad)) = (hits ≤ maxTimetable) × (bad ≤ maxTimetable)
+Within (refuses n) = Unit {0}

@@ -1,0 +1,150 @@
+// The lines that the desk program writes, and many turns at once, written into lent room.
+use desk::Desk;
+use desk::TurnAnswer;
+use numerals::Text;
+use value::Refusal;
+ghost use mathlib.Core.Path.{_≡_};
+ghost use mathlib.Core.Bool.{true, false};
+ghost use mathlib.Core.List.{_++_};
+ghost use Prim.Native.Nat.{ℕ, _+_, _≤_, _<_};
+ghost use lib.ListN.{length, take, drop};
+ghost use Rattle.numerals.specs.Writing.{textIn, longest};
+ghost use Rattle.desk.specs.Answers.{turnMeaning};
+ghost use Rattle.desk.specs.Soundness.{soundOf};
+ghost use Rattle.lines.specs.Turns.{isIdle, taken, Ran, turnsOf, roomAfter, turnsMeaning, afterTurns};
+
+pub mod text; // text.rt: the lines themselves
+
+// How many bytes of lines were written, and whether the last turn was Idle.
+pub struct Written {
+    pub count: usize,
+    pub idle: bool,
+}
+
+pub enum TurnsAnswer {
+    Wrote(Written),
+    Refused(Refusal),
+}
+
+pub struct AfterTurns {
+    pub desk: Desk,
+    pub answer: TurnsAnswer,
+}
+
+// Some turns taken: the desk after them, and what was written.
+pub struct Run {
+    pub desk: Desk,
+    pub written: Written,
+}
+
+fn is_idle(answer: TurnAnswer) -> bool
+    ensures { λ r. ⌜ r ≡ isIdle (turnMeaning answer) ⌝ }
+{
+    match answer {
+        TurnAnswer::Idle => true,
+        TurnAnswer::Hit(_) => false,
+        TurnAnswer::Miss(_) => false,
+        TurnAnswer::Unreadable(_, _) => false,
+        TurnAnswer::Done(_) => false,
+        TurnAnswer::Refused(_) => false,
+    }
+}
+
+// A line written into the room from `at` on.
+fn put(room: &mut [u8], at: usize, line: Text)
+    requires { ⌜ (line .len ≤ longest) × (at + line .len ≤ length (now room)) ⌝ }
+    ensures { λ _. ⌜ now (room .exit) ≡ take at (now (room .entry)) ++ (textIn line ++ drop (at + line .len) (now (room .entry))) ⌝ }
+{
+    let bytes = line.bytes;
+    let long = line.len;
+    bytes::copy(&bytes[..long], &mut room[at..]);
+}
+
+// Turns of a desk that is known to be sound, over a timetable of its length: as long as the line of the next one fits.
+fn take_turns(desk: Desk, t: &[u8], room: &mut [u8]) -> Run
+    requires { ⌜ (soundOf desk ≡ true) × (length (now t) ≡ desk .«timetable_length») ⌝ }
+    ensures { λ r. ⌜ Ran r (taken (now (t .entry)) desk (length (now (room .entry)))) (now (room .entry)) (now (room .exit)) ⌝ }
+{
+    let mut current = desk;
+    let mut at = 0;
+    while at < room.len() {
+        let next = current.next(t);
+        let answer = next.answer;
+        let line = text::turn_line(answer);
+        if room.len() - at < line.len {
+            return Run {
+                desk: current,
+                written: Written {
+                    count: at,
+                    idle: false,
+                },
+            };
+        }
+        put(room, at, line);
+        current = next.desk;
+        at += line.len;
+        if is_idle(answer) {
+            return Run {
+                desk: current,
+                written: Written {
+                    count: at,
+                    idle: true,
+                },
+            };
+        }
+    }
+    Run {
+        desk: current,
+        written: Written {
+            count: at,
+            idle: false,
+        },
+    }
+}
+
+// Takes turns as long as the next answer's line fits in what is left of the room, and stops after Idle. The desk is
+// checked once. A refusal leaves desk and room as they were.
+pub fn turns(desk: Desk, t: &[u8], room: &mut [u8]) -> AfterTurns
+    ensures { λ r. ⌜ (afterTurns r ≡ turnsOf (now (t .entry)) desk (length (now (room .entry)))) × (now (room .exit) ≡ roomAfter (now (t .entry)) desk (now (room .entry))) ⌝ }
+{
+    if !desk.sound() {
+        return AfterTurns {
+            desk,
+            answer: TurnsAnswer::Refused(Refusal {
+                number: Refusal::NOT_SOUND,
+            }),
+        };
+    }
+    if t.len() != desk.timetable_length {
+        return AfterTurns {
+            desk,
+            answer: TurnsAnswer::Refused(Refusal {
+                number: Refusal::WRONG_TIMETABLE,
+            }),
+        };
+    }
+    let ran = take_turns(desk, t, room);
+    let written = ran.written;
+    if written.count < 1 {
+        return AfterTurns {
+            desk,
+            answer: TurnsAnswer::Refused(Refusal {
+                number: Refusal::NO_ROOM,
+            }),
+        };
+    }
+    let next = ran.desk;
+    AfterTurns {
+        desk: next,
+        answer: TurnsAnswer::Wrote(written),
+    }
+}
+
+// Takes turns of a desk that is updated where it stands.
+pub fn turns_in(desk: &mut Desk, t: &[u8], room: &mut [u8]) -> TurnsAnswer
+    ensures { λ r. ⌜ (now (desk .exit) ≡ turnsOf (now (t .entry)) (now (desk .entry)) (length (now (room .entry))) .desk) × (turnsMeaning r ≡ turnsOf (now (t .entry)) (now (desk .entry)) (length (now (room .entry))) .answer) × (now (room .exit) ≡ roomAfter (now (t .entry)) (now (desk .entry)) (now (room .entry))) ⌝ }
+{
+    let after = turns(*desk, t, room);
+    *desk = after.desk;
+    after.answer
+}

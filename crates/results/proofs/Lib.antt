@@ -1,0 +1,5 @@
+pub mod FitLaws
+pub mod GiveLaws
+pub mod PartLaws
+pub mod Numbers
+pub mod Settled

@@ -1,0 +1,89 @@
+-- The numbers that reading a value can refuse with: 1, 2 and 3. With 4 of arithmetic and 6 of a missing field they are those
+-- that a line's result can have.
+use mathlib.Core.Path.{_≡_, refl}
+use mathlib.Core.Bool.{Bool, true, false}
+use mathlib.Core.List.{List}
+use Prim.Native.Nat.{ℕ, _+_, _*_}
+use lib.Dec.{eqb, leb}
+use lib.ListN.{length}
+use Rattle.basis.specs.Choice.{pick}
+use Rattle.basis.specs.Answer.{Answer, gives, refuses}
+use Rattle.calendar.specs.declared.Date.{Date}
+use Rattle.calendar.specs.declared.Dated.{Dated}
+use Rattle.calendar.specs.declared.Dated.the-variants.{On, Later}
+use Rattle.calendar.specs.Calendar.{dayOf, datedOf}
+use Rattle.value.specs.Bounds.{maxYear}
+use Rattle.value.specs.Kinds.{hasDate}
+use Rattle.value.specs.Values.{okDate}
+use Rattle.value.specs.declared.Zone.{Zone}
+use Rattle.value.specs.declared.DateTime.{DateTime}
+use Rattle.value.specs.declared.Kind.{Kind}
+use Rattle.value.specs.declared.Kind.the-variants as K
+use Rattle.value.specs.declared.Value.{Value}
+use Rattle.scan.specs.declared.Scan.{Scan}
+use Rattle.scan.specs.Scanning.{whole, partsOf}
+use Rattle.layouts.specs.Reading as layouts
+use Rattle.durations.specs.Walks.{counted, readBy, shape, asValue}
+use Rattle.durations.specs.Forms.{Form, dayTime, yearMonth}
+use Rattle.durations.specs.declared.Shape.{Shape}
+use Rattle.durations.specs.declared.Amount.{Amount}
+use Rattle.text.specs.Reading.{readAs}
+
+-- the numbers of a line's result
+abbrev pub atLine : ℕ → Bool
+atLine n = pick (eqb n 1) true (pick (eqb n 2) true (pick (eqb n 3) true (pick (eqb n 4) true (eqb n 6))))
+
+-- an answer whose number is one of a line's result, if it is a refusal
+abbrev pub Only : {A : Type 0} → Answer A → Type 0
+Only (gives v) = Unit {0}
+Only (refuses n) = atLine n ≡ true
+
+only-either : {A : Type 0} (b : Bool) (x y : Answer A) → Only x → Only y → Only (pick b x y)
+only-either true x y p q = p
+only-either false x y p q = q
+
+valued-only : (k : Kind) (d : DateTime) → Only (layouts.valued k d)
+valued-only K.Date d = tt
+valued-only K.Time d = tt
+valued-only K.DateTime d = tt
+valued-only K.DayTimeDuration d = refl
+valued-only K.YearMonthDuration d = refl
+
+start-only : (k : Kind) (z : Zone) (d : Dated) → Only (layouts.startOfDay k z d)
+start-only k z (On d) = valued-only k (layouts.placedOn d 0 z)
+start-only k z Later = refl
+
+next-only : (k : Kind) (d : Date) (z : Zone) → Only (layouts.nextDay k d z)
+unfolding layouts.nextDay
+next-only k d z = only-either (hasDate k) _ _ (start-only k z (datedOf (dayOf d + 1) maxYear)) (valued-only k (layouts.placedOn d 0 z))
+
+clocked-only : (k : Kind) (d : Date) (h m s u : ℕ) (z : Zone) → Only (layouts.clocked k d h m s u z)
+unfolding layouts.clocked
+clocked-only k d h m s u z = only-either (layouts.okClock h m s) _ _ (valued-only k (layouts.placedOn d (layouts.ticksOf h m s u) z))
+    (only-either (layouts.isDayEnd h m s u) _ _ (next-only k d z) refl)
+
+judge-only : (k : Kind) (n : ℕ) (t : Scan) → Only (layouts.judge k n t)
+unfolding layouts.judge layouts.bounded layouts.onCalendar
+judge-only k n t = only-either (t .good) _ _ (only-either (eqb (t .at) n) _ _
+    (only-either (t .long) _ _ refl (only-either (t .negative) _ _ refl (only-either (leb (t .year) maxYear) _ _
+    (only-either (okDate (t .year) (t .month) (t .day)) _ _ (only-either (layouts.okParts (t .zh) (t .zm)) _ _ (clocked-only k (record { year = t .year; month = t .month; day = t .day }) (t .hour) (t .minute) (t .second) (t .part) (layouts.zoneIs (t .sign) (t .zh * 60 + t .zm))) refl) refl) refl))) refl) refl
+
+counted-only : (unit most : ℕ) (t : Shape) → Only (counted unit most t)
+unfolding counted
+counted-only unit most t = only-either (t .good) _ _ (only-either (t .long) _ _ refl (only-either (leb (t .sum * unit + t .ticks) most) _ _ tt refl)) refl
+
+as-value-only : (f : Amount → Value) (a : Answer Amount) → Only a → Only (asValue f a)
+as-value-only f (gives x) h = tt
+as-value-only f (refuses n) h = h
+
+read-by-only : (f : Form) (s : List ℕ) → Only (readBy f s)
+unfolding readBy
+read-by-only f s = counted-only (f .unit) (f .most) (shape (f .before) (f .after) s)
+
+pub read-only : (k : Kind) (s : List ℕ) → Only (readAs k s)
+unfolding readAs layouts.readLayout
+read-only K.Date s = judge-only K.Date (length s) (partsOf whole K.Date s)
+read-only K.Time s = judge-only K.Time (length s) (partsOf whole K.Time s)
+read-only K.DateTime s = judge-only K.DateTime (length s) (partsOf whole K.DateTime s)
+read-only K.DayTimeDuration s = as-value-only _ (readBy dayTime s) (read-by-only dayTime s)
+read-only K.YearMonthDuration s = as-value-only _ (readBy yearMonth s) (read-by-only yearMonth s)

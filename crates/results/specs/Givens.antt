@@ -1,0 +1,110 @@
+-- What the code carries of a part of a condition: its sort, and what it gives in the mode in which it is read. A part that is
+-- not evaluated gives nothing; one that is only checked gives the leftmost refusal of a literal in it, or nothing.
+use mathlib.Core.Bool.{Bool, true, false}
+use mathlib.Core.List.{List}
+use Prim.Native.Nat.{ℕ}
+use Rattle.basis.specs.Choice.{pick}
+use Rattle.basis.specs.Answer.{Answer, gives, refuses}
+use Rattle.value.specs.Refusals.{noField}
+use Rattle.value.specs.declared.Kind.{Kind}
+use Rattle.value.specs.declared.Value.{Value}
+use Rattle.timetable.specs.Fields.{fieldAt, hasField}
+use Rattle.text.specs.Reading.{readAs}
+use Rattle.words.specs.Runs.{between}
+use Rattle.words.specs.declared.Op.{Op}
+use Rattle.results.specs.Sorts.{sortTwo, sortCast, sortTimes}
+use Rattle.results.specs.Data.{Datum, value, truth, valued, applied, settles, settled, castDatum, timesDatum}
+use Rattle.results.specs.declared.Sort.{Sort}
+use Rattle.results.specs.declared.Sort.the-variants as S
+use Rattle.results.specs.declared.Given.{Given}
+use Rattle.results.specs.declared.Given.the-variants.{Nothing, Is, Truth, Refused}
+use Rattle.results.specs.declared.Part.{Part}
+use Rattle.results.specs.declared.Mode.{Mode}
+use Rattle.results.specs.declared.Mode.the-variants.{Check, Live, Dead}
+
+abbrev pub givenOf : Answer Datum → Given
+givenOf (gives (value v)) = Is v
+givenOf (gives (truth x)) = Truth x
+givenOf (refuses n) = Refused (record { number = n })
+
+-- a text that is only checked
+abbrev pub badOf : {A : Type 0} → Answer A → Given
+badOf (gives v) = Nothing
+badOf (refuses n) = Refused (record { number = n })
+
+-- a literal and a field, by the mode
+abbrev pub textIn : Mode → Answer Value → Given
+textIn Check a = badOf a
+textIn Live a = givenOf (valued a)
+textIn Dead a = Nothing
+
+abbrev pub fieldIn : Mode → Answer Value → Given
+fieldIn Check a = Nothing
+fieldIn Live a = givenOf (valued a)
+fieldIn Dead a = Nothing
+
+-- a field of the line, read as a kind: "line has fewer fields than `$n` asks" is 6
+unfoldable pub readField : Kind → List ℕ → ℕ → Answer Value
+readField k line n = pick (hasField line n) (readAs k (fieldAt line n)) (refuses noField)
+
+unfoldable pub literalPart : Mode → Kind → List ℕ → ℕ → ℕ → Part
+literalPart m k s from to = record { sort = S.Of k; given = textIn m (readAs k (between s from to)) }
+
+unfoldable pub fieldPart : Mode → Kind → List ℕ → ℕ → Part
+fieldPart m k line n = record { sort = S.Of k; given = fieldIn m (readField k line n) }
+
+-- one part below
+abbrev pub castGiven : Kind → Given → Given
+castGiven k Nothing = Nothing
+castGiven k (Is v) = givenOf (castDatum k (value v))
+castGiven k (Truth x) = givenOf (castDatum k (truth x))
+castGiven k (Refused r) = Refused r
+
+abbrev pub timesGiven : Bool → ℕ → Given → Given
+timesGiven negative n Nothing = Nothing
+timesGiven negative n (Is v) = givenOf (timesDatum negative n (value v))
+timesGiven negative n (Truth x) = givenOf (timesDatum negative n (truth x))
+timesGiven negative n (Refused r) = Refused r
+
+unfoldable pub castPart : Kind → Part → Part
+castPart k p = record { sort = sortCast k (p .sort); given = castGiven k (p .given) }
+
+unfoldable pub timesPart : Bool → ℕ → Part → Part
+timesPart negative n p = record { sort = sortTimes (p .sort); given = timesGiven negative n (p .given) }
+
+-- two parts with an operator between: the left one's refusal first
+abbrev pub rightGiven : Op → Datum → Given → Given
+rightGiven o x Nothing = Nothing
+rightGiven o x (Is v) = givenOf (applied o x (value v))
+rightGiven o x (Truth y) = givenOf (applied o x (truth y))
+rightGiven o x (Refused r) = Refused r
+
+abbrev pub refusedGiven : Given → Given
+refusedGiven Nothing = Nothing
+refusedGiven (Is v) = Nothing
+refusedGiven (Truth y) = Nothing
+refusedGiven (Refused r) = Refused r
+
+abbrev pub twoGiven : Op → Given → Given → Given
+twoGiven o Nothing b = refusedGiven b
+twoGiven o (Is v) b = rightGiven o (value v) b
+twoGiven o (Truth x) b = pick (settles o x) (Truth x) (rightGiven o (truth x) b)
+twoGiven o (Refused r) b = Refused r
+
+unfoldable pub twoPart : Op → Part → Part → Part
+twoPart o a b = record { sort = sortTwo o (a .sort) (b .sort); given = twoGiven o (a .given) (b .given) }
+
+-- the mode of the right side: after a left that settles the operator it is not evaluated
+abbrev pub rightMode : Mode → Bool → Mode
+rightMode Check settled = Check
+rightMode Live settled = pick settled Dead Live
+rightMode Dead settled = Dead
+
+abbrev pub afterGiven : Op → Mode → Given → Mode
+afterGiven o m Nothing = m
+afterGiven o m (Is v) = m
+afterGiven o m (Truth x) = rightMode m (settles o x)
+afterGiven o m (Refused r) = m
+
+unfoldable pub afterPart : Op → Mode → Part → Mode
+afterPart o m a = afterGiven o m (a .given)

@@ -1,0 +1,69 @@
+use Prim.Native.Nat.{_-_, _≤_}
+use mathlib.Core.Path.{_≡_, refl}
+use native.Mathlib.Omega.{arith}
+use lib.ListN.{length, drop}
+use borrow.Author.Needs.{needs}
+use Rattle.words.specs.Runs as the
+use Rattle.words.proofs.Sameness.{lengths-differ, bytes-differ, bytes-alike, all-alike}
+use Rattle.words.proofs.runs.same.Statement.{statement}
+use Rattle.words.proofs.runs.same.Tie as tie
+use Rattle.words.proofs.runs.same.Reads as reads
+use Rattle.words.proofs.runs.same.Lts as lts
+
+abbrev Inv-loop : tie.InvT-loop
+Inv-loop a b i₀ i = (i ≤ length a) × (length a ≡ length b) × (the.same a b ≡ the.same (drop i a) (drop i b))
+
+abbrev μ-loop : tie.MeasureT-loop
+μ-loop a b i₀ i = length a - i
+
+-- src/runs.rt:70:9
+returns : tie.Need-returns Inv-loop μ-loop
+returns c = search lengths-differ
+
+-- src/runs.rt:73:5
+loop-holds : tie.Need-loop-holds Inv-loop μ-loop
+loop-holds c = search needs
+
+-- src/runs.rt:74:12
+shared-slice-read-if2 : tie.Need-shared-slice-read-if2 Inv-loop μ-loop
+shared-slice-read-if2 c = omega arith
+
+-- src/runs.rt:74:20
+shared-slice-read-if2-2 : tie.Need-shared-slice-read-if2-2 Inv-loop μ-loop
+shared-slice-read-if2-2 c = omega arith
+
+-- src/runs.rt:75:13
+returns-2 : tie.Need-returns-2 Inv-loop μ-loop
+returns-2 c = search bytes-differ
+
+-- src/runs.rt:77:9
+add-i : tie.Need-add-i Inv-loop μ-loop
+add-i c = omega arith
+
+-- src/runs.rt:73:5
+loop-less : tie.Need-loop-less Inv-loop μ-loop
+loop-less c = omega arith
+
+-- src/runs.rt:73:5
+loop-again : tie.Need-loop-again Inv-loop μ-loop
+loop-again c = (search needs, search needs, search bytes-alike)
+
+-- src/runs.rt:66:1
+returns-3 : tie.Need-returns-3 Inv-loop μ-loop
+returns-3 c = search all-alike
+
+pub same-spec : {M : Type 1} → statement M
+same-spec =
+    tie.close
+    (tie.spec
+    Inv-loop
+    μ-loop
+    returns
+    loop-holds
+    shared-slice-read-if2
+    shared-slice-read-if2-2
+    returns-2
+    add-i
+    loop-less
+    loop-again
+    returns-3)

@@ -1,0 +1,102 @@
+// Longest runs of bytes, and words.
+use crate::Class;
+ghost use mathlib.Core.Path.{_≡_};
+ghost use Prim.Native.Nat.{_≤_};
+ghost use lib.ListN.{length};
+ghost use Rattle.words.specs.Runs as the;
+
+// ASCII letters, and the colon.
+fn letter(b: u8) -> bool
+    ensures { λ r. ⌜ r ≡ the.letter b ⌝ }
+{
+    if b == b':' {
+        return true;
+    }
+    if b'a' <= b {
+        return b <= b'z';
+    }
+    if b'A' <= b {
+        return b <= b'Z';
+    }
+    false
+}
+
+// Whether a byte is of a class.
+fn belongs(class: Class, b: u8) -> bool
+    ensures { λ r. ⌜ r ≡ the.belongs class b ⌝ }
+{
+    match class {
+        Class::Space => b == b' ',
+        Class::Letter => letter(b),
+        Class::Unquoted => b != b'"',
+    }
+}
+
+// Where the longest run of bytes of a class ends that begins at a place.
+pub fn run_end(class: Class, s: &[u8], at: usize) -> usize
+    ensures { λ r. ⌜ r ≡ the.runEnd class (now (s .entry)) at ⌝ }
+{
+    let mut p = at;
+    while p < s.len() {
+        if !belongs(class, s[p]) {
+            return p;
+        }
+        p += 1;
+    }
+    p
+}
+
+// The first place from `at` on that holds no space.
+pub fn skip(s: &[u8], at: usize) -> usize
+    ensures { λ r. ⌜ r ≡ the.skipped (now (s .entry)) at ⌝ }
+{
+    run_end(Class::Space, s, at)
+}
+
+// The bytes between two places, as far as the text goes.
+pub fn cut(s: &[u8], from: usize, to: usize) -> &[u8]
+    ensures { λ r. ⌜ now r ≡ the.between (now (s .entry)) from to ⌝ }
+{
+    if s.len() < to {
+        return cut_within(s, from, s.len());
+    }
+    cut_within(s, from, to)
+}
+
+fn cut_within(s: &[u8], from: usize, to: usize) -> &[u8]
+    requires { ⌜ to ≤ length (now s) ⌝ }
+    ensures { λ r. ⌜ now r ≡ the.between (now (s .entry)) from to ⌝ }
+{
+    if to <= from {
+        return &s[0..0];
+    }
+    &s[from..to]
+}
+
+// The word at a place: empty where no letter stands there.
+pub fn word(s: &[u8], at: usize) -> &[u8]
+    ensures { λ r. ⌜ now r ≡ the.wordAt (now (s .entry)) at ⌝ }
+{
+    if s.len() <= at {
+        return &s[0..0];
+    }
+    let end = run_end(Class::Letter, s, at);
+    &s[at..end]
+}
+
+// Whether two words are the same.
+pub fn same(a: &[u8], b: &[u8]) -> bool
+    ensures { λ r. ⌜ r ≡ the.same (now (a .entry)) (now (b .entry)) ⌝ }
+{
+    if a.len() != b.len() {
+        return false;
+    }
+    let mut i = 0;
+    while i < a.len() {
+        if a[i] != b[i] {
+            return false;
+        }
+        i += 1;
+    }
+    true
+}
