@@ -14,7 +14,6 @@ use Rattle.words.specs.Symbols.{named}
 use Rattle.words.specs.declared.Named.{Named}
 use Rattle.calls.specs.declared.One.{One}
 use Rattle.calls.specs.declared.Two.{Two}
-use Rattle.calls.specs.declared.Form.{Form}
 use Rattle.calls.specs.declared.Form.the-variants as F
 use Rattle.calls.specs.Asked.{exactly, isWhole, oneBy, oneOf, twoBy, twoOf, productBy, productOf, castBy, castOf}
 

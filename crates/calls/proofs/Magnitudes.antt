@@ -2,7 +2,7 @@
 -- number so that the lowest number has one too.
 use mathlib.Core.Path.{_≡_, refl, ap, sym, _∙_}
 use mathlib.Core.Bool.{Bool, true, false}
-use Prim.Native.Nat.{ℕ, zero, suc, _+_, _≤_, _<_, _^_}
+use Prim.Native.Nat.{ℕ, zero, suc, _+_, _<_}
 use native.Mathlib.Omega.{arith}
 use lib.Dec.{T}
 use borrow.Author.Tests.{ltb-true, le-ltb}
@@ -11,7 +11,7 @@ use lib.Signed.{mag, ltZ, nonNeg}
 use lib.IntN.{ℤ, pos, negsuc, negℤ, natAbs, _+ℤ_, _-ℤ_, +ℤ-one, +ℤ-idl, negℤ-negℤ}
 use mir.Syntax.{w32}
 use mir.Val.{SFits, Fits, toZ, ofZ}
-use mir.ValLaws.{toZ-ofZ, toZ-fits}
+use mir.ValLaws.{toZ-ofZ}
 use Rattle.basis.specs.Choice.{pick}
 use Rattle.calls.specs.Parts.{isNegative}
 

@@ -1,12 +1,11 @@
 -- A number's text is its sign, its digits and its fraction, and never wider than the numbers of a reply.
-use mathlib.Core.Path.{_≡_, refl, ap, sym, _∙_}
-use mathlib.Core.Bool.{Bool, true, false}
-use mathlib.Core.List.{List, [], _∷_, _++_, append-assoc}
+use mathlib.Core.Path.{_≡_, ap, sym, _∙_}
+use mathlib.Core.Bool.{Bool, true}
+use mathlib.Core.List.{List, [], _∷_, _++_}
 use Prim.Native.Nat.{ℕ, _+_, _^_, _≤_, _<_}
 use native.Mathlib.Omega.{arith}
 use lib.ListN.{length, length-append}
 use Rattle.basis.specs.Choice.{pick}
-use Rattle.basis.specs.Letters.{bytes}
 use Rattle.numerals.specs.declared.Text.{Text}
 use Rattle.numerals.specs.Writing.{textIn, Added, decimal, fractionText, longest}
 use Rattle.numerals.proofs.Decimals.{decimal-le}

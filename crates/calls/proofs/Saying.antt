@@ -1,8 +1,8 @@
 -- What a call answered, put into words: the value's words, or the refusal's.
-use mathlib.Core.Path.{_≡_, refl, ap, sym, _∙_}
+use mathlib.Core.Path.{_≡_, ap, sym, _∙_}
 use mathlib.Core.List.{List}
 use Prim.Native.Nat.{ℕ}
-use Rattle.basis.specs.Answer.{Answer, gives, refuses}
+use Rattle.basis.specs.Answer.{Answer}
 use Rattle.value.specs.Kinds.{meaning}
 use Rattle.value.specs.declared.Value.{Value}
 use Rattle.value.specs.declared.Refusal.{Refusal}

@@ -3,7 +3,7 @@
 use mathlib.Core.Path.{_≡_, refl, ap, sym, _∙_}
 use mathlib.Core.Bool.{Bool, true, false}
 use mathlib.Core.List.{List}
-use Prim.Native.Nat.{ℕ, _+_, _≤_, _<_, min}
+use Prim.Native.Nat.{ℕ, _≤_, _<_, min}
 use native.Mathlib.Omega.{arith}
 use lib.Dec.{eqb, leb}
 use lib.ListN.{length}
@@ -15,14 +15,14 @@ use Rattle.numerals.proofs.Places.{within}
 use Rattle.value.specs.declared.Value.{Value}
 use Rattle.value.specs.Kinds.{okValue}
 use Rattle.value.specs.Refusals.{outside}
-use Rattle.basis.specs.Answer.{Answer, refuses}
+use Rattle.basis.specs.Answer.{refuses}
 use Rattle.shifting.specs.Operands.{operandOf}
 use Rattle.arithmetic.specs.Products as products
 use Rattle.arithmetic.specs.Products.{timesOf, maxFactor}
 use Rattle.timetable.specs.Fields.{fieldAt}
-use Rattle.calls.specs.Asked.{hasMinus, digitsAt, digitsFrom, isWhole, magnitudeOf}
+use Rattle.calls.specs.Asked.{beyond, hasMinus, digitsFrom, isWhole, magnitudeOf}
 
-module _ (s : List ℕ) (i : ℕ) (r : Run) (f : Found s i 1_000_000 r) where
+module _ (s : List ℕ) (i : ℕ) (r : Run) (f : Found s i beyond r) where
   pub no-digits : r .end ≡ i → false ≡ digitsFrom s i
   unfolding digitsFrom
   no-digits e = rw (eq-eqb (run s i .count) 0 (omega (arith, f .ends)))
@@ -39,44 +39,44 @@ module _ (s : List ℕ) {b : ℕ} (e : b ≡ at s 0) where
   after-minus h = within s 0 45 (sym e ∙ h) (omega arith)
 
   module _ {good negative : Bool} {magnitude : ℕ} where
-    pub with-minus : b ≡ 45 → (good ≡ digitsFrom s 1) × (negative ≡ true) × (magnitude ≡ min 1_000_000 (run s 1 .value))
-        → (good ≡ isWhole s) × (negative ≡ hasMinus s) × (magnitude ≡ min 1_000_000 (magnitudeOf s))
+    pub with-minus : b ≡ 45 → (good ≡ digitsFrom s 1) × (negative ≡ true) × (magnitude ≡ min beyond (run s 1 .value))
+        → (good ≡ isWhole s) × (negative ≡ hasMinus s) × (magnitude ≡ min beyond (magnitudeOf s))
     unfolding isWhole magnitudeOf
     with-minus h r =
         let m : hasMinus s ≡ true = eq-eqb (at s 0) 45 (sym e ∙ h) in
-        (r .0 ∙ sym (λ i. digitsFrom s (pick (m i) 1 0)), r .1 ∙ sym m, r .2 ∙ sym (λ i. min 1_000_000 (run s (pick (m i) 1 0) .value)))
+        (r .0 ∙ sym (λ i. digitsFrom s (pick (m i) 1 0)), r .1 ∙ sym m, r .2 ∙ sym (λ i. min beyond (run s (pick (m i) 1 0) .value)))
 
-    pub without : (b ≡ 45 → ⊥) → (good ≡ digitsFrom s 0) × (negative ≡ false) × (magnitude ≡ min 1_000_000 (run s 0 .value))
-        → (good ≡ isWhole s) × (negative ≡ hasMinus s) × (magnitude ≡ min 1_000_000 (magnitudeOf s))
+    pub without : (b ≡ 45 → ⊥) → (good ≡ digitsFrom s 0) × (negative ≡ false) × (magnitude ≡ min beyond (run s 0 .value))
+        → (good ≡ isWhole s) × (negative ≡ hasMinus s) × (magnitude ≡ min beyond (magnitudeOf s))
     unfolding isWhole magnitudeOf
     without h r =
         let m : hasMinus s ≡ false = ne-eqb (at s 0) 45 (λ q. h (e ∙ q)) in
-        (r .0 ∙ sym (λ i. digitsFrom s (pick (m i) 1 0)), r .1 ∙ sym m, r .2 ∙ sym (λ i. min 1_000_000 (run s (pick (m i) 1 0) .value)))
+        (r .0 ∙ sym (λ i. digitsFrom s (pick (m i) 1 0)), r .1 ∙ sym m, r .2 ∙ sym (λ i. min beyond (run s (pick (m i) 1 0) .value)))
 
 -- a number that is kept short is refused where the number is
 module _ (a : Value) (negative : Bool) where
-  beyond : (n : ℕ) → leb n maxFactor ≡ false → timesOf a negative n ≡ refuses outside
+  refused-beyond : (n : ℕ) → leb n maxFactor ≡ false → timesOf a negative n ≡ refuses outside
   unfolding timesOf both
-  beyond n h = (λ i. pick (both (okValue a) (h i)) (products.productOf (operandOf a) negative n) (refuses outside)) ∙ dead (okValue a)
+  refused-beyond n h = (λ i. pick (both (okValue a) (h i)) (products.productOf (operandOf a) negative n) (refuses outside)) ∙ dead (okValue a)
     where
       dead : (b : Bool) → pick (both b false) (products.productOf (operandOf a) negative n) (refuses outside) ≡ refuses outside
       dead true = refl
       dead false = refl
 
-  pub kept-short : (n : ℕ) → timesOf a negative (min 1_000_000 n) ≡ timesOf a negative n
+  pub kept-short : (n : ℕ) → timesOf a negative (min beyond n) ≡ timesOf a negative n
   kept-short n = go (leb n maxFactor) refl
     where
-      go : (b : Bool) → leb n maxFactor ≡ b → timesOf a negative (min 1_000_000 n) ≡ timesOf a negative n
+      go : (b : Bool) → leb n maxFactor ≡ b → timesOf a negative (min beyond n) ≡ timesOf a negative n
       go true h =
           let l : n ≤ maxFactor = leb-true n maxFactor h in
-          let e : min 1_000_000 n ≡ n = omega arith in
+          let e : min beyond n ≡ n = omega arith in
           ap (timesOf a negative) e
       go false h =
           let l : maxFactor < n = leb-false n maxFactor h in
-          let e : maxFactor < min 1_000_000 n = omega arith in
-          beyond (min 1_000_000 n) (lt-leb _ _ e) ∙ sym (beyond n h)
+          let e : maxFactor < min beyond n = omega arith in
+          refused-beyond (min beyond n) (lt-leb _ _ e) ∙ sym (refused-beyond n h)
 
-pub times-said : (a : Value) {b : Bool} {m : ℕ} {f : List ℕ} (line : List ℕ) → b ≡ hasMinus f → m ≡ min 1_000_000 (magnitudeOf f) → f ≡ fieldAt line 4
+pub times-said : (a : Value) {b : Bool} {m : ℕ} {f : List ℕ} (line : List ℕ) → b ≡ hasMinus f → m ≡ min beyond (magnitudeOf f) → f ≡ fieldAt line 4
     → timesOf a b m ≡ timesOf a (hasMinus (fieldAt line 4)) (magnitudeOf (fieldAt line 4))
 times-said a {b} {m} {f} line eb em ef =
     (λ i. timesOf a (eb i) (em i)) ∙ kept-short a (hasMinus f) (magnitudeOf f) ∙ (λ i. timesOf a (hasMinus (ef i)) (magnitudeOf (ef i)))

@@ -1,12 +1,11 @@
 -- docs/LINES.md, "The calculator": the answer to a line. What call it is stands first; "then each text is read, from the left;
 -- the first that does not read gives `refused` and its number. Then the call is made; a refusal gives `refused` and its number."
-use mathlib.Core.Bool.{Bool, true, false}
 use mathlib.Core.List.{List}
 use Prim.Native.Nat.{ℕ}
 use Rattle.basis.specs.Answer.{Answer, gives, refuses}
 use Rattle.basis.specs.Letters.{bytes}
 use Rattle.timetable.specs.Fields.{fieldAt}
-use Rattle.value.specs.Components.{Parts, componentsOf}
+use Rattle.value.specs.Components.{componentsOf}
 use Rattle.value.specs.Refusals.{badCondition}
 use Rattle.value.specs.Ticks.{utc}
 use Rattle.value.specs.declared.Value.{Value}

@@ -1,15 +1,15 @@
 -- docs/LINES.md, "The calculator": which call a line is. "A line that is no such call is answered with `refused` 7: an unknown
 -- word, too few or too many fields, a K that is no kind's name, an N of another form."
-use mathlib.Core.Bool.{Bool, true, false}
-use mathlib.Core.List.{List, []}
+use mathlib.Core.Bool.{Bool, false}
+use mathlib.Core.List.{List}
 use Prim.Native.Nat.{ℕ, _+_}
-use lib.Dec.{eqb, ltb}
+use lib.Dec.{eqb}
 use lib.ListN.{length}
-use Rattle.basis.specs.Choice.{pick, both}
+use Rattle.basis.specs.Choice.{pick}
 use Rattle.basis.specs.Letters.{bytes}
 use Rattle.timetable.specs.Fields.{fieldsOf, fieldAt}
 use Rattle.numerals.specs.Reading.{at, run}
-use Rattle.value.specs.declared.Kind.{Kind}
+use Rattle.arithmetic.specs.Products.{maxFactor}
 use Rattle.words.specs.Runs.{same}
 use Rattle.words.specs.Symbols.{named}
 use Rattle.words.specs.declared.Named.{Named}
@@ -42,6 +42,10 @@ isWhole s = digitsFrom s (digitsAt s)
 
 unfoldable pub magnitudeOf : List ℕ → ℕ
 magnitudeOf s = run s (digitsAt s) .value
+
+-- the first number that is no factor; code keeps greater ones as this one, which is refused like them
+abbrev pub beyond : ℕ
+beyond = maxFactor + 1
 
 -- word K T
 abbrev pub oneBy : One → Named → Form

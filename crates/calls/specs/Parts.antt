@@ -2,7 +2,7 @@
 -- the order `year month day hours minutes seconds zone`; of either duration kind all six.
 use mathlib.Core.Bool.{Bool, true, false}
 use mathlib.Core.List.{List, _∷_, _++_}
-use Prim.Native.Nat.{ℕ}
+use Prim.Native.Nat.{ℕ, _+_, _*_}
 use Prim.Native.String.{String}
 use lib.IntN.{ℤ, pos, negsuc, natAbs}
 use Rattle.basis.specs.Choice.{pick}
@@ -14,10 +14,20 @@ use Rattle.value.specs.declared.Zone.{Zone}
 use Rattle.value.specs.declared.Zone.the-variants.{Absent, At}
 use Rattle.value.specs.declared.Clock.{Clock}
 use Rattle.value.specs.declared.Lasting.{Lasting}
-use Rattle.calls.specs.Replies.{numberText}
+use Rattle.calls.specs.Replies.{numberText, numberWidth}
 
 abbrev pub space : ℕ
 space = 32
+
+-- room enough for the texts below: the names, and as many numbers
+abbrev pub dateRoom : ℕ
+dateRoom = 17 + 3 * numberWidth
+
+abbrev pub clockRoom : ℕ
+clockRoom = 24 + 3 * numberWidth
+
+abbrev pub zoneRoom : ℕ
+zoneRoom = 6 + numberWidth
 
 abbrev pub plain : String → ℕ → List ℕ
 plain name n = bytes name ++ numberText false n 0

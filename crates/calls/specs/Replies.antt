@@ -1,7 +1,7 @@
 -- A reply: the text of an answer at the start of an array that every answer fits, and zeros after it. Numbers in it have no
 -- leading zeros, and a minus before them where they are below zero.
 use mathlib.Core.Path.{_≡_}
-use mathlib.Core.Bool.{Bool, true, false}
+use mathlib.Core.Bool.{Bool, false}
 use mathlib.Core.List.{List, [], _∷_, _++_}
 use Prim.Native.Nat.{ℕ, _+_, _-_}
 use lib.ListN.{length, replicate}

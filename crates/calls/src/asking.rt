@@ -3,19 +3,20 @@ use crate::Form;
 use crate::One;
 use crate::Two;
 use numerals::byte;
+use operation::products::MAX_FACTOR;
 use timetable::fields::field;
 use timetable::fields::has_field;
 use words::Named;
 use words::runs::same;
 use words::symbols::named;
 ghost use mathlib.Core.Path.{_≡_};
-ghost use Prim.Native.Nat.{ℕ, _+_, _≤_, _<_, min};
+ghost use Prim.Native.Nat.{_+_, _≤_, _<_, min};
 ghost use lib.ListN.{length};
 ghost use Rattle.numerals.specs.Reading.{run};
 ghost use Rattle.calls.specs.Asked as the;
 
-// A whole number beyond every factor, at which one that is longer is kept.
-const BEYOND: u64 = 1_000_000;
+// The first whole number that is no factor. A greater one is kept as this one.
+const BEYOND: u64 = MAX_FACTOR as u64 + 1;
 
 // A whole number, as far as the first that is no factor; and whether it is one.
 pub struct Factor {
@@ -26,7 +27,7 @@ pub struct Factor {
 
 fn whole_from(s: &[u8], negative: bool, at: usize) -> Factor
     requires { ⌜ at ≤ length (now s) ⌝ }
-    ensures { λ r. ⌜ (r .good ≡ the.digitsFrom (now (s .entry)) at) × (r .negative ≡ negative) × (r .magnitude ≡ min 1_000_000 (run (now (s .entry)) at .value)) ⌝ }
+    ensures { λ r. ⌜ (r .good ≡ the.digitsFrom (now (s .entry)) at) × (r .negative ≡ negative) × (r .magnitude ≡ min the.beyond (run (now (s .entry)) at .value)) ⌝ }
 {
     let n = numerals::digits(s, at, BEYOND);
     let end = n.end;
@@ -46,7 +47,7 @@ fn whole_from(s: &[u8], negative: bool, at: usize) -> Factor
 }
 
 pub fn whole(s: &[u8]) -> Factor
-    ensures { λ r. ⌜ (r .good ≡ the.isWhole (now (s .entry))) × (r .negative ≡ the.hasMinus (now (s .entry))) × (r .magnitude ≡ min 1_000_000 (the.magnitudeOf (now (s .entry)))) ⌝ }
+    ensures { λ r. ⌜ (r .good ≡ the.isWhole (now (s .entry))) × (r .negative ≡ the.hasMinus (now (s .entry))) × (r .magnitude ≡ min the.beyond (the.magnitudeOf (now (s .entry)))) ⌝ }
 {
     if byte(s, 0) == b'-' {
         return whole_from(s, true, 1);

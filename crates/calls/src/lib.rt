@@ -10,7 +10,7 @@ ghost use Rattle.calls.specs.Replies.{replyOf};
 ghost use Rattle.calls.specs.Answers as the;
 ghost use Rattle.calls.specs.declared.Form.the-variants as F;
 
-pub mod asking; // asking.rt: which call a line is
+mod asking; // asking.rt: which call a line is
 mod building; // building.rt: a reply as it grows
 mod calling; // calling.rt: the call on the values that were read
 mod numbers; // numbers.rt: numbers with a sign

@@ -10,15 +10,15 @@ use value::Lasting;
 use value::Offset;
 use value::Zone;
 ghost use mathlib.Core.Path.{_≡_};
-ghost use mathlib.Core.List.{List, [], _∷_, _++_};
-ghost use Prim.Native.Nat.{ℕ, _+_, _≤_, _<_};
+ghost use mathlib.Core.List.{_∷_};
+ghost use Prim.Native.Nat.{_+_, _≤_};
 ghost use Rattle.value.specs.Components.{ofDate, ofTime, ofDateTime, ofDuration};
 ghost use Rattle.calls.specs.Replies.{replySize, replyOf, Grown};
-ghost use Rattle.calls.specs.Parts.{space, dateText, clockText, zoneText, lastingText, partsText};
+ghost use Rattle.calls.specs.Parts.{space, dateRoom, clockRoom, zoneRoom, dateText, clockText, zoneText, partsText};
 
 fn with_date(reply: Reply, d: Date) -> Reply
-    requires { ⌜ reply .len ≤ 0 ⌝ }
-    ensures { λ r. ⌜ (Grown reply r (dateText d)) × (r .len ≤ 71) ⌝ }
+    requires { ⌜ reply .len + dateRoom ≤ replySize ⌝ }
+    ensures { λ r. ⌜ (Grown reply r (dateText d)) × (r .len ≤ reply .len + dateRoom) ⌝ }
 {
     let a = with_number(reply, b"year=", false, d.year as u32, 0);
     let b = with_number(a, b" month=", false, d.month as u32, 0);
@@ -26,8 +26,8 @@ fn with_date(reply: Reply, d: Date) -> Reply
 }
 
 fn with_clock(reply: Reply, c: Clock) -> Reply
-    requires { ⌜ reply .len ≤ 72 ⌝ }
-    ensures { λ r. ⌜ (Grown reply r (clockText c)) × (r .len ≤ 150) ⌝ }
+    requires { ⌜ reply .len + clockRoom ≤ replySize ⌝ }
+    ensures { λ r. ⌜ (Grown reply r (clockText c)) × (r .len ≤ reply .len + clockRoom) ⌝ }
 {
     let a = with_number(reply, b"hours=", false, c.hours as u32, 0);
     let b = with_number(a, b" minutes=", false, c.minutes as u32, 0);
@@ -35,7 +35,7 @@ fn with_clock(reply: Reply, c: Clock) -> Reply
 }
 
 fn with_zone(reply: Reply, z: Zone) -> Reply
-    requires { ⌜ reply .len ≤ 150 ⌝ }
+    requires { ⌜ reply .len + zoneRoom ≤ replySize ⌝ }
     ensures { λ r. ⌜ Grown reply r (space ∷ zoneText z) ⌝ }
 {
     match z {

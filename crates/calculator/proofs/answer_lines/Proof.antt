@@ -7,12 +7,6 @@ use Rattle.calls.proofs.Growing.{within}
 use Rattle.calculator.proofs.Steps.{next-is}
 use Rattle.calculator.proofs.answer_lines.Statement.{statement}
 use Rattle.calculator.proofs.answer_lines.Tie as tie
-use Rattle.calculator.proofs.answer_lines.Reads as reads
-use Rattle.calculator.proofs.answer_lines.Lts as lts
-use Rattle.calculator.proofs.show.Reads as show-reads
-use Rattle.calls.proofs.answer.Reads as answer-reads
-use Rattle.timetable.proofs.lines.after_end.Reads as after-end-reads
-use Rattle.timetable.proofs.lines.line_end.Reads as line-end-reads
 
 abbrev Inv-loop : tie.InvT-loop
 Inv-loop input at₀ at = at ≤ length input
@@ -20,47 +14,36 @@ Inv-loop input at₀ at = at ≤ length input
 abbrev μ-loop : tie.MeasureT-loop
 μ-loop input at₀ at = length input - at
 
--- src/main.rt:31:5
 loop-holds : tie.Need-loop-holds Inv-loop μ-loop
 loop-holds c = omega arith
 
--- src/main.rt:32:13
 line-end-requires : tie.Need-line-end-requires Inv-loop μ-loop
 line-end-requires c κs = search needs
 
--- src/main.rt:33:28
 sub-answer : tie.Need-sub-answer Inv-loop μ-loop
 sub-answer c = omega (arith, c .line-end .ensures, end-from (c .before .before .before .before .args .input .now) (c .before .before .loop .at), end-within (c .before .before .before .before .args .input .now) (c .before .before .loop .at) (c .before .before .loop .inv))
 
--- src/main.rt:33:28
 part-answer-start : tie.Need-part-answer-start Inv-loop μ-loop
 part-answer-start c = omega (arith, c .line-end .ensures, end-from (c .before .before .before .before .args .input .now) (c .before .before .loop .at), end-within (c .before .before .before .before .args .input .now) (c .before .before .loop .at) (c .before .before .loop .inv))
 
--- src/main.rt:33:28
 part-answer-end : tie.Need-part-answer-end Inv-loop μ-loop
 part-answer-end c = omega (arith, c .line-end .ensures, end-from (c .before .before .before .before .args .input .now) (c .before .before .loop .at), end-within (c .before .before .before .before .args .input .now) (c .before .before .loop .at) (c .before .before .loop .inv))
 
--- src/main.rt:33:14
 answer-requires : tie.Need-answer-requires Inv-loop μ-loop
 answer-requires c κs = search needs
 
--- src/main.rt:33:9
 show-requires : tie.Need-show-requires Inv-loop μ-loop
 show-requires c κs = within _ _ (c .answer .ensures)
 
--- src/main.rt:34:9
 after-end-requires : tie.Need-after-end-requires Inv-loop μ-loop
 after-end-requires c κs = search needs
 
--- src/main.rt:31:5
 loop-less : tie.Need-loop-less Inv-loop μ-loop
 loop-less c = omega (arith, next-is (c .before .before .before .before .before .before .before .before .args .input .now) (c .before .before .before .before .before .before .loop .at) (c .before .before .before .before .line-end .ensures) (c .after-end .ensures), next-further (c .before .before .before .before .before .before .before .before .args .input .now) (c .before .before .before .before .before .before .loop .at) (c .before .before .before .before .before .loop-test .taken), next-within (c .before .before .before .before .before .before .before .before .args .input .now) (c .before .before .before .before .before .before .loop .at) (c .before .before .before .before .before .before .loop .inv))
 
--- src/main.rt:31:5
 loop-again : tie.Need-loop-again Inv-loop μ-loop
 loop-again c = omega (arith, next-is (c .before .before .before .before .before .before .before .before .args .input .now) (c .before .before .before .before .before .before .loop .at) (c .before .before .before .before .line-end .ensures) (c .after-end .ensures), next-within (c .before .before .before .before .before .before .before .before .args .input .now) (c .before .before .before .before .before .before .loop .at) (c .before .before .before .before .before .before .loop .inv))
 
--- src/main.rt:29:1
 returns : tie.Need-returns Inv-loop μ-loop
 returns c = search needs
 

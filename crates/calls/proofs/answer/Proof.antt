@@ -1,83 +1,59 @@
-use mathlib.Core.Path.{_≡_, refl, ap, sym, _∙_}
+use mathlib.Core.Path.{ap, sym, _∙_}
 use Rattle.calls.specs.Answers.{textBy, answerOf}
 use Rattle.calls.proofs.Saying.{as-text}
 use borrow.Author.Needs.{needs}
 use Rattle.calls.proofs.answer.Statement.{statement}
 use Rattle.calls.proofs.answer.Tie as tie
-use Rattle.calls.proofs.answer.Reads as reads
-use Rattle.calls.proofs.answer.Lts as lts
-use Rattle.calls.proofs.asking.form.Reads as form-reads
-use Rattle.calls.proofs.no_call.Reads as no-call-reads
-use Rattle.calls.proofs.cast_call.Reads as cast-call-reads
-use Rattle.calls.proofs.one_call.Reads as one-call-reads
-use Rattle.calls.proofs.product_call.Reads as product-call-reads
-use Rattle.calls.proofs.two_call.Reads as two-call-reads
 
--- src/lib.rt:98:11
 form-requires : tie.Need-form-requires
 form-requires c κs = search needs
 
--- src/lib.rt:99:38
 enum-told : tie.Need-enum-told
 enum-told c = search needs
 
--- src/lib.rt:99:21
 no-call-requires : tie.Need-no-call-requires
 no-call-requires c κs = search needs
 
--- src/lib.rt:102:21
 enum-known-o : tie.Need-enum-known-o
 enum-known-o c = search needs
 
--- src/lib.rt:102:30
 one-call-requires : tie.Need-one-call-requires
 one-call-requires c κs = search needs
 
--- src/lib.rt:103:21
 enum-known-o-2 : tie.Need-enum-known-o-2
 enum-known-o-2 c = search needs
 
--- src/lib.rt:103:33
 two-call-requires : tie.Need-two-call-requires
 two-call-requires c κs = search needs
 
--- src/lib.rt:104:23
 enum-known-k : tie.Need-enum-known-k
 enum-known-k c = search needs
 
--- src/lib.rt:104:29
 product-call-requires : tie.Need-product-call-requires
 product-call-requires c κs = search needs
 
--- src/lib.rt:105:20
 enum-known-k-2 : tie.Need-enum-known-k-2
 enum-known-k-2 c = search needs
 
--- src/lib.rt:105:29
 cast-call-requires : tie.Need-cast-call-requires
 cast-call-requires c κs = search needs
 
--- src/lib.rt:95:1
 returns : tie.Need-returns
 unfolding textBy answerOf
 returns c = as-text (ap (textBy (c .before .before .before .before .before .args .line .now)) (sym (c .before .enum-told .given .1) ∙ c .before .before .before .form .ensures)) (c .no-call .ensures)
 
--- src/lib.rt:95:1
 returns-2 : tie.Need-returns-2
 unfolding answerOf
 returns-2 c = as-text (ap (textBy (c .before .before .before .before .before .before .args .line .now)) (sym (c .before .before .o .given .1) ∙ c .before .before .before .before .form .ensures)) (c .one-call .ensures)
 
--- src/lib.rt:95:1
 returns-3 : tie.Need-returns-3
 unfolding answerOf
 returns-3 c = as-text (ap (textBy (c .before .before .before .before .before .before .args .line .now)) (sym (c .before .before .o2 .given .1) ∙ c .before .before .before .before .form .ensures)) (c .two-call .ensures)
 
--- src/lib.rt:95:1
 returns-4 : tie.Need-returns-4
 unfolding answerOf
 returns-4 c = as-text (ap (textBy (c .before .before .before .before .before .before .args .line .now)) (sym (c .before .before .k .given .1) ∙ c .before .before .before .before .form .ensures)) (c .product-call .ensures)
 
--- src/lib.rt:95:1
 returns-5 : tie.Need-returns-5
 unfolding answerOf
 returns-5 c = as-text (ap (textBy (c .before .before .before .before .before .before .args .line .now)) (sym (c .before .before .k2 .given .1) ∙ c .before .before .before .before .form .ensures)) (c .cast-call .ensures)

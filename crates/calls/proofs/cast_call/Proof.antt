@@ -1,7 +1,5 @@
-use mathlib.Core.Path.{_≡_, refl, ap, sym, _∙_}
+use mathlib.Core.Path.{ap, _∙_}
 use Rattle.text.specs.Reading.{readAs}
-use mathlib.Core.List.{List}
-use Rattle.timetable.specs.Fields.{fieldAt}
 use Rattle.value.specs.declared.Value.{Value}
 use Rattle.text.specs.Writing.{textOf}
 use Rattle.operation.specs.Casts.{castOf}
@@ -10,48 +8,32 @@ use Rattle.calls.proofs.Saying.{was-read, was-refused, renamed}
 use borrow.Author.Needs.{needs}
 use Rattle.calls.proofs.cast_call.Statement.{statement}
 use Rattle.calls.proofs.cast_call.Tie as tie
-use Rattle.calls.proofs.cast_call.Reads as reads
-use Rattle.calls.proofs.cast_call.Lts as lts
-use Rattle.calls.proofs.calling.refused.Reads as refused-reads
-use Rattle.calls.proofs.calling.value_said.Reads as value-said-reads
-use Rattle.operation.proofs.cast.Reads as cast-reads
-use Rattle.text.proofs.read.Reads as read-reads
-use Rattle.timetable.proofs.fields.field.Reads as field-reads
 
--- src/lib.rt:88:25
 field-requires : tie.Need-field-requires
 field-requires c κs = search needs
 
--- src/lib.rt:88:11
 read-requires : tie.Need-read-requires
 read-requires c κs = search needs
 
--- src/lib.rt:89:26
 enum-known-r : tie.Need-enum-known-r
 enum-known-r c = search needs
 
--- src/lib.rt:89:32
 refused-requires : tie.Need-refused-requires
 refused-requires c κs = search needs
 
--- src/lib.rt:90:21
 enum-known-a : tie.Need-enum-known-a
 enum-known-a c = search needs
 
--- src/lib.rt:90:47
 cast-requires : tie.Need-cast-requires
 cast-requires c κs = search needs
 
--- src/lib.rt:90:27
 value-said-requires : tie.Need-value-said-requires
 value-said-requires c κs = search needs
 
--- src/lib.rt:85:1
 returns : tie.Need-returns
 unfolding textBy
 returns c = was-refused (λ (a : Value). said textOf (castOf a (c .before .before .before .before .before .before .before .args .l))) (c .before .before .before .before .read .ensures ∙ ap (readAs (c .before .before .before .before .before .before .before .args .k)) (c .before .before .before .before .before .field .ensures)) (c .before .before .r .given .1) (c .refused .ensures)
 
--- src/lib.rt:85:1
 returns-2 : tie.Need-returns-2
 unfolding textBy
 returns-2 c = was-read (λ (a : Value). said textOf (castOf a (c .before .before .before .before .before .before .before .before .args .l))) (c .before .before .before .before .before .read .ensures ∙ ap (readAs (c .before .before .before .before .before .before .before .before .args .k)) (c .before .before .before .before .before .before .field .ensures)) (c .before .before .before .a .given .1) (renamed textOf (c .before .cast .ensures) (c .value-said .ensures))

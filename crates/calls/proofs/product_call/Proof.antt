@@ -1,6 +1,5 @@
-use mathlib.Core.Path.{_≡_, refl, ap, sym, _∙_}
+use mathlib.Core.Path.{ap, _∙_}
 use Rattle.text.specs.Reading.{readAs}
-use mathlib.Core.List.{List}
 use Rattle.timetable.specs.Fields.{fieldAt}
 use Rattle.value.specs.declared.Value.{Value}
 use Rattle.text.specs.Writing.{textOf}
@@ -12,57 +11,38 @@ use Rattle.calls.proofs.Saying.{was-read, was-refused, renamed}
 use borrow.Author.Needs.{needs}
 use Rattle.calls.proofs.product_call.Statement.{statement}
 use Rattle.calls.proofs.product_call.Tie as tie
-use Rattle.calls.proofs.product_call.Reads as reads
-use Rattle.calls.proofs.product_call.Lts as lts
-use Rattle.calls.proofs.asking.whole.Reads as whole-reads
-use Rattle.calls.proofs.calling.refused.Reads as refused-reads
-use Rattle.calls.proofs.calling.value_said.Reads as value-said-reads
-use Rattle.operation.proofs.times.Reads as times-reads
-use Rattle.text.proofs.read.Reads as read-reads
-use Rattle.timetable.proofs.fields.field.Reads as field-reads
 
--- src/lib.rt:76:25
 field-requires : tie.Need-field-requires
 field-requires c κs = search needs
 
--- src/lib.rt:76:11
 read-requires : tie.Need-read-requires
 read-requires c κs = search needs
 
--- src/lib.rt:77:26
 enum-known-r : tie.Need-enum-known-r
 enum-known-r c = search needs
 
--- src/lib.rt:77:32
 refused-requires : tie.Need-refused-requires
 refused-requires c κs = search needs
 
--- src/lib.rt:78:21
 enum-known-a : tie.Need-enum-known-a
 enum-known-a c = search needs
 
--- src/lib.rt:79:35
 field-requires-2 : tie.Need-field-requires-2
 field-requires-2 c κs = search needs
 
--- src/lib.rt:79:17
 whole-requires : tie.Need-whole-requires
 whole-requires c κs = search needs
 
--- src/lib.rt:80:33
 times-requires : tie.Need-times-requires
 times-requires c κs = search needs
 
--- src/lib.rt:80:13
 value-said-requires : tie.Need-value-said-requires
 value-said-requires c κs = search needs
 
--- src/lib.rt:73:1
 returns : tie.Need-returns
 unfolding textBy
 returns c = was-refused (λ (a : Value). said textOf (timesOf a (hasMinus (fieldAt (c .before .before .before .before .before .before .before .args .line .now) 4)) (magnitudeOf (fieldAt (c .before .before .before .before .before .before .before .args .line .now) 4)))) (c .before .before .before .before .read .ensures ∙ ap (readAs (c .before .before .before .before .before .before .before .args .k)) (c .before .before .before .before .before .field .ensures)) (c .before .before .r .given .1) (c .refused .ensures)
 
--- src/lib.rt:73:1
 returns-2 : tie.Need-returns-2
 unfolding textBy
 returns-2 c = was-read (λ (a : Value). said textOf (timesOf a (hasMinus (fieldAt (c .before .before .before .before .before .before .before .before .before .before .args .line .now) 4)) (magnitudeOf (fieldAt (c .before .before .before .before .before .before .before .before .before .before .args .line .now) 4)))) (c .before .before .before .before .before .before .before .read .ensures ∙ ap (readAs (c .before .before .before .before .before .before .before .before .before .before .args .k)) (c .before .before .before .before .before .before .before .before .field .ensures)) (c .before .before .before .before .before .a .given .1) (renamed textOf (c .before .times .ensures ∙ times-said _ (c .before .before .before .before .before .before .before .before .before .before .args .line .now) (c .before .before .whole .ensures .1) (c .before .before .whole .ensures .2) (c .before .before .before .field2 .ensures)) (c .value-said .ensures))

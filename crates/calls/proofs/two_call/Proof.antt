@@ -1,6 +1,5 @@
-use mathlib.Core.Path.{_≡_, refl, ap, sym, _∙_}
+use mathlib.Core.Path.{ap, _∙_}
 use Rattle.text.specs.Reading.{readAs}
-use mathlib.Core.List.{List}
 use Rattle.timetable.specs.Fields.{fieldAt}
 use Rattle.value.specs.declared.Value.{Value}
 use Rattle.calls.specs.Answers.{said, twoText, textBy}
@@ -8,68 +7,48 @@ use Rattle.calls.proofs.Saying.{was-read, was-refused}
 use borrow.Author.Needs.{needs}
 use Rattle.calls.proofs.two_call.Statement.{statement}
 use Rattle.calls.proofs.two_call.Tie as tie
-use Rattle.calls.proofs.two_call.Reads as reads
-use Rattle.calls.proofs.two_call.Lts as lts
-use Rattle.calls.proofs.calling.refused.Reads as refused-reads
-use Rattle.calls.proofs.calling.two_said.Reads as two-said-reads
-use Rattle.text.proofs.read.Reads as read-reads
-use Rattle.timetable.proofs.fields.field.Reads as field-reads
 
--- src/lib.rt:64:25
 field-requires : tie.Need-field-requires
 field-requires c κs = search needs
 
--- src/lib.rt:64:11
 read-requires : tie.Need-read-requires
 read-requires c κs = search needs
 
--- src/lib.rt:65:26
 enum-known-r : tie.Need-enum-known-r
 enum-known-r c = search needs
 
--- src/lib.rt:65:32
 refused-requires : tie.Need-refused-requires
 refused-requires c κs = search needs
 
--- src/lib.rt:66:21
 enum-known-a : tie.Need-enum-known-a
 enum-known-a c = search needs
 
--- src/lib.rt:66:47
 field-requires-2 : tie.Need-field-requires-2
 field-requires-2 c κs = search needs
 
--- src/lib.rt:66:33
 read-requires-2 : tie.Need-read-requires-2
 read-requires-2 c κs = search needs
 
--- src/lib.rt:67:30
 enum-known-r-2 : tie.Need-enum-known-r-2
 enum-known-r-2 c = search needs
 
--- src/lib.rt:67:36
 refused-requires-2 : tie.Need-refused-requires-2
 refused-requires-2 c κs = search needs
 
--- src/lib.rt:68:25
 enum-known-b : tie.Need-enum-known-b
 enum-known-b c = search needs
 
--- src/lib.rt:68:31
 two-said-requires : tie.Need-two-said-requires
 two-said-requires c κs = search needs
 
--- src/lib.rt:61:1
 returns : tie.Need-returns
 unfolding textBy
 returns c = was-refused (λ (a : Value). said (twoText (c .before .before .before .before .before .before .before .args .o) a) (readAs (c .before .before .before .before .before .before .before .args .l) (fieldAt (c .before .before .before .before .before .before .before .args .line .now) 5))) (c .before .before .before .before .read .ensures ∙ ap (readAs (c .before .before .before .before .before .before .before .args .k)) (c .before .before .before .before .before .field .ensures)) (c .before .before .r .given .1) (c .refused .ensures)
 
--- src/lib.rt:61:1
 returns-2 : tie.Need-returns-2
 unfolding textBy
 returns-2 c = was-read (λ (a : Value). said (twoText (c .before .before .before .before .before .before .before .before .before .before .before .before .args .o) a) (readAs (c .before .before .before .before .before .before .before .before .before .before .before .before .args .l) (fieldAt (c .before .before .before .before .before .before .before .before .before .before .before .before .args .line .now) 5))) (c .before .before .before .before .before .before .before .before .before .read .ensures ∙ ap (readAs (c .before .before .before .before .before .before .before .before .before .before .before .before .args .k)) (c .before .before .before .before .before .before .before .before .before .before .field .ensures)) (c .before .before .before .before .before .before .before .a .given .1) (was-refused (twoText (c .before .before .before .before .before .before .before .before .before .before .before .before .args .o) _) (c .before .before .before .before .read2 .ensures ∙ ap (readAs (c .before .before .before .before .before .before .before .before .before .before .before .before .args .l)) (c .before .before .before .before .before .field2 .ensures)) (c .before .before .r2 .given .1) (c .refused2 .ensures))
 
--- src/lib.rt:61:1
 returns-3 : tie.Need-returns-3
 unfolding textBy
 returns-3 c = was-read (λ (a : Value). said (twoText (c .before .before .before .before .before .before .before .before .before .before .before .before .args .o) a) (readAs (c .before .before .before .before .before .before .before .before .before .before .before .before .args .l) (fieldAt (c .before .before .before .before .before .before .before .before .before .before .before .before .args .line .now) 5))) (c .before .before .before .before .before .before .before .before .before .read .ensures ∙ ap (readAs (c .before .before .before .before .before .before .before .before .before .before .before .before .args .k)) (c .before .before .before .before .before .before .before .before .before .before .field .ensures)) (c .before .before .before .before .before .before .before .a .given .1) (was-read (twoText (c .before .before .before .before .before .before .before .before .before .before .before .before .args .o) _) (c .before .before .before .before .read2 .ensures ∙ ap (readAs (c .before .before .before .before .before .before .before .before .before .before .before .before .args .l)) (c .before .before .before .before .before .field2 .ensures)) (c .before .before .b .given .1) (c .two-said .ensures))

@@ -3,61 +3,43 @@ use Rattle.calls.proofs.Forms.{no-cast, is-cast, names}
 use borrow.Author.Needs.{needs}
 use Rattle.calls.proofs.asking.cast.Statement.{statement}
 use Rattle.calls.proofs.asking.cast.Tie as tie
-use Rattle.calls.proofs.asking.cast.Reads as reads
-use Rattle.calls.proofs.asking.cast.Lts as lts
-use Rattle.calls.proofs.asking.exactly.Reads as exactly-reads
-use Rattle.timetable.proofs.fields.field.Reads as field-reads
-use Rattle.words.proofs.symbols.named.Reads as named-reads
 
--- src/asking.rt:115:9
 exactly-requires : tie.Need-exactly-requires
 exactly-requires c κs = search needs
 
--- src/asking.rt:116:9
 returns : tie.Need-returns
 returns c = no-cast (c .before .before .before .args .line .now) (c .before .exactly .ensures) (c .if1 .taken)
 
--- src/asking.rt:118:17
 field-requires : tie.Need-field-requires
 field-requires c κs = search needs
 
--- src/asking.rt:118:11
 named-requires : tie.Need-named-requires
 named-requires c κs = search needs
 
--- src/asking.rt:119:22
 enum-told : tie.Need-enum-told
 enum-told c = search needs
 
--- src/asking.rt:120:19
 enum-known-k : tie.Need-enum-known-k
 enum-known-k c = search needs
 
--- src/asking.rt:120:37
 field-requires-2 : tie.Need-field-requires-2
 field-requires-2 c κs = search needs
 
--- src/asking.rt:120:31
 named-requires-2 : tie.Need-named-requires-2
 named-requires-2 c κs = search needs
 
--- src/asking.rt:121:26
 enum-told-2 : tie.Need-enum-told-2
 enum-told-2 c = search needs
 
--- src/asking.rt:122:23
 enum-known-l : tie.Need-enum-known-l
 enum-known-l c = search needs
 
--- src/asking.rt:112:1
 returns-2 : tie.Need-returns-2
 returns-2 c = is-cast (c .before .before .before .before .before .before .before .args .line .now) (c .before .before .before .before .before .exactly .ensures) (c .before .before .before .before .if1 .left) (names (c .before .before .before .before .before .before .before .args .line .now) 2 (c .before .before .before .field .ensures) (c .before .before .named .ensures) (c .enum-told .given .1)) refl
 
--- src/asking.rt:112:1
 returns-3 : tie.Need-returns-3
 returns-3 c = is-cast (c .before .before .before .before .before .before .before .before .before .before .before .before .args .line .now) (c .before .before .before .before .before .before .before .before .before .before .exactly .ensures) (c .before .before .before .before .before .before .before .before .before .if1 .left) (names (c .before .before .before .before .before .before .before .before .before .before .before .before .args .line .now) 2 (c .before .before .before .before .before .before .before .before .field .ensures) (c .before .before .before .before .before .before .before .named .ensures) (c .before .before .before .before .before .k .given .1)) (names (c .before .before .before .before .before .before .before .before .before .before .before .before .args .line .now) 4 (c .before .before .before .field2 .ensures) (c .before .before .named2 .ensures) (c .enum-told2 .given .1))
 
--- src/asking.rt:112:1
 returns-4 : tie.Need-returns-4
 returns-4 c = is-cast (c .before .before .before .before .before .before .before .before .before .before .before .before .before .args .line .now) (c .before .before .before .before .before .before .before .before .before .before .before .exactly .ensures) (c .before .before .before .before .before .before .before .before .before .before .if1 .left) (names (c .before .before .before .before .before .before .before .before .before .before .before .before .before .args .line .now) 2 (c .before .before .before .before .before .before .before .before .before .field .ensures) (c .before .before .before .before .before .before .before .before .named .ensures) (c .before .before .before .before .before .before .k .given .1)) (names (c .before .before .before .before .before .before .before .before .before .before .before .before .before .args .line .now) 4 (c .before .before .before .before .field2 .ensures) (c .before .before .before .named2 .ensures) (c .before .l .given .1))
 

@@ -2,27 +2,19 @@ use Rattle.calls.proofs.Forms.{too-few, enough}
 use borrow.Author.Needs.{needs}
 use Rattle.calls.proofs.asking.exactly.Statement.{statement}
 use Rattle.calls.proofs.asking.exactly.Tie as tie
-use Rattle.calls.proofs.asking.exactly.Reads as reads
-use Rattle.calls.proofs.asking.exactly.Lts as lts
-use Rattle.timetable.proofs.fields.has_field.Reads as has-field-reads
 
--- src/asking.rt:61:9
 has-field-requires : tie.Need-has-field-requires
 has-field-requires c κs = search needs
 
--- src/asking.rt:62:9
 returns : tie.Need-returns
 returns c = too-few (c .before .before .before .args .line .now) (c .before .before .before .args .n) (c .before .before .before .pre .0) (c .before .has-field .ensures) (c .if1 .taken)
 
--- src/asking.rt:64:22
 add-has-field : tie.Need-add-has-field
 add-has-field c = search needs
 
--- src/asking.rt:64:6
 has-field-requires-2 : tie.Need-has-field-requires-2
 has-field-requires-2 c κs = search needs
 
--- src/asking.rt:57:1
 returns-2 : tie.Need-returns-2
 returns-2 c = enough (c .before .before .before .before .args .line .now) (c .before .before .before .before .args .n) (c .before .before .before .before .pre .0) (c .before .before .has-field .ensures) (c .before .if1 .left) (c .has-field2 .ensures)
 

@@ -2,41 +2,28 @@ use Rattle.calls.proofs.Forms.{no-one, is-one, names}
 use borrow.Author.Needs.{needs}
 use Rattle.calls.proofs.asking.one.Statement.{statement}
 use Rattle.calls.proofs.asking.one.Tie as tie
-use Rattle.calls.proofs.asking.one.Reads as reads
-use Rattle.calls.proofs.asking.one.Lts as lts
-use Rattle.calls.proofs.asking.exactly.Reads as exactly-reads
-use Rattle.timetable.proofs.fields.field.Reads as field-reads
-use Rattle.words.proofs.symbols.named.Reads as named-reads
 
--- src/asking.rt:70:9
 exactly-requires : tie.Need-exactly-requires
 exactly-requires c κs = search needs
 
--- src/asking.rt:71:9
 returns : tie.Need-returns
 returns c = no-one (c .before .before .before .args .line .now) (c .before .before .before .args .o) (c .before .exactly .ensures) (c .if1 .taken)
 
--- src/asking.rt:73:17
 field-requires : tie.Need-field-requires
 field-requires c κs = search needs
 
--- src/asking.rt:73:11
 named-requires : tie.Need-named-requires
 named-requires c κs = search needs
 
--- src/asking.rt:74:22
 enum-told : tie.Need-enum-told
 enum-told c = search needs
 
--- src/asking.rt:75:19
 enum-known-k : tie.Need-enum-known-k
 enum-known-k c = search needs
 
--- src/asking.rt:67:1
 returns-2 : tie.Need-returns-2
 returns-2 c = is-one (c .before .before .before .before .before .before .before .args .line .now) (c .before .before .before .before .before .before .before .args .o) (c .before .before .before .before .before .exactly .ensures) (c .before .before .before .before .if1 .left) (names (c .before .before .before .before .before .before .before .args .line .now) 2 (c .before .before .before .field .ensures) (c .before .before .named .ensures) (c .enum-told .given .1))
 
--- src/asking.rt:67:1
 returns-3 : tie.Need-returns-3
 returns-3 c = is-one (c .before .before .before .before .before .before .before .before .args .line .now) (c .before .before .before .before .before .before .before .before .args .o) (c .before .before .before .before .before .before .exactly .ensures) (c .before .before .before .before .before .if1 .left) (names (c .before .before .before .before .before .before .before .before .args .line .now) 2 (c .before .before .before .before .field .ensures) (c .before .before .before .named .ensures) (c .before .k .given .1))
 

@@ -3,61 +3,43 @@ use Rattle.calls.proofs.Forms.{no-two, is-two, names}
 use borrow.Author.Needs.{needs}
 use Rattle.calls.proofs.asking.two.Statement.{statement}
 use Rattle.calls.proofs.asking.two.Tie as tie
-use Rattle.calls.proofs.asking.two.Reads as reads
-use Rattle.calls.proofs.asking.two.Lts as lts
-use Rattle.calls.proofs.asking.exactly.Reads as exactly-reads
-use Rattle.timetable.proofs.fields.field.Reads as field-reads
-use Rattle.words.proofs.symbols.named.Reads as named-reads
 
--- src/asking.rt:82:9
 exactly-requires : tie.Need-exactly-requires
 exactly-requires c κs = search needs
 
--- src/asking.rt:83:9
 returns : tie.Need-returns
 returns c = no-two (c .before .before .before .args .line .now) (c .before .before .before .args .o) (c .before .exactly .ensures) (c .if1 .taken)
 
--- src/asking.rt:85:17
 field-requires : tie.Need-field-requires
 field-requires c κs = search needs
 
--- src/asking.rt:85:11
 named-requires : tie.Need-named-requires
 named-requires c κs = search needs
 
--- src/asking.rt:86:22
 enum-told : tie.Need-enum-told
 enum-told c = search needs
 
--- src/asking.rt:87:19
 enum-known-k : tie.Need-enum-known-k
 enum-known-k c = search needs
 
--- src/asking.rt:87:37
 field-requires-2 : tie.Need-field-requires-2
 field-requires-2 c κs = search needs
 
--- src/asking.rt:87:31
 named-requires-2 : tie.Need-named-requires-2
 named-requires-2 c κs = search needs
 
--- src/asking.rt:88:26
 enum-told-2 : tie.Need-enum-told-2
 enum-told-2 c = search needs
 
--- src/asking.rt:89:23
 enum-known-l : tie.Need-enum-known-l
 enum-known-l c = search needs
 
--- src/asking.rt:79:1
 returns-2 : tie.Need-returns-2
 returns-2 c = is-two (c .before .before .before .before .before .before .before .args .line .now) (c .before .before .before .before .before .before .before .args .o) (c .before .before .before .before .before .exactly .ensures) (c .before .before .before .before .if1 .left) (names (c .before .before .before .before .before .before .before .args .line .now) 2 (c .before .before .before .field .ensures) (c .before .before .named .ensures) (c .enum-told .given .1)) refl
 
--- src/asking.rt:79:1
 returns-3 : tie.Need-returns-3
 returns-3 c = is-two (c .before .before .before .before .before .before .before .before .before .before .before .before .args .line .now) (c .before .before .before .before .before .before .before .before .before .before .before .before .args .o) (c .before .before .before .before .before .before .before .before .before .before .exactly .ensures) (c .before .before .before .before .before .before .before .before .before .if1 .left) (names (c .before .before .before .before .before .before .before .before .before .before .before .before .args .line .now) 2 (c .before .before .before .before .before .before .before .before .field .ensures) (c .before .before .before .before .before .before .before .named .ensures) (c .before .before .before .before .before .k .given .1)) (names (c .before .before .before .before .before .before .before .before .before .before .before .before .args .line .now) 4 (c .before .before .before .field2 .ensures) (c .before .before .named2 .ensures) (c .enum-told2 .given .1))
 
--- src/asking.rt:79:1
 returns-4 : tie.Need-returns-4
 returns-4 c = is-two (c .before .before .before .before .before .before .before .before .before .before .before .before .before .args .line .now) (c .before .before .before .before .before .before .before .before .before .before .before .before .before .args .o) (c .before .before .before .before .before .before .before .before .before .before .before .exactly .ensures) (c .before .before .before .before .before .before .before .before .before .before .if1 .left) (names (c .before .before .before .before .before .before .before .before .before .before .before .before .before .args .line .now) 2 (c .before .before .before .before .before .before .before .before .before .field .ensures) (c .before .before .before .before .before .before .before .before .named .ensures) (c .before .before .before .before .before .before .k .given .1)) (names (c .before .before .before .before .before .before .before .before .before .before .before .before .before .args .line .now) 4 (c .before .before .before .before .field2 .ensures) (c .before .before .before .named2 .ensures) (c .before .l .given .1))
 

@@ -1,25 +1,18 @@
-use mathlib.Core.Path.{_≡_, refl, ap, sym, _∙_}
+use mathlib.Core.Path.{refl}
 use Rattle.calls.proofs.Wholes.{no-digits, some-digits}
 use borrow.Author.Needs.{needs}
 use Rattle.calls.proofs.asking.whole_from.Statement.{statement}
 use Rattle.calls.proofs.asking.whole_from.Tie as tie
-use Rattle.calls.proofs.asking.whole_from.Reads as reads
-use Rattle.calls.proofs.asking.whole_from.Lts as lts
-use Rattle.numerals.proofs.digits.Reads as digits-reads
 
--- src/asking.rt:31:9
 digits-requires : tie.Need-digits-requires
 digits-requires c κs = search needs
 
--- src/asking.rt:33:21
 cast-magnitude : tie.Need-cast-magnitude
 cast-magnitude c = search needs
 
--- src/asking.rt:35:9
 returns : tie.Need-returns
 returns c = (no-digits (c .before .before .before .before .args .s .now) (c .before .before .before .before .args .at) (c .before .before .digits .result) (c .before .before .digits .ensures) (c .if1 .taken), refl, c .before .before .digits .ensures .capped)
 
--- src/asking.rt:27:1
 returns-2 : tie.Need-returns-2
 returns-2 c = (some-digits (c .before .before .before .before .args .s .now) (c .before .before .before .before .args .at) (c .before .before .digits .result) (c .before .before .digits .ensures) (c .if1 .left), refl, c .before .before .digits .ensures .capped)
 

@@ -1,75 +1,53 @@
-use mathlib.Core.Path.{_≡_, refl, ap, sym, _∙_}
+use mathlib.Core.Path.{ap, sym}
 use Rattle.value.specs.Components.{meaning}
 use Rattle.calls.specs.Parts.{partsText}
 use Rattle.calls.proofs.Saying.{renamed}
 use borrow.Author.Needs.{needs}
 use Rattle.calls.proofs.calling.components_said.Statement.{statement}
 use Rattle.calls.proofs.calling.components_said.Tie as tie
-use Rattle.calls.proofs.calling.components_said.Reads as reads
-use Rattle.calls.proofs.calling.components_said.Lts as lts
-use Rattle.calls.proofs.calling.refused.Reads as refused-reads
-use Rattle.calls.proofs.parts.of_date.Reads as of-date-reads
-use Rattle.calls.proofs.parts.of_date_time.Reads as of-date-time-reads
-use Rattle.calls.proofs.parts.of_duration.Reads as of-duration-reads
-use Rattle.calls.proofs.parts.of_time.Reads as of-time-reads
 
--- src/calling.rt:61:26
 enum-known-a : tie.Need-enum-known-a
 enum-known-a c = search needs
 
--- src/calling.rt:61:35
 of-date-requires : tie.Need-of-date-requires
 of-date-requires c κs = search needs
 
--- src/calling.rt:62:26
 enum-known-a-2 : tie.Need-enum-known-a-2
 enum-known-a-2 c = search needs
 
--- src/calling.rt:62:35
 of-time-requires : tie.Need-of-time-requires
 of-time-requires c κs = search needs
 
--- src/calling.rt:63:30
 enum-known-a-3 : tie.Need-enum-known-a-3
 enum-known-a-3 c = search needs
 
--- src/calling.rt:63:42
 of-date-time-requires : tie.Need-of-date-time-requires
 of-date-time-requires c κs = search needs
 
--- src/calling.rt:64:30
 enum-known-a-4 : tie.Need-enum-known-a-4
 enum-known-a-4 c = search needs
 
--- src/calling.rt:64:36
 of-duration-requires : tie.Need-of-duration-requires
 of-duration-requires c κs = search needs
 
--- src/calling.rt:65:29
 enum-known-a-5 : tie.Need-enum-known-a-5
 enum-known-a-5 c = search needs
 
--- src/calling.rt:65:35
 refused-requires : tie.Need-refused-requires
 refused-requires c κs = search needs
 
--- src/calling.rt:57:1
 returns : tie.Need-returns
 returns c = renamed partsText (ap meaning (sym (c .before .before .a .given .1))) (c .of-date .ensures)
 
--- src/calling.rt:57:1
 returns-2 : tie.Need-returns-2
 returns-2 c = renamed partsText (ap meaning (sym (c .before .before .a2 .given .1))) (c .of-time .ensures)
 
--- src/calling.rt:57:1
 returns-3 : tie.Need-returns-3
 returns-3 c = renamed partsText (ap meaning (sym (c .before .before .a3 .given .1))) (c .of-date-time .ensures)
 
--- src/calling.rt:57:1
 returns-4 : tie.Need-returns-4
 returns-4 c = renamed partsText (ap meaning (sym (c .before .before .a4 .given .1))) (c .of-duration .ensures)
 
--- src/calling.rt:57:1
 returns-5 : tie.Need-returns-5
 returns-5 c = renamed partsText (ap meaning (sym (c .before .before .a5 .given .1))) (c .refused .ensures)
 

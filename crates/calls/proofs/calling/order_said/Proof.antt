@@ -1,4 +1,4 @@
-use mathlib.Core.Path.{_≡_, refl, ap, sym, _∙_}
+use mathlib.Core.Path.{ap, sym}
 use Rattle.operation.specs.Order.{meaning}
 use Rattle.calls.specs.Answers.{orderText}
 use Rattle.calls.proofs.Growing.{of-nothing}
@@ -6,81 +6,58 @@ use Rattle.calls.proofs.Saying.{renamed}
 use borrow.Author.Needs.{needs}
 use Rattle.calls.proofs.calling.order_said.Statement.{statement}
 use Rattle.calls.proofs.calling.order_said.Tie as tie
-use Rattle.calls.proofs.calling.order_said.Reads as reads
-use Rattle.calls.proofs.calling.order_said.Lts as lts
-use Rattle.calls.proofs.building.joined.Reads as joined-reads
-use Rattle.calls.proofs.building.nothing.Reads as nothing-reads
-use Rattle.calls.proofs.calling.refused.Reads as refused-reads
 
--- src/calling.rt:50:34
 enum-told : tie.Need-enum-told
 enum-told c = search needs
 
--- src/calling.rt:50:34
 nothing-requires : tie.Need-nothing-requires
 nothing-requires c κs = search needs
 
--- src/calling.rt:50:45
 slice-aggregate-joined : tie.Need-slice-aggregate-joined
 slice-aggregate-joined c = search needs
 
--- src/calling.rt:50:27
 joined-requires : tie.Need-joined-requires
 joined-requires c κs = search needs
 
--- src/calling.rt:51:35
 enum-told-2 : tie.Need-enum-told-2
 enum-told-2 c = search needs
 
--- src/calling.rt:51:35
 nothing-requires-2 : tie.Need-nothing-requires-2
 nothing-requires-2 c κs = search needs
 
--- src/calling.rt:51:46
 slice-aggregate-joined-2 : tie.Need-slice-aggregate-joined-2
 slice-aggregate-joined-2 c = search needs
 
--- src/calling.rt:51:28
 joined-requires-2 : tie.Need-joined-requires-2
 joined-requires-2 c κs = search needs
 
--- src/calling.rt:52:37
 enum-told-3 : tie.Need-enum-told-3
 enum-told-3 c = search needs
 
--- src/calling.rt:52:37
 nothing-requires-3 : tie.Need-nothing-requires-3
 nothing-requires-3 c κs = search needs
 
--- src/calling.rt:52:48
 slice-aggregate-joined-3 : tie.Need-slice-aggregate-joined-3
 slice-aggregate-joined-3 c = search needs
 
--- src/calling.rt:52:30
 joined-requires-3 : tie.Need-joined-requires-3
 joined-requires-3 c κs = search needs
 
--- src/calling.rt:53:27
 enum-known-a : tie.Need-enum-known-a
 enum-known-a c = search needs
 
--- src/calling.rt:53:33
 refused-requires : tie.Need-refused-requires
 refused-requires c κs = search needs
 
--- src/calling.rt:46:1
 returns : tie.Need-returns
 returns c = renamed orderText (ap meaning (sym (c .before .before .before .enum-told .given .1))) (of-nothing (c .before .before .nothing .ensures) (c .joined .ensures))
 
--- src/calling.rt:46:1
 returns-2 : tie.Need-returns-2
 returns-2 c = renamed orderText (ap meaning (sym (c .before .before .before .enum-told2 .given .1))) (of-nothing (c .before .before .nothing2 .ensures) (c .joined2 .ensures))
 
--- src/calling.rt:46:1
 returns-3 : tie.Need-returns-3
 returns-3 c = renamed orderText (ap meaning (sym (c .before .before .before .enum-told3 .given .1))) (of-nothing (c .before .before .nothing3 .ensures) (c .joined3 .ensures))
 
--- src/calling.rt:46:1
 returns-4 : tie.Need-returns-4
 returns-4 c = renamed orderText (ap meaning (sym (c .before .before .a .given .1))) (c .refused .ensures)
 

@@ -3,28 +3,19 @@ use Rattle.calls.proofs.Growing.{of-nothing}
 use borrow.Author.Needs.{needs}
 use Rattle.calls.proofs.calling.refused.Statement.{statement}
 use Rattle.calls.proofs.calling.refused.Tie as tie
-use Rattle.calls.proofs.calling.refused.Reads as reads
-use Rattle.calls.proofs.calling.refused.Lts as lts
-use Rattle.calls.proofs.building.nothing.Reads as nothing-reads
-use Rattle.calls.proofs.numbers.with_number.Reads as with-number-reads
 
--- src/calling.rt:27:17
 nothing-requires : tie.Need-nothing-requires
 nothing-requires c κs = search needs
 
--- src/calling.rt:27:28
 slice-aggregate-with-number : tie.Need-slice-aggregate-with-number
 slice-aggregate-with-number c = search needs
 
--- src/calling.rt:27:49
 cast-with-number : tie.Need-cast-with-number
 cast-with-number c = search needs
 
--- src/calling.rt:27:5
 with-number-requires : tie.Need-with-number-requires
 with-number-requires c κs = search needs
 
--- src/calling.rt:24:1
 returns : tie.Need-returns
 unfolding refusedText
 returns c = of-nothing (c .before .before .before .nothing .ensures) (c .with-number .ensures .0)

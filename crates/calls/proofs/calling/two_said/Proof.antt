@@ -1,4 +1,4 @@
-use mathlib.Core.Path.{_≡_, refl, ap, sym, _∙_}
+use mathlib.Core.Path.{ap, sym}
 use Rattle.text.specs.Writing.{textOf}
 use Rattle.calls.specs.declared.Two.{Two}
 use Rattle.calls.specs.Answers.{orderText, twoText}
@@ -6,79 +6,55 @@ use Rattle.calls.proofs.Saying.{renamed, as-text}
 use borrow.Author.Needs.{needs}
 use Rattle.calls.proofs.calling.two_said.Statement.{statement}
 use Rattle.calls.proofs.calling.two_said.Tie as tie
-use Rattle.calls.proofs.calling.two_said.Reads as reads
-use Rattle.calls.proofs.calling.two_said.Lts as lts
-use Rattle.calls.proofs.calling.order_said.Reads as order-said-reads
-use Rattle.calls.proofs.calling.value_said.Reads as value-said-reads
-use Rattle.operation.proofs.adjust.Reads as adjust-reads
-use Rattle.operation.proofs.compare.Reads as compare-reads
-use Rattle.operation.proofs.minus.Reads as minus-reads
-use Rattle.operation.proofs.plus.Reads as plus-reads
 
--- src/calling.rt:83:36
 enum-told : tie.Need-enum-told
 enum-told c = search needs
 
--- src/calling.rt:83:36
 compare-requires : tie.Need-compare-requires
 compare-requires c κs = search needs
 
--- src/calling.rt:83:25
 order-said-requires : tie.Need-order-said-requires
 order-said-requires c κs = search needs
 
--- src/calling.rt:84:32
 enum-told-2 : tie.Need-enum-told-2
 enum-told-2 c = search needs
 
--- src/calling.rt:84:32
 plus-requires : tie.Need-plus-requires
 plus-requires c κs = search needs
 
--- src/calling.rt:84:21
 value-said-requires : tie.Need-value-said-requires
 value-said-requires c κs = search needs
 
--- src/calling.rt:85:37
 enum-told-3 : tie.Need-enum-told-3
 enum-told-3 c = search needs
 
--- src/calling.rt:85:37
 minus-requires : tie.Need-minus-requires
 minus-requires c κs = search needs
 
--- src/calling.rt:85:26
 value-said-requires-2 : tie.Need-value-said-requires-2
 value-said-requires-2 c κs = search needs
 
--- src/calling.rt:86:35
 enum-told-4 : tie.Need-enum-told-4
 enum-told-4 c = search needs
 
--- src/calling.rt:86:35
 adjust-requires : tie.Need-adjust-requires
 adjust-requires c κs = search needs
 
--- src/calling.rt:86:24
 value-said-requires-3 : tie.Need-value-said-requires-3
 value-said-requires-3 c κs = search needs
 
--- src/calling.rt:79:1
 returns : tie.Need-returns
 unfolding twoText
 returns c = as-text (ap (λ (x : Two). twoText x (c .before .before .before .before .args .a) (c .before .before .before .before .args .b)) (sym (c .before .before .enum-told .given .1))) (renamed orderText (c .before .compare .ensures) (c .order-said .ensures))
 
--- src/calling.rt:79:1
 returns-2 : tie.Need-returns-2
 unfolding twoText
 returns-2 c = as-text (ap (λ (x : Two). twoText x (c .before .before .before .before .args .a) (c .before .before .before .before .args .b)) (sym (c .before .before .enum-told2 .given .1))) (renamed textOf (c .before .plus .ensures) (c .value-said .ensures))
 
--- src/calling.rt:79:1
 returns-3 : tie.Need-returns-3
 unfolding twoText
 returns-3 c = as-text (ap (λ (x : Two). twoText x (c .before .before .before .before .args .a) (c .before .before .before .before .args .b)) (sym (c .before .before .enum-told3 .given .1))) (renamed textOf (c .before .minus .ensures) (c .value-said2 .ensures))
 
--- src/calling.rt:79:1
 returns-4 : tie.Need-returns-4
 unfolding twoText
 returns-4 c = as-text (ap (λ (x : Two). twoText x (c .before .before .before .before .args .a) (c .before .before .before .before .args .b)) (sym (c .before .before .enum-told4 .given .1))) (renamed textOf (c .before .adjust .ensures) (c .value-said3 .ensures))

@@ -1,14 +1,10 @@
 use Rattle.calls.proofs.Magnitudes.{first-below, second-below}
 use Rattle.calls.proofs.numbers.is_negative.Statement.{statement}
 use Rattle.calls.proofs.numbers.is_negative.Tie as tie
-use Rattle.calls.proofs.numbers.is_negative.Reads as reads
-use Rattle.calls.proofs.numbers.is_negative.Lts as lts
 
--- src/numbers.rt:32:9
 returns : tie.Need-returns
 returns c = first-below (c .before .args .z) (c .before .args .fraction) (c .before .fits .z) (c .before .fits .fraction) (c .if1 .taken)
 
--- src/numbers.rt:28:1
 returns-2 : tie.Need-returns-2
 returns-2 c = second-below (c .before .args .z) (c .before .args .fraction) (c .before .fits .z) (c .before .fits .fraction) (c .if1 .left)
 

@@ -4,34 +4,25 @@ use Rattle.calls.proofs.Magnitudes.{above-fits, turned-fits, turned-pla
 use borrow.Author.Needs.{needs}
 use Rattle.calls.proofs.numbers.magnitude.Statement.{statement}
 use Rattle.calls.proofs.numbers.magnitude.Tie as tie
-use Rattle.calls.proofs.numbers.magnitude.Reads as reads
-use Rattle.calls.proofs.numbers.magnitude.Lts as lts
 
--- src/numbers.rt:21:26
 add-below : tie.Need-add-below
 add-below c = above-fits (toZ w32 (ofZ w32 (c .before .args .z))) (again (c .before .args .z) (c .before .fits .z)) (c .if1 .taken)
 
--- src/numbers.rt:21:21
 sub-below : tie.Need-sub-below
 sub-below c = turned-fits (toZ w32 (ofZ w32 (c .before .args .z))) (again (c .before .args .z) (c .before .fits .z)) (c .if1 .taken)
 
--- src/numbers.rt:22:16
 cast-result : tie.Need-cast-result
 cast-result c = turned-plain (toZ w32 (ofZ w32 (c .before .args .z))) (again (c .before .args .z) (c .before .fits .z)) (c .if1 .taken)
 
--- src/numbers.rt:22:16
 add-result : tie.Need-add-result
 add-result c = turned-more (toZ w32 (ofZ w32 (c .before .args .z))) (again (c .before .args .z) (c .before .fits .z)) (c .if1 .taken)
 
--- src/numbers.rt:22:9
 returns : tie.Need-returns
 returns c = kept-magnitude (c .before .args .z) (c .before .fits .z) (magnitude-below (toZ w32 (ofZ w32 (c .before .args .z))) (again (c .before .args .z) (c .before .fits .z)) (c .if1 .taken))
 
--- src/numbers.rt:24:5
 cast-result-2 : tie.Need-cast-result-2
 cast-result-2 c = magnitude-above (toZ w32 (ofZ w32 (c .before .args .z))) (again (c .before .args .z) (c .before .fits .z)) (c .if1 .left)
 
--- src/numbers.rt:17:1
 returns-2 : tie.Need-returns-2
 returns-2 c = search needs
 

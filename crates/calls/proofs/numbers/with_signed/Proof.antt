@@ -7,29 +7,19 @@ use Rattle.calls.proofs.NumberTexts.{signed-grown, kept-both}
 use borrow.Author.Needs.{needs}
 use Rattle.calls.proofs.numbers.with_signed.Statement.{statement}
 use Rattle.calls.proofs.numbers.with_signed.Tie as tie
-use Rattle.calls.proofs.numbers.with_signed.Reads as reads
-use Rattle.calls.proofs.numbers.with_signed.Lts as lts
-use Rattle.calls.proofs.numbers.is_negative.Reads as is-negative-reads
-use Rattle.calls.proofs.numbers.magnitude.Reads as magnitude-reads
-use Rattle.calls.proofs.numbers.with_number.Reads as with-number-reads
 
--- src/numbers.rt:61:30
 is-negative-requires : tie.Need-is-negative-requires
 is-negative-requires c κs = search needs
 
--- src/numbers.rt:61:56
 magnitude-requires : tie.Need-magnitude-requires
 magnitude-requires c κs = search needs
 
--- src/numbers.rt:61:70
 magnitude-requires-2 : tie.Need-magnitude-requires-2
 magnitude-requires-2 c κs = search needs
 
--- src/numbers.rt:61:5
 with-number-requires : tie.Need-with-number-requires
 with-number-requires c κs = search needs
 
--- src/numbers.rt:57:1
 returns : tie.Need-returns
 returns c =
     let z : ℤ = c .before .before .before .before .before .args .z in

@@ -8,64 +8,46 @@ use Rattle.calls.proofs.Growing.{then, of-nothing}
 use borrow.Author.Needs.{needs}
 use Rattle.calls.proofs.parts.of_duration.Statement.{statement}
 use Rattle.calls.proofs.parts.of_duration.Tie as tie
-use Rattle.calls.proofs.parts.of_duration.Reads as reads
-use Rattle.calls.proofs.parts.of_duration.Lts as lts
-use Rattle.calls.proofs.building.nothing.Reads as nothing-reads
-use Rattle.calls.proofs.numbers.with_signed.Reads as with-signed-reads
 
--- src/parts.rt:72:25
 nothing-requires : tie.Need-nothing-requires
 nothing-requires c κs = search needs
 
--- src/parts.rt:72:36
 slice-aggregate-with-signed : tie.Need-slice-aggregate-with-signed
 slice-aggregate-with-signed c = search needs
 
--- src/parts.rt:72:9
 with-signed-requires : tie.Need-with-signed-requires
 with-signed-requires c κs = search needs
 
--- src/parts.rt:73:28
 slice-aggregate-with-signed-2 : tie.Need-slice-aggregate-with-signed-2
 slice-aggregate-with-signed-2 c = search needs
 
--- src/parts.rt:73:9
 with-signed-requires-2 : tie.Need-with-signed-requires-2
 with-signed-requires-2 c κs = search needs
 
--- src/parts.rt:74:28
 slice-aggregate-with-signed-3 : tie.Need-slice-aggregate-with-signed-3
 slice-aggregate-with-signed-3 c = search needs
 
--- src/parts.rt:74:9
 with-signed-requires-3 : tie.Need-with-signed-requires-3
 with-signed-requires-3 c κs = search needs
 
--- src/parts.rt:75:28
 slice-aggregate-with-signed-4 : tie.Need-slice-aggregate-with-signed-4
 slice-aggregate-with-signed-4 c = search needs
 
--- src/parts.rt:75:9
 with-signed-requires-4 : tie.Need-with-signed-requires-4
 with-signed-requires-4 c κs = omega (arith, c .before .before .with-signed3 .ensures .1, c .before .before .before .before .before .with-signed2 .ensures .1, c .before .before .before .before .before .before .before .before .with-signed .ensures .1, c .before .before .before .before .before .before .before .before .before .before .before .nothing .ensures .1)
 
--- src/parts.rt:76:28
 slice-aggregate-with-signed-5 : tie.Need-slice-aggregate-with-signed-5
 slice-aggregate-with-signed-5 c = search needs
 
--- src/parts.rt:76:9
 with-signed-requires-5 : tie.Need-with-signed-requires-5
 with-signed-requires-5 c κs = omega (arith, c .before .before .with-signed4 .ensures .1, c .before .before .before .before .before .with-signed3 .ensures .1, c .before .before .before .before .before .before .before .before .with-signed2 .ensures .1, c .before .before .before .before .before .before .before .before .before .before .before .with-signed .ensures .1, c .before .before .before .before .before .before .before .before .before .before .before .before .before .before .nothing .ensures .1)
 
--- src/parts.rt:77:20
 slice-aggregate-with-signed-6 : tie.Need-slice-aggregate-with-signed-6
 slice-aggregate-with-signed-6 c = search needs
 
--- src/parts.rt:77:5
 with-signed-requires-6 : tie.Need-with-signed-requires-6
 with-signed-requires-6 c κs = omega (arith, c .before .before .before .with-signed5 .ensures .1, c .before .before .before .before .before .before .with-signed4 .ensures .1, c .before .before .before .before .before .before .before .before .before .with-signed3 .ensures .1, c .before .before .before .before .before .before .before .before .before .before .before .before .with-signed2 .ensures .1, c .before .before .before .before .before .before .before .before .before .before .before .before .before .before .before .with-signed .ensures .1, c .before .before .before .before .before .before .before .before .before .before .before .before .before .before .before .before .before .before .nothing .ensures .1)
 
--- src/parts.rt:69:1
 returns : tie.Need-returns
 unfolding partsText
 returns c =

@@ -1,0 +1,4 @@
+pub mod Opening
+pub mod Turning
+pub mod Lent
+pub mod Again

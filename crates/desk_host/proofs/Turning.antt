@@ -1,0 +1,59 @@
+-- Turns until Idle: what one call of the loop's body leaves to the others.
+use native.Mathlib.Omega.{arith}
+use mathlib.Core.Path.{_≡_, sym, ap, _∙_}
+use mathlib.Core.Bool.{Bool, true, false, not}
+use mathlib.Core.List.{List}
+use Prim.Native.Nat.{ℕ, suc, _+_, _-_, _<_, _≤_, _^_}
+use lib.Dec.{T}
+use Rattle.basis.specs.Choice.{pick}
+use Rattle.desk.specs.Answers.{After}
+use Rattle.desk.specs.declared.Desk.{Desk}
+use Rattle.lines.specs.Turns.{turnsOf, turnsMeaning, afterTurns}
+use Rattle.lines.specs.declared.AfterTurns.{AfterTurns}
+use Rattle.lines.specs.declared.Written.{Written}
+use Rattle.desk_host.specs.Program.{roomSize, goesOn, untilIdle}
+
+-- what many turns handed back, in a room of the program's size
+pub some-taken : (t : List ℕ) (d : Desk) (n : ℕ) (r : AfterTurns) → afterTurns r ≡ turnsOf t d n → n ≡ roomSize
+    → (r .desk ≡ turnsOf t d roomSize .desk) × (turnsMeaning (r .answer) ≡ turnsOf t d roomSize .answer)
+some-taken t d n r h z =
+    let e : afterTurns r ≡ turnsOf t d roomSize = h ∙ ap (turnsOf t d) z in
+    (ap (λ (x : After Written). x .desk) e, ap (λ (x : After Written). x .answer) e)
+
+-- ---- the loop
+abbrev pub N : ℕ
+N = 1_048_593
+
+pub small : (i : ℕ) → i < N → i + 1 < 2 ^ 64
+small i h = omega arith
+
+pub less : (i : ℕ) → i < N → N - (i + 1) < N - i
+less i h = omega arith
+
+left-is : (i : ℕ) → i < N → N - i ≡ suc (N - (i + 1))
+left-is i h = omega arith
+
+none-left : (i : ℕ) → N ≤ i → N - i ≡ 0
+none-left i h = omega arith
+
+one : (t : List ℕ) (d h : Desk) (b : Bool) (m : ℕ) → h ≡ turnsOf t d roomSize .desk → b ≡ goesOn (turnsOf t d roomSize .answer)
+    → untilIdle t (suc m) d ≡ pick b (untilIdle t m h) h
+unfolding untilIdle
+one t d h b m p q = rw (p, q)
+
+-- the calls are all made
+pub all-made : (t : List ℕ) (d : Desk) (i : ℕ) (x : Desk) → N ≤ i → untilIdle t (N - i) d ≡ x → d ≡ x
+unfolding untilIdle
+all-made t d i x l v = ap (λ (m : ℕ). untilIdle t m d) (sym (none-left i l)) ∙ v
+
+-- more turns are due
+pub more-due : (t : List ℕ) (d h : Desk) (b : Bool) (i : ℕ) (x : Desk) → i < N → untilIdle t (N - i) d ≡ x → h ≡ turnsOf t d roomSize .desk
+    → b ≡ goesOn (turnsOf t d roomSize .answer) → T (not (not b)) → untilIdle t (N - (i + 1)) h ≡ x
+more-due t d h true i x l v p q z = sym (one t d h true (N - (i + 1)) p q) ∙ ap (λ (m : ℕ). untilIdle t m d) (sym (left-is i l)) ∙ v
+more-due t d h false i x l v p q z = absurd z
+
+-- no more turns are due
+pub none-due : (t : List ℕ) (d h : Desk) (b : Bool) (i : ℕ) (x : Desk) → i < N → untilIdle t (N - i) d ≡ x → h ≡ turnsOf t d roomSize .desk
+    → b ≡ goesOn (turnsOf t d roomSize .answer) → T (not b) → h ≡ x
+none-due t d h true i x l v p q z = absurd z
+none-due t d h false i x l v p q z = sym (one t d h false (N - (i + 1)) p q) ∙ ap (λ (m : ℕ). untilIdle t m d) (sym (left-is i l)) ∙ v

@@ -1,0 +1,26 @@
+use native.Mathlib.Omega.{arith}
+use mathlib.Core.Path.{_≡_, sym, ap}
+use lib.ListN.{length}
+use Rattle.numerals.specs.Writing.{longest}
+use Rattle.lines.proofs.Bounded.{holds-fits}
+use borrow.Author.Needs.{needs}
+use Rattle.desk_host.proofs.tell_open.Statement.{statement}
+use Rattle.desk_host.proofs.tell_open.Tie as tie
+use Rattle.desk_host.proofs.tell_open.Reads as reads
+use Rattle.desk_host.proofs.tell_open.Lts as lts
+use Rattle.desk_host.proofs.write_text.Reads as write-text-reads
+use Rattle.lines.proofs.text.open_line.Reads as open-line-reads
+
+open-line-requires : tie.Need-open-line-requires
+open-line-requires c κs = search needs
+
+write-text-requires : tie.Need-write-text-requires
+write-text-requires c κs =
+    let z : length (c .open-line .result .bytes) ≡ longest = search needs in
+    holds-fits (c .open-line .result) _ (c .open-line .ensures) z
+
+returns : tie.Need-returns
+returns c = search needs
+
+pub tell-open-spec : {M : Type 1} → statement M
+tell-open-spec = tie.close (tie.spec open-line-requires write-text-requires returns)

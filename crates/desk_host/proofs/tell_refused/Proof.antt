@@ -1,0 +1,26 @@
+use native.Mathlib.Omega.{arith}
+use mathlib.Core.Path.{_≡_, sym, ap}
+use lib.ListN.{length}
+use Rattle.numerals.specs.Writing.{longest}
+use Rattle.lines.proofs.Bounded.{holds-fits}
+use borrow.Author.Needs.{needs}
+use Rattle.desk_host.proofs.tell_refused.Statement.{statement}
+use Rattle.desk_host.proofs.tell_refused.Tie as tie
+use Rattle.desk_host.proofs.tell_refused.Reads as reads
+use Rattle.desk_host.proofs.tell_refused.Lts as lts
+use Rattle.desk_host.proofs.write_text.Reads as write-text-reads
+use Rattle.lines.proofs.text.refused_line.Reads as refused-line-reads
+
+refused-line-requires : tie.Need-refused-line-requires
+refused-line-requires c κs = search needs
+
+write-text-requires : tie.Need-write-text-requires
+write-text-requires c κs =
+    let z : length (c .refused-line .result .bytes) ≡ longest = search needs in
+    holds-fits (c .refused-line .result) _ (c .refused-line .ensures) z
+
+returns : tie.Need-returns
+returns c = search needs
+
+pub tell-refused-spec : {M : Type 1} → statement M
+tell-refused-spec = tie.close (tie.spec refused-line-requires write-text-requires returns)

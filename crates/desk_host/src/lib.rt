@@ -1,0 +1,202 @@
+// The desk program (document 01, "The desk program"): it reads the timetable and the conditions, opens the conditions in order,
+// and takes turns until Idle. It keeps one desk for its whole life, in one variable of `live`, and has it updated where
+// it stands: `open_line_in` and `take_turns_in` take it by `&mut`, call the function by value, and store the desk.
+use desk::AfterOpen;
+use desk::Desk;
+use desk::OpenAnswer;
+use libc::STDIN_FILENO;
+use libc::STDOUT_FILENO;
+use lines::TurnsAnswer;
+use lines::text::open_line;
+use lines::text::refused_line;
+use numerals::Text;
+use value::Refusal;
+ghost use mathlib.Core.Path.{_≡_};
+ghost use Prim.Native.Nat.{_≤_};
+ghost use lib.ListN.{length};
+ghost use Rattle.io.specs.Counts.{Counts};
+ghost use Rattle.numerals.specs.Writing.{longest};
+ghost use Rattle.timetable.specs.Lines.{lineAt, nextLine, placedLines};
+ghost use Rattle.desk.specs.Desk.{freshOf, openOf};
+ghost use Rattle.lines.specs.Turns.{turnsOf, turnsMeaning};
+ghost use Rattle.desk_host.specs.Program.{roomSize, callCount, goesOn, openedAll, untilIdle};
+
+// The most bytes of conditions.
+const MAX_INPUT: usize = 4_096;
+
+// The bytes of lines that are written at once.
+const ROOM: usize = 4_096;
+
+// Each call takes a turn or more, and a full desk over a timetable of empty lines takes 16 x (65,536 + 1) of them before it is Idle.
+const CALLS: usize = Desk::SEATS * (Desk::MAX_TIMETABLE + 1) + 1;
+
+// The desk after a condition, and where the next one starts.
+pub struct AfterLine {
+    pub desk: Desk,
+    pub next: usize,
+}
+
+// The desk after some turns, and whether more are due.
+pub struct AfterSome {
+    pub desk: Desk,
+    pub more: bool,
+}
+
+fn write_text(text: Text)
+    requires { ⌜ text .len ≤ longest ⌝ }
+{
+    let bytes = text.bytes;
+    let long = text.len;
+    io::write_all(STDOUT_FILENO, &bytes[..long]);
+}
+
+fn tell_open(answer: OpenAnswer) {
+    write_text(open_line(answer));
+}
+
+fn tell_refused(number: u8) {
+    write_text(refused_line(number));
+}
+
+// Writes the lines of some turns, and says whether more are due.
+fn tell_turns(answer: TurnsAnswer, room: &[u8]) -> bool
+    ensures { λ r. ⌜ r ≡ goesOn (turnsMeaning answer) ⌝ }
+{
+    match answer {
+        TurnsAnswer::Wrote(written) => {
+            let count = written.count;
+            if count <= room.len() {
+                io::write_all(STDOUT_FILENO, &room[..count]);
+            }
+            !written.idle
+        }
+        TurnsAnswer::Refused(refusal) => {
+            tell_refused(refusal.number);
+            false
+        }
+    }
+}
+
+fn desk_for(timetable_length: usize) -> Desk
+    ensures { λ r. ⌜ r ≡ freshOf «timetable_length» .desk ⌝ }
+{
+    let fresh = desk::fresh(timetable_length);
+    let desk = fresh.desk;
+    desk
+}
+
+// Writes what Open answered.
+fn told(after: AfterOpen, next: usize) -> AfterLine
+    ensures { λ r. ⌜ (r .desk ≡ after .desk) × (r .next ≡ next) ⌝ }
+{
+    let answer = after.answer;
+    tell_open(answer);
+    let desk = after.desk;
+    AfterLine { desk, next }
+}
+
+// Opens the condition at an offset of the input, and writes the answer.
+fn open_at(desk: Desk, input: &[u8], at: usize) -> AfterLine
+    ensures { λ r. ⌜ (r .desk ≡ openOf (lineAt (now (input .entry)) at .text) desk .desk) × (r .next ≡ nextLine (now (input .entry)) at) ⌝ }
+{
+    let line = line_reader::read_line(input, at);
+    let end = line.end;
+    let next = line.next;
+    if input.len() < end {
+        return told(desk.open(&input[..0]), next);
+    }
+    told(desk.open(&input[at..end]), next)
+}
+
+// Takes turns as long as their lines fit in the room, and writes them.
+fn take_some(desk: Desk, t: &[u8]) -> AfterSome
+    ensures { λ r. ⌜ (r .desk ≡ turnsOf (now (t .entry)) desk roomSize .desk) × (r .more ≡ goesOn (turnsOf (now (t .entry)) desk roomSize .answer)) ⌝ }
+{
+    let mut room = [0; ROOM];
+    let after = lines::turns(desk, t, &mut room);
+    let answer = after.answer;
+    let more = tell_turns(answer, &room);
+    let next = after.desk;
+    AfterSome { desk: next, more }
+}
+
+// Opens the condition at an offset of the input, on a desk that is updated where it stands.
+fn open_at_in(desk: &mut Desk, input: &[u8], at: usize) -> usize
+    ensures { λ r. ⌜ (now (desk .exit) ≡ openOf (lineAt (now (input .entry)) at .text) (now (desk .entry)) .desk) × (r ≡ nextLine (now (input .entry)) at) ⌝ }
+{
+    let after = open_at(*desk, input, at);
+    *desk = after.desk;
+    after.next
+}
+
+// Takes turns of a desk that is updated where it stands.
+fn take_some_in(desk: &mut Desk, t: &[u8]) -> bool
+    ensures { λ r. ⌜ (now (desk .exit) ≡ turnsOf (now (t .entry)) (now (desk .entry)) roomSize .desk) × (r ≡ goesOn (turnsOf (now (t .entry)) (now (desk .entry)) roomSize .answer)) ⌝ }
+{
+    let after = take_some(*desk, t);
+    *desk = after.desk;
+    after.more
+}
+
+// Opens the conditions in order.
+fn open_all(desk: &mut Desk, input: &[u8])
+    ensures { λ _. ⌜ now (desk .exit) ≡ openedAll (placedLines (now (input .entry))) (now (desk .entry)) ⌝ }
+{
+    let mut at: usize = 0;
+    while at < input.len() {
+        at = open_at_in(desk, input, at);
+    }
+}
+
+// Takes turns until Idle.
+fn turns_all(desk: &mut Desk, t: &[u8])
+    ensures { λ _. ⌜ now (desk .exit) ≡ untilIdle (now (t .entry)) callCount (now (desk .entry)) ⌝ }
+{
+    let mut n: usize = 0;
+    while n < CALLS {
+        if !take_some_in(desk, t) {
+            break;
+        }
+        n += 1;
+    }
+}
+
+// One desk for the program's whole life, in one variable.
+fn live(t: &[u8], input: &[u8]) -> Desk
+    ensures { λ r. ⌜ r ≡ untilIdle (now (t .entry)) callCount (openedAll (placedLines (now (input .entry))) (freshOf (length (now (t .entry))) .desk)) ⌝ }
+{
+    let mut desk = desk_for(t.len());
+    open_all(&mut desk, input);
+    turns_all(&mut desk, t);
+    desk
+}
+
+// The bytes of the timetable, at the start of the buffer; none where the file cannot be opened or read.
+fn read_timetable(buffer: &mut [u8]) -> usize
+    ensures { λ r. ⌜ Counts r (now (buffer .exit)) ⌝ }
+{
+    let file = os::open_read(b"timetable.tsv");
+    if file < 0 {
+        return 0;
+    }
+    let got = io::read_full(file, buffer);
+    libc::close(file);
+    got
+}
+
+// The whole program: one byte more than is allowed is asked for, so that a text too long is seen.
+pub fn run() {
+    let mut timetable = [0; Desk::MAX_TIMETABLE + 1];
+    let long = read_timetable(&mut timetable);
+    if Desk::MAX_TIMETABLE < long {
+        tell_refused(Refusal::WRONG_TIMETABLE);
+        return;
+    }
+    let mut input = [0; MAX_INPUT + 1];
+    let given = io::read_full(STDIN_FILENO, &mut input);
+    if MAX_INPUT < given {
+        tell_refused(Refusal::BAD_CONDITION);
+        return;
+    }
+    live(&timetable[..long], &input[..given]);
+}
