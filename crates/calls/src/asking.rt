@@ -3,7 +3,7 @@ use crate::Form;
 use crate::One;
 use crate::Two;
 use numerals::byte;
-use operation::products::MAX_FACTOR;
+use arithmetic::products::MAX_FACTOR;
 use timetable::fields::field;
 use timetable::fields::has_field;
 use words::Named;

@@ -22,7 +22,7 @@ tell-turns-requires : tie.Need-tell-turns-requires
 tell-turns-requires c κs = search needs
 
 returns : tie.Need-returns
-returns c = 
+returns c =
     let s = some-taken _ _ _ (c .before .before .before .before .turns .result) (c .before .before .before .before .turns .ensures .0) (search needs) in
     (s .0, c .before .tell-turns .ensures ∙ ap goesOn (s .1))
 

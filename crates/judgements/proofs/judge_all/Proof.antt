@@ -1,51 +1,49 @@
+-- `judgements::judge_all` ends: each line that is read is followed by one further on. Nothing is promised of what it writes.
+use Prim.Native.Nat.{_≤_, _-_}
+use native.Mathlib.Omega.{arith}
+use lib.ListN.{length}
+use borrow.Author.Needs.{needs}
+use Rattle.timetable.proofs.Offsets.{end-from, end-within, next-within, next-further}
 use Rattle.judgements.proofs.judge_all.Statement.{statement}
 use Rattle.judgements.proofs.judge_all.Tie as tie
-use Rattle.judgements.proofs.judge_all.Reads as reads
-use Rattle.judgements.proofs.judge_all.Lts as lts
-use Rattle.judgements.proofs.judge_line.Reads as judge-line-reads
-use Rattle.line_reader.proofs.read_line.Reads as read-line-reads
 
 abbrev Inv-loop : tie.InvT-loop
-Inv-loop input at₀ at = ?
+Inv-loop input at₀ at = at ≤ length input
 
 abbrev μ-loop : tie.MeasureT-loop
-μ-loop input at₀ at = ?
+μ-loop input at₀ at = length input - at
 
--- src/main.rt:42:5
 loop-holds : tie.Need-loop-holds Inv-loop μ-loop
-loop-holds c = ?
+loop-holds c = omega arith
 
--- src/main.rt:43:13
 read-line-requires : tie.Need-read-line-requires Inv-loop μ-loop
-read-line-requires c κs = ?
+read-line-requires c κs = search needs
 
--- src/main.rt:45:20
 sub-judge-line : tie.Need-sub-judge-line Inv-loop μ-loop
-sub-judge-line c = ?
+sub-judge-line c = omega (arith, c .read-line .ensures .0, end-from (c .before .before .before .before .args .input .now) (c .before .before .loop .at))
 
--- src/main.rt:45:20
 part-judge-line-start : tie.Need-part-judge-line-start Inv-loop μ-loop
-part-judge-line-start c = ?
+part-judge-line-start c = omega (arith, c .read-line .ensures .0, end-from (c .before .before .before .before .args .input .now) (c .before .before .loop .at))
 
--- src/main.rt:45:20
 part-judge-line-end : tie.Need-part-judge-line-end Inv-loop μ-loop
-part-judge-line-end c = ?
+part-judge-line-end c =
+    omega (arith, c .read-line .ensures .0, end-within (c .before .before .before .before .args .input .now) (c .before .before .loop .at) (c .before .before .loop .inv))
 
--- src/main.rt:45:9
 judge-line-requires : tie.Need-judge-line-requires Inv-loop μ-loop
-judge-line-requires c κs = ?
+judge-line-requires c κs = search needs
 
--- src/main.rt:42:5
 loop-less : tie.Need-loop-less Inv-loop μ-loop
-loop-less c = ?
+loop-less c =
+    let b = c .before .before in
+    omega (arith, b .read-line .ensures .1, next-further (b .before .before .before .before .args .input .now) (b .before .before .loop .at) (b .before .loop-test .taken))
 
--- src/main.rt:42:5
 loop-again : tie.Need-loop-again Inv-loop μ-loop
-loop-again c = ?
+loop-again c =
+    let b = c .before .before in
+    omega (arith, b .read-line .ensures .1, next-within (b .before .before .before .before .args .input .now) (b .before .before .loop .at) (b .before .before .loop .inv))
 
--- src/main.rt:40:1
 returns : tie.Need-returns Inv-loop μ-loop
-returns c = ?
+returns c = search needs
 
 pub judge-all-spec : {M : Type 1} → statement M
 judge-all-spec =
