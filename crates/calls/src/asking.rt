@@ -2,8 +2,8 @@
 use crate::Form;
 use crate::One;
 use crate::Two;
-use numerals::byte;
 use arithmetic::products::MAX_FACTOR;
+use numerals::byte;
 use timetable::fields::field;
 use timetable::fields::has_field;
 use words::Named;

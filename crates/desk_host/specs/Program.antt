@@ -1,12 +1,16 @@
--- Document 01, "The desk program": it "opens them in order, then takes turns until Idle". The desk after each part.
+-- Document 01, "The desk program": it "opens them in order, then takes turns until Idle". The desk after each part, and that the
+-- program ends at Idle and nowhere else, apart from its two refusals.
+use mathlib.Core.Path.{_≡_}
 use mathlib.Core.Bool.{Bool, false, not}
 use mathlib.Core.List.{List, [], _∷_}
-use Prim.Native.Nat.{ℕ, zero, suc, _+_, _*_}
+use Prim.Native.Nat.{ℕ, zero, suc, _+_, _*_, _≤_}
+use lib.ListN.{length}
 use Rattle.basis.specs.Choice.{pick}
 use Rattle.basis.specs.Answer.{Answer, gives, refuses}
-use Rattle.timetable.specs.Lines.{Line}
+use Rattle.timetable.specs.Lines.{Line, placedLines}
 use Rattle.desk.specs.Bounds.{seatCount, maxTimetable}
-use Rattle.desk.specs.Desk.{openOf}
+use Rattle.desk.specs.Answers.{idle}
+use Rattle.desk.specs.Desk.{freshOf, openOf, turnOf}
 use Rattle.desk.specs.declared.Desk.{Desk}
 use Rattle.lines.specs.Turns.{turnsOf}
 use Rattle.lines.specs.declared.Written.{Written}
@@ -34,3 +38,11 @@ unfoldable pub untilIdle : List ℕ → ℕ → Desk → Desk
 untilIdle t zero d = d
 untilIdle t (suc n) d =
     pick (goesOn (turnsOf t d roomSize .answer)) (untilIdle t n (turnsOf t d roomSize .desk)) (turnsOf t d roomSize .desk)
+
+-- the desk at the program's end, by the timetable and the input
+abbrev pub deskAtEnd : List ℕ → List ℕ → Desk
+deskAtEnd t input = untilIdle t callCount (openedAll (placedLines input) (freshOf (length t) .desk))
+
+-- its next turn would be Idle: no query is left without its last answer
+abbrev pub EndsIdle : Type 0
+EndsIdle = (t input : List ℕ) → length t ≤ maxTimetable → turnOf t (deskAtEnd t input) .answer ≡ gives idle

@@ -19,7 +19,7 @@ ghost use Rattle.numerals.specs.Writing.{longest};
 ghost use Rattle.timetable.specs.Lines.{lineAt, nextLine, placedLines};
 ghost use Rattle.desk.specs.Desk.{freshOf, openOf};
 ghost use Rattle.lines.specs.Turns.{turnsOf, turnsMeaning};
-ghost use Rattle.desk_host.specs.Program.{roomSize, callCount, goesOn, openedAll, untilIdle};
+ghost use Rattle.desk_host.specs.Program.{roomSize, callCount, goesOn, openedAll, untilIdle, deskAtEnd};
 
 // The most bytes of conditions.
 const MAX_INPUT: usize = 4_096;
@@ -163,7 +163,7 @@ fn turns_all(desk: &mut Desk, t: &[u8])
 
 // One desk for the program's whole life, in one variable.
 fn live(t: &[u8], input: &[u8]) -> Desk
-    ensures { λ r. ⌜ r ≡ untilIdle (now (t .entry)) callCount (openedAll (placedLines (now (input .entry))) (freshOf (length (now (t .entry))) .desk)) ⌝ }
+    ensures { λ r. ⌜ r ≡ deskAtEnd (now (t .entry)) (now (input .entry)) ⌝ }
 {
     let mut desk = desk_for(t.len());
     open_all(&mut desk, input);
