@@ -4,7 +4,7 @@ use mathlib.Core.List.{List}
 use Prim.Native.Nat.{ℕ, _-_, _≤_, _<_}
 use borrow.Author.Tests.{lt-ltb, le-ltb}
 use lib.ListN.{length, take, drop}
-use Rattle.timetable.specs.Lines.{lineEnd, afterEnd, nextLine}
+use Rattle.timetable.specs.Lines.{lineEnd, nextLine}
 use Rattle.timetable.proofs.Offsets.{line-cut}
 use Rattle.desk.specs.Query.{resultAt}
 use Rattle.desk.specs.Answers.{doneWith}
@@ -21,8 +21,8 @@ module _ (t : List ℕ) (s : Seat) where
   unfolding serveOf
   serve-done l = rw (le-ltb _ _ l)
 
-  -- for code that has found the line's end and cut the line out
-  pub serve-cut : (end next : ℕ) → s .offset < length t → end ≡ lineEnd t (s .offset) → next ≡ afterEnd t end
+  -- for code that has the line's end and the next line's start, and cut the line out
+  pub serve-cut : (end next : ℕ) → s .offset < length t → end ≡ lineEnd t (s .offset) → next ≡ nextLine t (s .offset)
       → serveOf t s ≡ judgedAs next s (resultAt (conditionOf s) (take (end - s .offset) (drop (s .offset) t)))
-  unfolding serveOf nextLine
-  serve-cut end next l e n = rw (lt-ltb _ _ l, line-cut t (s .offset) end e, n, e)
+  unfolding serveOf
+  serve-cut end next l e n = rw (lt-ltb _ _ l, line-cut t (s .offset) end e, n)

@@ -161,11 +161,13 @@ pub fn served(s: Seat, t: &[u8]) -> Served
 {
     let at = s.offset;
     if at < t.len() {
-        let end = timetable::lines::line_end(t, at);
+        let line = line_reader::read_line(t, at);
+        let end = line.end;
+        let next = line.next;
         let long = s.condition_length;
         let c = s.condition;
         let result = condition::judge(&c[..long], &t[at..end]);
-        judged_as(s, timetable::lines::after_end(t, end), result)
+        judged_as(s, next, result)
     } else {
         Served {
             seat: free(),

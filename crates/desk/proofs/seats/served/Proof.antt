@@ -16,11 +16,9 @@ use Rattle.desk.proofs.seats.served.Lts as lts
 use Rattle.condition.proofs.judge.Reads as judge-reads
 use Rattle.desk.proofs.seats.free.Reads as free-reads
 use Rattle.desk.proofs.seats.judged_as.Reads as judged-as-reads
-use Rattle.timetable.proofs.lines.after_end.Reads as after-end-reads
-use Rattle.timetable.proofs.lines.line_end.Reads as line-end-reads
 
-line-end-requires : tie.Need-line-end-requires
-line-end-requires c κs = search needs
+read-line-requires : tie.Need-read-line-requires
+read-line-requires c κs = search needs
 
 array-share-prefix-c : tie.Need-array-share-prefix-c
 array-share-prefix-c c =
@@ -35,32 +33,31 @@ slice-aggregate-judge c =
     sym (length-take-le _ _ (omega arith))
 
 sub-judge : tie.Need-sub-judge
-sub-judge c = omega (arith, end-from (c .before .before .before .before .before .args .t .now) (c .before .before .before .before .before .args .s .offset), c .before .before .line-end .ensures)
+sub-judge c = omega (arith, end-from (c .before .before .before .before .before .args .t .now) (c .before .before .before .before .before .args .s .offset), c .before .before .read-line .ensures .0)
 
 part-judge-start : tie.Need-part-judge-start
-part-judge-start c = omega (arith, end-from (c .before .before .before .before .before .args .t .now) (c .before .before .before .before .before .args .s .offset), c .before .before .line-end .ensures)
+part-judge-start c = omega (arith, end-from (c .before .before .before .before .before .args .t .now) (c .before .before .before .before .before .args .s .offset), c .before .before .read-line .ensures .0)
 
 part-judge-end : tie.Need-part-judge-end
-part-judge-end c = omega (arith, end-within (c .before .before .before .before .before .args .t .now) (c .before .before .before .before .before .args .s .offset) (omega arith), c .before .before .line-end .ensures)
+part-judge-end c = omega (arith, end-within (c .before .before .before .before .before .args .t .now) (c .before .before .before .before .before .args .s .offset) (omega arith), c .before .before .read-line .ensures .0)
 
 judge-requires : tie.Need-judge-requires
 judge-requires c κs = servable _ _ _ (c .before .before .before .before .before .before .pre .0 .1) .good
 
-after-end-requires : tie.Need-after-end-requires
-after-end-requires c κs = search needs
-
 judged-as-requires : tie.Need-judged-as-requires
 judged-as-requires c κs =
-    let v = servable _ _ _ (c .before .before .before .before .before .before .before .before .pre .0 .1) in
-    let m = c .before .before .before .before .before .before .before .before .pre .1 in
-    let l = c .before .before .before .before .before .before .if1 .taken in
+    let v = servable _ _ _ (c .before .before .before .before .before .before .before .pre .0 .1) in
+    let m = c .before .before .before .before .before .before .before .pre .1 in
+    let l = c .before .before .before .before .before .if1 .taken in
     (omega arith, omega arith)
 
 free-requires : tie.Need-free-requires
 free-requires c κs = search needs
 
 returns : tie.Need-returns
-returns c = rw (serve-cut (c .before .before .before .before .before .before .before .before .before .args .t .now) (c .before .before .before .before .before .before .before .before .before .args .s) (c .before .before .before .before .before .before .line-end .result) (c .before .after-end .result) (c .before .before .before .before .before .before .before .if1 .taken) (c .before .before .before .before .before .before .line-end .ensures) (c .before .after-end .ensures)) (c .judged-as .ensures _ (c .before .before .judge .ensures))
+returns c =
+    rw (serve-cut (c .before .before .before .before .before .before .before .before .args .t .now) (c .before .before .before .before .before .before .before .before .args .s) (c .before .before .before .before .before .read-line .result .end) (c .before .before .before .before .before .read-line .result .next) (c .before .before .before .before .before .before .if1 .taken) (c .before .before .before .before .before .read-line .ensures .0) (c .before .before .before .before .before .read-line .ensures .1))
+    (c .judged-as .ensures _ (c .before .judge .ensures))
 
 returns-2 : tie.Need-returns-2
 returns-2 c = rw (serve-done (c .before .before .before .args .t .now) (c .before .before .before .args .s) (c .before .if1 .left)) (record { seat = c .free .ensures; answer = refl })
@@ -69,14 +66,13 @@ pub served-spec : {M : Type 1} → statement M
 served-spec =
     tie.close
     (tie.spec
-    line-end-requires
+    read-line-requires
     array-share-prefix-c
     slice-aggregate-judge
     sub-judge
     part-judge-start
     part-judge-end
     judge-requires
-    after-end-requires
     judged-as-requires
     free-requires
     returns
