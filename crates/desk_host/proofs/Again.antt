@@ -10,7 +10,7 @@ use mir.Val.{Val, vptr}
 use base.Fml.{GName, Lft, Share, Fml, ftrue, flft, fres}
 use prog.Wp.{Heap}
 use ghost.Atoms.{Atoms}
-use types.Kit.{Given, Item, Goal, Soaks, Seq, Step, step, ‵, _⊛_, use2, use3, some, later, _$_, move, use1, split, join, pick, await}
+use types.Kit.{Given, Item, Goal, Soaks, Seq, Step, step, ‵, _⊛_, use2, use3, some, later, _$_, move, use1, split, pick, await}
 use types.Tokens.{lft-new, lft-end}
 use denote.Lend.{LentAgain, lends-again, comes-back}
 use denote.Builtin.{u8}

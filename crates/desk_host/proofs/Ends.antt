@@ -7,12 +7,12 @@ use mathlib.Core.Bool.{Bool, true, false, not, true≢false}
 use mathlib.Core.List.{List, [], _∷_}
 use mathlib.Core.Logic.{⊎-elim, _⊎_, inl, inr}
 use Prim.Native.Nat.{ℕ, zero, suc, _+_, _-_, _*_, _%_, _≤_, _<_}
-use borrow.Author.Tests.{lt-ltb, le-leb, eq-eqb, ltb-true}
+use borrow.Author.Tests.{le-leb, eq-eqb, ltb-true}
 use lib.Dec.{leb, ltb}
-use lib.ListN.{length, getD, set, length-replicate}
+use lib.ListN.{length, getD, set}
 use Rattle.basis.specs.Choice.{pick}
 use Rattle.basis.specs.Answer.{Answer, gives, refuses}
-use Rattle.timetable.specs.Lines.{Line, nextLine, placedLines}
+use Rattle.timetable.specs.Lines.{Line, placedLines}
 use Rattle.timetable.proofs.Offsets.{line-or-end, next-further}
 use Rattle.desk.specs.Bounds.{seatCount, maxTimetable, lastTicket}
 use Rattle.desk.specs.Query.{checkOf}
@@ -32,7 +32,7 @@ use Rattle.lines.specs.Text.{turnLine}
 use Rattle.lines.specs.Turns.{isIdle, Taken, none, onto, atMost, taken, turnsOf}
 use Rattle.lines.specs.declared.Written.{Written}
 use Rattle.lines.proofs.Counting.{taken-next}
-use Rattle.desk_host.specs.Program.{roomSize, callCount, goesOn, openedAll, untilIdle, deskAtEnd, EndsIdle}
+use Rattle.desk_host.specs.Program.{roomSize, callCount, goesOn, openedAll, untilIdle, EndsIdle}
 use Rattle.desk_host.proofs.Lengths.{idle-fits, served-fits}
 
 -- ---- what is left to do

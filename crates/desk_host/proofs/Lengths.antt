@@ -25,7 +25,7 @@ use Rattle.desk.specs.declared.Seat.{Seat}
 use Rattle.desk.proofs.Soundness.{Servable}
 use Rattle.desk.proofs.Serving.{serve-line, serve-done}
 use Rattle.lines.specs.Text.{numbers, lineWith, turnLine}
-use Rattle.lines.proofs.Digits.{ten-digits, five-digits, three-digits}
+use Rattle.lines.proofs.Digits.{ten-digits, five-digits}
 use Rattle.desk_host.specs.Program.{roomSize}
 
 line-length : (w ns : List ℕ) → length (lineWith w ns) ≡ length w + length (numbers ns) + 1

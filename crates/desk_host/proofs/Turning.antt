@@ -1,17 +1,24 @@
 -- Turns until Idle: what one call of the loop's body leaves to the others.
 use native.Mathlib.Omega.{arith}
-use mathlib.Core.Path.{_≡_, sym, ap, _∙_}
+use mathlib.Core.Path.{_≡_, refl, sym, ap, _∙_, subst}
 use mathlib.Core.Bool.{Bool, true, false, not}
 use mathlib.Core.List.{List}
 use Prim.Native.Nat.{ℕ, suc, _+_, _-_, _<_, _≤_, _^_}
-use lib.Dec.{T}
+use lib.Dec.{T, eqb, leb}
+use lib.ListN.{length}
 use Rattle.basis.specs.Choice.{pick}
 use Rattle.desk.specs.Answers.{After}
+use Rattle.desk.specs.Soundness.{soundOf}
+use Rattle.desk.specs.Desk.{turnOf}
 use Rattle.desk.specs.declared.Desk.{Desk}
+use Rattle.lines.specs.Text.{turnLine}
 use Rattle.lines.specs.Turns.{turnsOf, turnsMeaning, afterTurns}
 use Rattle.lines.specs.declared.AfterTurns.{AfterTurns}
+use Rattle.lines.specs.declared.TurnsAnswer.{TurnsAnswer}
+use Rattle.lines.specs.declared.TurnsAnswer.the-variants as TV
 use Rattle.lines.specs.declared.Written.{Written}
-use Rattle.desk_host.specs.Program.{roomSize, goesOn, untilIdle}
+use Rattle.lines.proofs.Singles.{many-are-single}
+use Rattle.desk_host.specs.Program.{roomSize, callCount, writtenWithin, goesOn, untilIdle}
 
 -- what many turns handed back, in a room of the program's size
 pub some-taken : (t : List ℕ) (d : Desk) (n : ℕ) (r : AfterTurns) → afterTurns r ≡ turnsOf t d n → n ≡ roomSize
@@ -20,9 +27,27 @@ some-taken t d n r h z =
     let e : afterTurns r ≡ turnsOf t d roomSize = h ∙ ap (turnsOf t d) z in
     (ap (λ (x : After Written). x .desk) e, ap (λ (x : After Written). x .answer) e)
 
--- ---- the loop
+-- the lines that were written are within the room
+turns-within : (t : List ℕ) (d : Desk) (size : ℕ) → writtenWithin (turnsOf t d size .answer) size
+unfolding turnsOf
+turns-within t d size = go (soundOf d) (eqb (length t) (d .«timetable_length»)) (leb (length (turnLine (turnOf t d .answer))) size) refl refl refl
+  where
+    go : (a b c : Bool) → soundOf d ≡ a → eqb (length t) (d .«timetable_length») ≡ b → leb (length (turnLine (turnOf t d .answer))) size ≡ c
+        → writtenWithin (turnsOf t d size .answer) size
+    go false b c e f g = rw e tt
+    go true false c e f g = rw (e, f) tt
+    go true true false e f g = rw (e, f, g) tt
+    go true true true e f g = rw (e, f, g) (let x = many-are-single t d size in omega (arith, ap length (x .1 .text), x .1 .fits))
+
+pub told-within : (t : List ℕ) (d : Desk) (n m : ℕ) (r : AfterTurns) → afterTurns r ≡ turnsOf t d n → n ≡ roomSize → m ≡ roomSize → writtenWithin (turnsMeaning (r .answer)) m
+told-within t d n m r h z y = rw (y, some-taken t d n r h z .1) (turns-within t d roomSize)
+
+pub count-within : {a : TurnsAnswer} {w : Written} {n : ℕ} → writtenWithin (turnsMeaning a) n → a ≡ TV.Wrote w → w .count ≤ n
+count-within {a} {w} {n} h e = subst (λ (x : TurnsAnswer). writtenWithin (turnsMeaning x) n) e h
+
+-- ---- the loop, which makes at most so many calls
 abbrev pub N : ℕ
-N = 1_048_593
+N = callCount
 
 pub small : (i : ℕ) → i < N → i + 1 < 2 ^ 64
 small i h = omega arith

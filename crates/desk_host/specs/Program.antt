@@ -28,6 +28,11 @@ roomSize = 4_096
 abbrev pub callCount : ℕ
 callCount = seatCount * (maxTimetable + 1) + 1
 
+-- the bytes written are within a room
+abbrev pub writtenWithin : Answer Written → ℕ → Type 0
+writtenWithin (gives w) size = w .count ≤ size
+writtenWithin (refuses n) size = Unit {0}
+
 -- whether more turns are due: the last one was not Idle
 abbrev pub goesOn : Answer Written → Bool
 goesOn (gives w) = not (w .idle)

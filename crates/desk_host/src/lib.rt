@@ -19,7 +19,7 @@ ghost use Rattle.numerals.specs.Writing.{longest};
 ghost use Rattle.timetable.specs.Lines.{lineAt, nextLine, placedLines};
 ghost use Rattle.desk.specs.Desk.{freshOf, openOf};
 ghost use Rattle.lines.specs.Turns.{turnsOf, turnsMeaning};
-ghost use Rattle.desk_host.specs.Program.{roomSize, callCount, goesOn, openedAll, untilIdle, deskAtEnd};
+ghost use Rattle.desk_host.specs.Program.{roomSize, callCount, writtenWithin, goesOn, openedAll, untilIdle, deskAtEnd};
 
 // The most bytes of conditions.
 const MAX_INPUT: usize = 4_096;
@@ -31,15 +31,15 @@ const ROOM: usize = 4_096;
 const CALLS: usize = Desk::SEATS * (Desk::MAX_TIMETABLE + 1) + 1;
 
 // The desk after a condition, and where the next one starts.
-pub struct AfterLine {
-    pub desk: Desk,
-    pub next: usize,
+struct AfterLine {
+    desk: Desk,
+    next: usize,
 }
 
 // The desk after some turns, and whether more are due.
-pub struct AfterSome {
-    pub desk: Desk,
-    pub more: bool,
+struct AfterSome {
+    desk: Desk,
+    more: bool,
 }
 
 fn write_text(text: Text)
@@ -60,14 +60,13 @@ fn tell_refused(number: u8) {
 
 // Writes the lines of some turns, and says whether more are due.
 fn tell_turns(answer: TurnsAnswer, room: &[u8]) -> bool
+    requires { ⌜ writtenWithin (turnsMeaning answer) (length (now room)) ⌝ }
     ensures { λ r. ⌜ r ≡ goesOn (turnsMeaning answer) ⌝ }
 {
     match answer {
         TurnsAnswer::Wrote(written) => {
             let count = written.count;
-            if count <= room.len() {
-                io::write_all(STDOUT_FILENO, &room[..count]);
-            }
+            io::write_all(STDOUT_FILENO, &room[..count]);
             !written.idle
         }
         TurnsAnswer::Refused(refusal) => {

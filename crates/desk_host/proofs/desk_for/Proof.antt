@@ -1,6 +1,5 @@
 use native.Mathlib.Omega.{arith}
-use mathlib.Core.Path.{_≡_, sym, ap}
-use lib.ListN.{length}
+use mathlib.Core.Path.{ap}
 use Rattle.desk.specs.Answers.{After}
 use borrow.Author.Needs.{needs}
 use Rattle.desk_host.proofs.desk_for.Statement.{statement}

@@ -1,5 +1,5 @@
 use native.Mathlib.Omega.{arith}
-use mathlib.Core.Path.{_≡_, _∙_}
+use mathlib.Core.Path.{_∙_}
 use Rattle.timetable.proofs.Offsets.{end-from}
 use Rattle.desk_host.proofs.Opening.{line-opened, past-opened}
 use borrow.Author.Needs.{needs}

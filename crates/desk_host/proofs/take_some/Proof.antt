@@ -1,6 +1,6 @@
-use mathlib.Core.Path.{_≡_, ap, _∙_}
+use mathlib.Core.Path.{ap, _∙_}
 use Rattle.desk_host.specs.Program.{goesOn}
-use Rattle.desk_host.proofs.Turning.{some-taken}
+use Rattle.desk_host.proofs.Turning.{some-taken, told-within}
 use borrow.Author.Needs.{needs}
 use Rattle.desk_host.proofs.take_some.Statement.{statement}
 use Rattle.desk_host.proofs.take_some.Tie as tie
@@ -19,7 +19,7 @@ slice-aggregate-tell-turns : tie.Need-slice-aggregate-tell-turns
 slice-aggregate-tell-turns c = search needs
 
 tell-turns-requires : tie.Need-tell-turns-requires
-tell-turns-requires c κs = search needs
+tell-turns-requires c κs = told-within _ _ _ _ (c .before .before .turns .result) (c .before .before .turns .ensures .0) (search needs) (search needs)
 
 returns : tie.Need-returns
 returns c =

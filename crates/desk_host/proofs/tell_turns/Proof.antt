@@ -1,7 +1,6 @@
-use native.Mathlib.Omega.{arith}
-use mathlib.Core.Path.{_≡_, sym, ap}
-use lib.ListN.{length}
+use mathlib.Core.Path.{sym}
 use lib.Seq.{length-take-le}
+use Rattle.desk_host.proofs.Turning.{count-within}
 use borrow.Author.Needs.{needs}
 use Rattle.desk_host.proofs.tell_turns.Statement.{statement}
 use Rattle.desk_host.proofs.tell_turns.Tie as tie
@@ -14,7 +13,7 @@ enum-known-answer : tie.Need-enum-known-answer
 enum-known-answer c = search needs
 
 slice-aggregate-write-all : tie.Need-slice-aggregate-write-all
-slice-aggregate-write-all c = sym (length-take-le _ _ (c .before .if1 .taken))
+slice-aggregate-write-all c = sym (length-take-le _ _ (count-within (c .before .before .before .before .before .pre) (c .before .before .answer .given .1)))
 
 write-all-requires : tie.Need-write-all-requires
 write-all-requires c κs = search needs
