@@ -4,7 +4,8 @@ ghost use mathlib.Core.Path.{_≡_};
 ghost use mathlib.Core.Bool.{Bool, true, false};
 ghost use Prim.Native.Nat.{ℕ, _+_, _*_, _≤_, _<_};
 ghost use Rattle.value.specs.Bounds.{minYear, maxYear, maxMicros, maxZone, maxDayTime, maxYearMonth, parts};
-ghost use Rattle.value.specs.Kinds.{made, meaning, kindOf};
+ghost use Rattle.value.specs.Kinds.{made, meaning, kindOf, template};
+ghost use Rattle.value.specs.declared.Kind.the-variants as KV;
 ghost use Rattle.value.specs.declared.Value.the-variants as VV;
 
 pub mod bounds; // bounds.rt: each constant is the number of the definitions
@@ -186,7 +187,7 @@ impl DateTime {
     }
 
     pub fn time(micros: u64, zone: Zone) -> Outcome
-        ensures { λ r. ⌜ meaning r ≡ made (VV.Time (record { year = 1972; month = 12; day = 31; micros = micros; zone = zone })) ⌝ }
+        ensures { λ r. ⌜ meaning r ≡ made (VV.Time (record { year = template KV.Time .year; month = template KV.Time .month; day = template KV.Time .day; micros = micros; zone = zone })) ⌝ }
     {
         let t = kinds::template(Kind::Time);
         valid::checked(Value::Time(DateTime {
