@@ -1,6 +1,6 @@
 // The desk program (document 01, "The desk program"): it reads the timetable and the conditions, opens the conditions in order,
 // and takes turns until Idle. It keeps one desk for its whole life, in one variable of `live`, and has it updated where
-// it stands: `open_line_in` and `take_turns_in` take it by `&mut`, call the function by value, and store the desk.
+// it stands: `open_at_in` and `take_some_in` take it by `&mut`, call the function by value, and store the desk.
 use desk::AfterOpen;
 use desk::Desk;
 use desk::OpenAnswer;
@@ -27,7 +27,8 @@ const MAX_INPUT: usize = 4_096;
 // The bytes of lines that are written at once.
 const ROOM: usize = 4_096;
 
-// Each call takes a turn or more, and a full desk over a timetable of empty lines takes 16 x (65,536 + 1) of them before it is Idle.
+// Each call takes a turn or more, and a full desk over a timetable of empty lines takes 16 x (65,536 + 1) of them before it
+// is Idle.
 const CALLS: usize = Desk::SEATS * (Desk::MAX_TIMETABLE + 1) + 1;
 
 // The desk after a condition, and where the next one starts.
@@ -101,6 +102,7 @@ fn open_at(desk: Desk, input: &[u8], at: usize) -> AfterLine
     let line = line_reader::read_line(input, at);
     let end = line.end;
     let next = line.next;
+    // past the end of the input a line is empty
     if input.len() < end {
         return told(desk.open(&input[..0]), next);
     }
