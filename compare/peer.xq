@@ -144,7 +144,8 @@ declare function local:after-error($kind as xs:string, $text as xs:string, $code
 (: A text that BaseX reads. Nothing where document 01 reads it too. :)
 declare function local:after-value($kind as xs:string, $text as xs:string, $value as xs:anyAtomicType) as map(*)? {
   if (matches($text, '^[ \r]|[ \r]$')) then local:refused(1, 'out', 'blanks')
-  else if ($kind = 'xs:dateTime' and matches($text, '[ \r]T|T[ \r]')) then local:refused(1, 'out', 'fault: blank beside T')
+  else if ($kind = 'xs:dateTime' and matches($text, '([ \r]|Z|:[0-9]{2})T|T[ \r]'))
+  then local:refused(1, 'out', 'fault: blank or zone at T')
   else if (matches($text, '\.[0-9]{7}')) then local:refused(3, 'out', 'digits')
   else if (local:beyond($value) or local:year-beyond($kind, $text)) then local:refused(2, 'out', 'bounds of a text')
   else ()
