@@ -1,23 +1,31 @@
 //! Document 01, "Timetable, seats and turns".
 
-use crate::conditions::{accept, evaluation::holds};
+use crate::conditions::tree::Expression;
+use crate::conditions::{accept, evaluation::holds, MOST_BYTES};
 use crate::lines::fields;
-use crate::{Refusal, ALL_SEATS_HELD, NOT_SOUND, NO_SUCH_TICKET, NO_TICKET_LEFT, WRONG_LENGTH};
+use crate::{Refusal, ALL_SEATS_HELD, NOT_SOUND, NO_GRAMMAR, NO_SUCH_TICKET, NO_TICKET_LEFT, WRONG_LENGTH};
 
 pub const SEATS: usize = 16;
 pub const MOST_TIMETABLE_BYTES: usize = 65_536;
 pub const LAST_TICKET: u32 = 4_294_967_295;
 
-#[derive(Clone, Default, PartialEq, Eq, Debug)]
+// The record's numbers have 64 bits.
+const _: () = assert!(usize::BITS == 64);
+
+/// A seat as it is stored, which may be anything: only `Desk::is_sound` says whether it can be served.
+#[derive(Clone, PartialEq, Eq, Debug)]
 pub struct Seat {
     pub held: bool,
     pub ticket: u32,
-    pub condition: Vec<u8>,
     pub offset: usize,
     pub hits: usize,
     pub unreadable: usize,
+    /// How many of the bytes below are the condition.
+    pub condition_length: usize,
+    pub condition: [u8; MOST_BYTES],
 }
 
+/// The record may hold anything. Every call on one that is not sound is refused with 12.
 #[derive(Clone, PartialEq, Eq, Debug)]
 pub struct Desk {
     pub seats: [Seat; SEATS],
@@ -43,6 +51,11 @@ impl Desk {
         Ok(Desk { seats: Default::default(), last_served: SEATS - 1, last_issued: 0, length })
     }
 
+    /// What stands beside the answer where a fresh desk is refused; it is not sound.
+    pub fn none() -> Desk {
+        Desk { seats: Default::default(), last_served: SEATS, last_issued: 0, length: 0 }
+    }
+
     pub fn is_sound(&self) -> bool {
         let held: Vec<&Seat> = self.seats.iter().filter(|seat| seat.held).collect();
         let mut tickets: Vec<u32> = held.iter().map(|seat| seat.ticket).collect();
@@ -55,7 +68,7 @@ impl Desk {
 
     fn is_sound_seat(&self, seat: &Seat) -> bool {
         (1..=self.last_issued).contains(&seat.ticket)
-            && accept(&seat.condition).is_ok()
+            && seat.tree().is_ok()
             && seat.offset <= self.length
             && seat.hits.checked_add(seat.unreadable).is_some_and(|counted| counted <= seat.offset)
     }
@@ -72,7 +85,7 @@ impl Desk {
         }
         self.last_issued += 1;
         let ticket = self.last_issued;
-        self.seats[free] = Seat { held: true, ticket, condition: condition.to_vec(), ..Seat::default() };
+        self.seats[free] = Seat::opened(ticket, condition);
         Ok(ticket)
     }
 
@@ -96,7 +109,7 @@ impl Desk {
     }
 
     /// A turn of a desk that is known to be sound and of this timetable's length.
-    pub fn serve(&mut self, timetable: &[u8]) -> Turn {
+    pub(crate) fn serve(&mut self, timetable: &[u8]) -> Turn {
         let mut round = (1..=SEATS).map(|step| (self.last_served + step) % SEATS);
         let Some(place) = round.find(|&place| self.seats[place].held) else {
             return Turn::Idle;
@@ -112,14 +125,33 @@ impl Desk {
     }
 }
 
+impl Default for Seat {
+    /// A free seat of a fresh desk.
+    fn default() -> Seat {
+        Seat { held: false, ticket: 0, offset: 0, hits: 0, unreadable: 0, condition_length: 0, condition: [0; MOST_BYTES] }
+    }
+}
+
 impl Seat {
+    /// A seat just opened. The condition has at most 240 bytes; zeros stand after it.
+    pub fn opened(ticket: u32, condition: &[u8]) -> Seat {
+        let mut seat = Seat { held: true, ticket, condition_length: condition.len(), ..Seat::default() };
+        seat.condition[..condition.len()].copy_from_slice(condition);
+        seat
+    }
+
+    /// What the stored condition says, or the number that Open gives for it.
+    fn tree(&self) -> Result<Expression, Refusal> {
+        accept(self.condition.get(..self.condition_length).ok_or(NO_GRAMMAR)?)
+    }
+
     fn judge_next_line(&mut self, timetable: &[u8]) -> Turn {
         let (ticket, offset) = (self.ticket, self.offset);
         let rest = &timetable[offset..];
         let line = rest.split(|&byte| byte == b'\n').next().unwrap_or(rest);
         let ended = line.len() < rest.len();
         self.offset += line.len() + usize::from(ended);
-        let judged = accept(&self.condition).and_then(|tree| holds(&tree, &fields(line)));
+        let judged = self.tree().and_then(|tree| holds(&tree, &fields(line)));
         match judged {
             Ok(true) => {
                 self.hits += 1;

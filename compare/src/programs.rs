@@ -27,7 +27,7 @@ pub fn answer_line(line: &[u8]) -> String {
     }
 }
 
-fn refused(number: Refusal) -> String {
+pub fn refused(number: Refusal) -> String {
     format!("refused\t{number}\n")
 }
 
@@ -122,7 +122,8 @@ pub fn desk(timetable: &[u8], input: &[u8]) -> String {
     }
 }
 
-fn turn_line(turn: Turn) -> String {
+/// The line that tells a turn's answer.
+pub fn turn_line(turn: Turn) -> String {
     match turn {
         Turn::Hit { ticket, offset } => format!("hit\t{ticket}\t{offset}\n"),
         Turn::Miss { ticket, offset } => format!("miss\t{ticket}\t{offset}\n"),

@@ -51,11 +51,8 @@ fn the_last_ticket() {
     desk.last_issued = LAST_TICKET - 1;
     assert_eq!(desk.open(GOOD), Ok(LAST_TICKET));
     assert_eq!(desk.open(GOOD), Err(14));
-    for seat in &mut desk.seats {
-        seat.held = true;
-    }
     for (ticket, seat) in (1..).zip(&mut desk.seats) {
-        *seat = Seat { held: true, ticket, condition: GOOD.to_vec(), ..Seat::default() };
+        *seat = Seat::opened(ticket, GOOD);
     }
     assert_eq!(desk.open(GOOD), Err(10));
 }
@@ -91,15 +88,20 @@ fn a_turn_reads_from_an_offset_within_a_line() {
 
 #[test]
 fn what_is_not_sound() {
-    let damage: [fn(&mut Desk); 10] = [
+    let damage: [fn(&mut Desk); 15] = [
         |desk| desk.last_served = 16,
+        |desk| desk.last_served = usize::MAX,
         |desk| desk.length = 65_537,
+        |desk| desk.length = usize::MAX,
         |desk| desk.seats[0].ticket = 0,
         |desk| desk.seats[0].ticket = 2,
         |desk| desk.last_issued = 1,
-        |desk| desk.seats[1].condition.clear(),
-        |desk| desk.seats[1].condition = b"xs:date(\"bad\") eq xs:date($1)".to_vec(),
+        |desk| desk.seats[1].condition_length = 0,
+        |desk| desk.seats[1].condition_length = 241,
+        |desk| desk.seats[1].condition_length = usize::MAX,
+        |desk| desk.seats[1] = Seat::opened(2, b"xs:date(\"bad\") eq xs:date($1)"),
         |desk| desk.seats[0].offset = 11,
+        |desk| desk.seats[0].offset = usize::MAX,
         |desk| desk.seats[0].hits = 1,
         |desk| (desk.seats[0].hits, desk.seats[0].unreadable) = (usize::MAX, 1),
     ];
@@ -119,8 +121,26 @@ fn what_is_not_sound() {
 #[test]
 fn free_seats_are_not_asked() {
     let mut desk = with_seats(10, 1);
-    desk.seats[7] = Seat { held: false, ticket: 1, condition: b"bad".to_vec(), offset: 99, hits: 100, unreadable: 0 };
+    desk.seats[7] = Seat { held: false, offset: 99, hits: 100, condition_length: 241, ..Seat::opened(1, b"bad") };
     assert!(desk.is_sound());
+}
+
+#[test]
+fn bytes_after_a_condition_are_not_asked() {
+    let mut desk = with_seats(10, 1);
+    desk.seats[0].condition[GOOD.len()..].fill(b'(');
+    assert!(desk.is_sound());
+    assert_eq!(desk.turn(b"2000-01-01"), Ok(Turn::Hit { ticket: 1, offset: 0 }));
+    assert_eq!(desk.seats[0].condition[239], b'(');
+    assert_eq!(desk.close(1), Ok(()));
+    assert_eq!(desk.seats[0], Seat::default());
+}
+
+#[test]
+fn no_desk_is_not_sound() {
+    let mut desk = Desk::none();
+    assert_eq!((desk.open(GOOD), desk.close(1), desk.turn(b"")), (Err(12), Err(12), Err(12)));
+    assert_eq!(desk, Desk::none());
 }
 
 #[test]
