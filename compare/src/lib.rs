@@ -3,7 +3,9 @@
 
 pub mod conditions;
 pub mod desk;
+pub mod files;
 pub mod generator;
+pub mod hostile;
 pub mod lines;
 pub mod programs;
 pub mod values;
@@ -25,4 +27,5 @@ pub const WRONG_LENGTH: Refusal = 11;
 pub const NOT_SOUND: Refusal = 12;
 pub const NO_SUCH_TICKET: Refusal = 13;
 pub const NO_TICKET_LEFT: Refusal = 14;
+pub const NO_ROOM: Refusal = 15;
 pub const ARGUMENT_BEYOND_BOUNDS: Refusal = 16;
