@@ -27,7 +27,7 @@ fn desk_cases_end_and_mostly_open() {
     let mut opened = 0;
     for seed in 0..200 {
         let case = desks::case(seed);
-        let output = programs::desk(case.timetable_bytes(), &case.conditions);
+        let output = programs::desk(case.timetable.bytes(), &case.conditions);
         assert!(output.ends_with("idle\n") || output == "refused\t7\n" || output == "refused\t11\n");
         opened += usize::from(output.starts_with("open"));
     }
@@ -52,7 +52,7 @@ fn a_written_text_reads_as_the_same_value() {
 fn checked_turns_answer_as_the_program_does() {
     for seed in 1000..1060 {
         let case = desks::case(seed);
-        let timetable = case.timetable_bytes();
+        let timetable = case.timetable.bytes();
         if timetable.len() > 3_000 || case.conditions.len() > 4_096 {
             continue;
         }

@@ -3,17 +3,21 @@
 //!     generate calls SEED COUNT          prints so many calculator lines
 //!     generate desk SEED DIR             writes one desk case into DIR: timetable.tsv and conditions
 //!     generate desks SEED COUNT DIR      writes desk cases into DIR/1, DIR/2, .. and those at the bounds into DIR/edge-1, ..
+//!     generate hostile SEED COUNT DIR    writes random scripts of hostile_desks into DIR/1, DIR/2, .., each with its
+//!                                        timetable.tsv and events, and those of the desks built in every way into DIR/NAME
 //!     generate edges DIR                 writes calculator inputs at the bounds of a whole input
 //!
 //! With --histogram after these, what the cases cover is printed to standard error.
 
 use compare::generator::desks::{self, Case, Timetable};
-use compare::generator::{calls, histogram::Histogram, random::Random};
+use compare::generator::{calls, histogram::Histogram, hostile, random::Random};
 use compare::programs;
 use std::fs;
 use std::io::{self, BufWriter, Write};
 use std::path::Path;
 use std::process::ExitCode;
+
+const WORDS: &str = "words: calls SEED COUNT | desk SEED DIR | desks SEED COUNT DIR | hostile SEED COUNT DIR | edges DIR";
 
 fn main() -> ExitCode {
     let mut words: Vec<String> = std::env::args().skip(1).collect();
@@ -25,8 +29,9 @@ fn main() -> ExitCode {
         ["calls", seed, count] => generate_calls(number(seed), number(count), &mut histogram),
         ["desk", seed, dir] => write_desk(&desks::case(number(seed)), Path::new(dir), &mut histogram),
         ["desks", seed, count, dir] => generate_desks(number(seed), number(count), Path::new(dir), &mut histogram),
+        ["hostile", seed, count, dir] => generate_hostile(number(seed), number(count), Path::new(dir), &mut histogram),
         ["edges", dir] => generate_edges(Path::new(dir)),
-        _ => Err(io::Error::other("words: calls SEED COUNT | desk SEED DIR | desks SEED COUNT DIR | edges DIR")),
+        _ => Err(io::Error::other(WORDS)),
     };
     if let Err(error) = done {
         eprintln!("generate: {error}");
@@ -54,22 +59,47 @@ fn generate_calls(seed: u64, count: u64, histogram: &mut Histogram) -> io::Resul
     output.flush()
 }
 
-fn write_desk(case: &Case, dir: &Path, histogram: &mut Histogram) -> io::Result<()> {
+fn write_timetable(timetable: &Timetable, dir: &Path) -> io::Result<()> {
     fs::create_dir_all(dir)?;
-    match &case.timetable {
-        Timetable::Missing => {}
-        Timetable::Folder => fs::create_dir_all(dir.join("timetable.tsv"))?,
-        Timetable::Bytes(bytes) => fs::write(dir.join("timetable.tsv"), bytes)?,
+    match timetable {
+        Timetable::Missing => Ok(()),
+        Timetable::Folder => fs::create_dir_all(dir.join("timetable.tsv")),
+        Timetable::Bytes(bytes) => fs::write(dir.join("timetable.tsv"), bytes),
     }
+}
+
+fn write_desk(case: &Case, dir: &Path, histogram: &mut Histogram) -> io::Result<()> {
+    write_timetable(&case.timetable, dir)?;
     fs::write(dir.join("conditions"), &case.conditions)?;
-    histogram.count_desk(&programs::desk(case.timetable_bytes(), &case.conditions));
+    histogram.count_desk(&programs::desk(case.timetable.bytes(), &case.conditions));
+    Ok(())
+}
+
+fn write_hostile(case: &hostile::Case, dir: &Path, histogram: &mut Histogram) -> io::Result<()> {
+    write_timetable(&case.timetable, dir)?;
+    fs::write(dir.join("events"), &case.events)?;
+    histogram.count_hostile(case.timetable.bytes(), &case.events);
+    Ok(())
+}
+
+/// Each case's own seed.
+fn seed_at(seed: u64, place: u64) -> u64 {
+    seed.wrapping_mul(1_000_003).wrapping_add(place)
+}
+
+fn generate_hostile(seed: u64, count: u64, dir: &Path, histogram: &mut Histogram) -> io::Result<()> {
+    for place in 1..=count {
+        write_hostile(&hostile::case(seed_at(seed, place)), &dir.join(place.to_string()), histogram)?;
+    }
+    for case in hostile::made() {
+        write_hostile(&case, &dir.join(&case.name), histogram)?;
+    }
     Ok(())
 }
 
 fn generate_desks(seed: u64, count: u64, dir: &Path, histogram: &mut Histogram) -> io::Result<()> {
     for place in 1..=count {
-        let own = seed.wrapping_mul(1_000_003).wrapping_add(place);
-        write_desk(&desks::case(own), &dir.join(place.to_string()), histogram)?;
+        write_desk(&desks::case(seed_at(seed, place)), &dir.join(place.to_string()), histogram)?;
     }
     for (place, case) in (1..).zip(desks::edges(seed)) {
         write_desk(&case, &dir.join(format!("edge-{place}")), histogram)?;

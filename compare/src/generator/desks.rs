@@ -4,6 +4,7 @@ use super::conditions::{self, Setting};
 use super::damage::{damaged, noise};
 use super::random::Random;
 use super::texts;
+use crate::desk::MOST_TIMETABLE_BYTES;
 
 pub enum Timetable {
     /// No file of that name.
@@ -13,18 +14,19 @@ pub enum Timetable {
     Bytes(Vec<u8>),
 }
 
-pub struct Case {
-    pub timetable: Timetable,
-    pub conditions: Vec<u8>,
-}
-
-impl Case {
-    pub fn timetable_bytes(&self) -> &[u8] {
-        match &self.timetable {
-            Timetable::Bytes(bytes) => bytes,
+impl Timetable {
+    /// What the programs read of it.
+    pub fn bytes(&self) -> &[u8] {
+        match self {
+            Timetable::Bytes(bytes) => &bytes[..bytes.len().min(MOST_TIMETABLE_BYTES + 1)],
             _ => b"",
         }
     }
+}
+
+pub struct Case {
+    pub timetable: Timetable,
+    pub conditions: Vec<u8>,
 }
 
 pub fn case(seed: u64) -> Case {
@@ -74,7 +76,7 @@ pub fn edges(seed: u64) -> Vec<Case> {
     cases
 }
 
-fn timetable(random: &mut Random, setting: &Setting) -> Vec<u8> {
+pub(super) fn timetable(random: &mut Random, setting: &Setting) -> Vec<u8> {
     let rows = match random.weighted(&[5, 70, 20, 5]) {
         0 => 0,
         1 => random.below(12),
@@ -127,7 +129,7 @@ fn field(random: &mut Random, setting: &Setting, kind: crate::values::Kind) -> V
 }
 
 /// A timetable of so many bytes, with long lines.
-fn great_timetable(random: &mut Random, setting: &Setting, length: usize) -> Vec<u8> {
+pub(super) fn great_timetable(random: &mut Random, setting: &Setting, length: usize) -> Vec<u8> {
     let mut bytes: Vec<u8> = Vec::new();
     while bytes.len() < length {
         bytes.extend(row(random, setting));

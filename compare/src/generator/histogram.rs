@@ -1,5 +1,7 @@
 //! Counts that show how well the generated cases cover what can be answered.
 
+use crate::hostile::{Script, MOST_EVENTS_BYTES};
+use crate::lines::lines;
 use crate::programs::answer_line;
 use std::collections::BTreeMap;
 
@@ -44,6 +46,28 @@ impl Histogram {
                 word => word.to_string(),
             };
             self.count(name);
+        }
+    }
+
+    /// Each event by its word and by the words of its answer's first line.
+    pub fn count_hostile(&mut self, file: &[u8], input: &[u8]) {
+        if input.len() > MOST_EVENTS_BYTES {
+            return self.count("whole input refused  7".to_string());
+        }
+        let mut script = Script::new(file);
+        for line in lines(input) {
+            let answer = script.answer(line);
+            let fields: Vec<&str> = answer.lines().next().unwrap_or("").split('\t').collect();
+            let result = match fields[..] {
+                ["refused", number] => format!("refused {number:>2}"),
+                ["unreadable", .., number] => format!("unreadable {number}"),
+                ["wrote", _, last] => format!("wrote {last}"),
+                _ => fields[0].to_string(),
+            };
+            let word = line.split(|&byte| byte == b'\t').next().unwrap_or(line);
+            let known: &[&[u8]] = &[b"fresh", b"part", b"open", b"close", b"turn", b"turns", b"sound", b"show", b"set", b"seat"];
+            let word = if known.contains(&word) { String::from_utf8_lossy(word).into_owned() } else { "none".to_string() };
+            self.count(format!("{word:<10} {result}"));
         }
     }
 

@@ -1,10 +1,11 @@
-//! Seeded cases for the comparison: texts near every bound that document 01 names, calls made of them, desk cases, and
-//! damaged forms of all of these. The same seed gives the same cases on every machine.
+//! Seeded cases for the comparison: texts near every bound that document 01 names, calls made of them, desk cases,
+//! scripts over desks built wrong, and damaged forms of all of these. The same seed gives the same cases on every machine.
 
 pub mod calls;
 pub mod conditions;
 pub mod damage;
 pub mod desks;
 pub mod histogram;
+pub mod hostile;
 pub mod random;
 pub mod texts;
