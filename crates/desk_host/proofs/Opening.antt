@@ -2,36 +2,19 @@
 -- lines after it.
 use native.Mathlib.Omega.{arith}
 use mathlib.Core.Path.{_≡_, refl, sym, ap, _∙_}
-use mathlib.Core.List.{List, []}
-use mathlib.Core.Logic.{⊎-elim}
-use Prim.Native.Nat.{ℕ, zero, suc, _-_, _≤_, _<_, _^_}
-use lib.ListN.{length, take, drop, drop-of-length-le}
+use mathlib.Core.List.{List}
+use Prim.Native.Nat.{ℕ, _-_, _≤_, _<_, _^_}
+use lib.ListN.{length}
 use Rattle.timetable.specs.Lines.{Line, lineAt, lineEnd, nextLine, linesFrom, placedLines}
-use Rattle.timetable.proofs.Offsets.{line-cut, end-within, line-or-end, lines-end, lines-next, next-further}
-use Rattle.desk.specs.Answers.{After, afterOpen}
+use Rattle.timetable.proofs.Offsets.{line-cut, lines-end, lines-next, next-further}
+use Rattle.words.specs.Runs.{between}
 use Rattle.desk.specs.Desk.{openOf}
 use Rattle.desk.specs.declared.Desk.{Desk}
-use Rattle.desk.specs.declared.AfterOpen.{AfterOpen}
 use Rattle.desk_host.specs.Program.{openedAll}
 
--- the line between an offset and its end was opened
-pub line-opened : (t : List ℕ) (at end : ℕ) (d : Desk) (r : AfterOpen) → end ≡ lineEnd t at → afterOpen r ≡ openOf (take (end - at) (drop at t)) d
-    → r .desk ≡ openOf (lineAt t at .text) d .desk
-line-opened t at end d r e h = ap (λ (x : After ℕ). x .desk) h ∙ ap (λ (w : List ℕ). openOf w d .desk) (line-cut t at end e)
-
-take-none : (n : ℕ) → _≡_ {A = List ℕ} (take n []) []
-take-none zero = refl
-take-none (suc n) = refl
-
--- past the end of the input the line is empty
-past-line : (t : List ℕ) (at end : ℕ) → end ≡ lineEnd t at → length t < end → take 0 t ≡ lineAt t at .text
-past-line t at end e l =
-    let h : length t ≤ at = ⊎-elim (λ b. absurd (let z : end ≤ length t = rw e (end-within t at (omega arith)) in omega arith)) (λ b. b) (line-or-end t at) in
-    sym (take-none (end - at)) ∙ ap (λ (w : List ℕ). take (end - at) w) (sym (drop-of-length-le t h)) ∙ line-cut t at end e
-
-pub past-opened : (t : List ℕ) (at end : ℕ) (d : Desk) (r : AfterOpen) → end ≡ lineEnd t at → length t < end → afterOpen r ≡ openOf (take 0 t) d
-    → r .desk ≡ openOf (lineAt t at .text) d .desk
-past-opened t at end d r e l h = ap (λ (x : After ℕ). x .desk) h ∙ ap (λ (w : List ℕ). openOf w d .desk) (past-line t at end e l)
+-- what is cut out between an offset and its line's end is the line there
+pub line-opened : (t : List ℕ) (at end : ℕ) (w : List ℕ) (d h : Desk) → end ≡ lineEnd t at → w ≡ between t at end → h ≡ openOf w d .desk → h ≡ openOf (lineAt t at .text) d .desk
+line-opened t at end w d h e p q = q ∙ ap (λ (x : List ℕ). openOf x d .desk) (p ∙ line-cut t at end e)
 
 -- ---- the loop
 

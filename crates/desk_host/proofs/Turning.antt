@@ -7,25 +7,16 @@ use Prim.Native.Nat.{ℕ, suc, _+_, _-_, _<_, _≤_, _^_}
 use lib.Dec.{T, eqb, leb}
 use lib.ListN.{length}
 use Rattle.basis.specs.Choice.{pick}
-use Rattle.desk.specs.Answers.{After}
 use Rattle.desk.specs.Soundness.{soundOf}
 use Rattle.desk.specs.Desk.{turnOf}
 use Rattle.desk.specs.declared.Desk.{Desk}
 use Rattle.lines.specs.Text.{turnLine}
-use Rattle.lines.specs.Turns.{turnsOf, turnsMeaning, afterTurns}
-use Rattle.lines.specs.declared.AfterTurns.{AfterTurns}
+use Rattle.lines.specs.Turns.{turnsOf, turnsMeaning}
 use Rattle.lines.specs.declared.TurnsAnswer.{TurnsAnswer}
 use Rattle.lines.specs.declared.TurnsAnswer.the-variants as TV
 use Rattle.lines.specs.declared.Written.{Written}
 use Rattle.lines.proofs.Singles.{many-are-single}
 use Rattle.desk_host.specs.Program.{roomSize, callCount, writtenWithin, goesOn, untilIdle}
-
--- what many turns handed back, in a room of the program's size
-pub some-taken : (t : List ℕ) (d : Desk) (n : ℕ) (r : AfterTurns) → afterTurns r ≡ turnsOf t d n → n ≡ roomSize
-    → (r .desk ≡ turnsOf t d roomSize .desk) × (turnsMeaning (r .answer) ≡ turnsOf t d roomSize .answer)
-some-taken t d n r h z =
-    let e : afterTurns r ≡ turnsOf t d roomSize = h ∙ ap (turnsOf t d) z in
-    (ap (λ (x : After Written). x .desk) e, ap (λ (x : After Written). x .answer) e)
 
 -- the lines that were written are within the room
 turns-within : (t : List ℕ) (d : Desk) (size : ℕ) → writtenWithin (turnsOf t d size .answer) size
@@ -39,8 +30,13 @@ turns-within t d size = go (soundOf d) (eqb (length t) (d .«timetable_length»)
     go true true false e f g = rw (e, f, g) tt
     go true true true e f g = rw (e, f, g) (let x = many-are-single t d size in omega (arith, ap length (x .1 .text), x .1 .fits))
 
-pub told-within : (t : List ℕ) (d : Desk) (n m : ℕ) (r : AfterTurns) → afterTurns r ≡ turnsOf t d n → n ≡ roomSize → m ≡ roomSize → writtenWithin (turnsMeaning (r .answer)) m
-told-within t d n m r h z y = rw (y, some-taken t d n r h z .1) (turns-within t d roomSize)
+-- what many turns said, with a room of the program's size
+pub some-taken : (t : List ℕ) (d h : Desk) (n : ℕ) (a : TurnsAnswer) (b : Bool) → n ≡ roomSize → h ≡ turnsOf t d n .desk → turnsMeaning a ≡ turnsOf t d n .answer → b ≡ goesOn (turnsMeaning a)
+    → (h ≡ turnsOf t d roomSize .desk) × (b ≡ goesOn (turnsOf t d roomSize .answer))
+some-taken t d h n a b z p q r = (p ∙ ap (λ (m : ℕ). turnsOf t d m .desk) z, r ∙ ap goesOn (q ∙ ap (λ (m : ℕ). turnsOf t d m .answer) z))
+
+pub told-within : (t : List ℕ) (d : Desk) (n m : ℕ) (a : TurnsAnswer) → m ≡ n → turnsMeaning a ≡ turnsOf t d n .answer → writtenWithin (turnsMeaning a) m
+told-within t d n m a e q = rw (e, q) (turns-within t d n)
 
 pub count-within : {a : TurnsAnswer} {w : Written} {n : ℕ} → writtenWithin (turnsMeaning a) n → a ≡ TV.Wrote w → w .count ≤ n
 count-within {a} {w} {n} h e = subst (λ (x : TurnsAnswer). writtenWithin (turnsMeaning x) n) e h

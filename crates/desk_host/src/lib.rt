@@ -1,7 +1,6 @@
 // The desk program (document 01, "The desk program"): it reads the timetable and the conditions, opens the conditions in order,
 // and takes turns until Idle. It keeps one desk for its whole life, in one variable of `live`, and has it updated where
-// it stands: `open_at_in` and `take_some_in` take it by `&mut`, call the function by value, and store the desk.
-use desk::AfterOpen;
+// it stands: its loops go through `desk::open_in` and `lines::turns_in`.
 use desk::Desk;
 use desk::OpenAnswer;
 use libc::STDIN_FILENO;
@@ -11,6 +10,7 @@ use lines::text::open_line;
 use lines::text::refused_line;
 use numerals::Text;
 use value::Refusal;
+use words::runs::cut;
 ghost use mathlib.Core.Path.{_≡_};
 ghost use Prim.Native.Nat.{_≤_};
 ghost use lib.ListN.{length};
@@ -30,18 +30,6 @@ const ROOM: usize = 4_096;
 // Each call takes a turn or more, and a full desk over a timetable of empty lines takes 16 x (65,536 + 1) of them before it
 // is Idle.
 const CALLS: usize = Desk::SEATS * (Desk::MAX_TIMETABLE + 1) + 1;
-
-// The desk after a condition, and where the next one starts.
-struct AfterLine {
-    desk: Desk,
-    next: usize,
-}
-
-// The desk after some turns, and whether more are due.
-struct AfterSome {
-    desk: Desk,
-    more: bool,
-}
 
 fn write_text(text: Text)
     requires { ⌜ text .len ≤ longest ⌝ }
@@ -85,58 +73,24 @@ fn desk_for(timetable_length: usize) -> Desk
     desk
 }
 
-// Writes what Open answered.
-fn told(after: AfterOpen, next: usize) -> AfterLine
-    ensures { λ r. ⌜ (r .desk ≡ after .desk) × (r .next ≡ next) ⌝ }
-{
-    let answer = after.answer;
-    tell_open(answer);
-    let desk = after.desk;
-    AfterLine { desk, next }
-}
-
-// Opens the condition at an offset of the input, and writes the answer.
-fn open_at(desk: Desk, input: &[u8], at: usize) -> AfterLine
-    ensures { λ r. ⌜ (r .desk ≡ openOf (lineAt (now (input .entry)) at .text) desk .desk) × (r .next ≡ nextLine (now (input .entry)) at) ⌝ }
-{
-    let line = line_reader::read_line(input, at);
-    let end = line.end;
-    let next = line.next;
-    // past the end of the input a line is empty
-    if input.len() < end {
-        return told(desk.open(&input[..0]), next);
-    }
-    told(desk.open(&input[at..end]), next)
-}
-
-// Takes turns as long as their lines fit in the room, and writes them.
-fn take_some(desk: Desk, t: &[u8]) -> AfterSome
-    ensures { λ r. ⌜ (r .desk ≡ turnsOf (now (t .entry)) desk roomSize .desk) × (r .more ≡ goesOn (turnsOf (now (t .entry)) desk roomSize .answer)) ⌝ }
-{
-    let mut room = [0; ROOM];
-    let after = lines::turns(desk, t, &mut room);
-    let answer = after.answer;
-    let more = tell_turns(answer, &room);
-    let next = after.desk;
-    AfterSome { desk: next, more }
-}
-
-// Opens the condition at an offset of the input, on a desk that is updated where it stands.
+// Opens the condition at an offset of the input and writes the answer. Hands back where the next condition starts.
 fn open_at_in(desk: &mut Desk, input: &[u8], at: usize) -> usize
     ensures { λ r. ⌜ (now (desk .exit) ≡ openOf (lineAt (now (input .entry)) at .text) (now (desk .entry)) .desk) × (r ≡ nextLine (now (input .entry)) at) ⌝ }
 {
-    let after = open_at(*desk, input, at);
-    *desk = after.desk;
-    after.next
+    let line = line_reader::read_line(input, at);
+    let condition = cut(input, at, line.end);
+    let answer = desk::open_in(desk, condition);
+    tell_open(answer);
+    line.next
 }
 
-// Takes turns of a desk that is updated where it stands.
+// Takes turns as long as their lines fit in the room, and writes them. Says whether more are due.
 fn take_some_in(desk: &mut Desk, t: &[u8]) -> bool
     ensures { λ r. ⌜ (now (desk .exit) ≡ turnsOf (now (t .entry)) (now (desk .entry)) roomSize .desk) × (r ≡ goesOn (turnsOf (now (t .entry)) (now (desk .entry)) roomSize .answer)) ⌝ }
 {
-    let after = take_some(*desk, t);
-    *desk = after.desk;
-    after.more
+    let mut room = [0; ROOM];
+    let answer = lines::turns_in(desk, t, &mut room);
+    tell_turns(answer, &room)
 }
 
 // Opens the conditions in order.
