@@ -1,0 +1,27 @@
+use Rattle.basis.proofs.Tests.{no, yes}
+use Rattle.hostile.proofs.Lines.{too-few, enough}
+use borrow.Author.Needs.{needs}
+use Rattle.hostile.proofs.fields.exactly.Statement.{statement}
+use Rattle.hostile.proofs.fields.exactly.Tie as tie
+use Rattle.hostile.proofs.fields.exactly.Reads as reads
+use Rattle.hostile.proofs.fields.exactly.Lts as lts
+use Rattle.timetable.proofs.fields.has_field.Reads as has-field-reads
+
+has-field-requires : tie.Need-has-field-requires
+has-field-requires c κs = search needs
+
+returns : tie.Need-returns
+returns c = too-few _ _ (no (c .before .has-field .ensures) (c .if1 .taken))
+
+add-has-field : tie.Need-add-has-field
+add-has-field c = search needs
+
+has-field-requires-2 : tie.Need-has-field-requires-2
+has-field-requires-2 c κs = search needs
+
+returns-2 : tie.Need-returns-2
+returns-2 c = enough _ _ (yes (c .before .before .has-field .ensures) (c .before .if1 .left)) (c .has-field2 .ensures)
+
+pub exactly-spec : {M : Type 1} → statement M
+exactly-spec =
+    tie.close (tie.spec has-field-requires returns add-has-field has-field-requires-2 returns-2)

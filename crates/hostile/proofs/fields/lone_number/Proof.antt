@@ -1,0 +1,34 @@
+use Rattle.basis.proofs.Tests.{no, yes}
+use Rattle.hostile.proofs.Lines.{no-lone, lone}
+use borrow.Author.Needs.{needs}
+use Rattle.hostile.proofs.fields.lone_number.Statement.{statement}
+use Rattle.hostile.proofs.fields.lone_number.Tie as tie
+use Rattle.hostile.proofs.fields.lone_number.Reads as reads
+use Rattle.hostile.proofs.fields.lone_number.Lts as lts
+use Rattle.hostile.proofs.fields.exactly.Reads as exactly-reads
+use Rattle.hostile.proofs.numbers.none.Reads as none-reads
+use Rattle.hostile.proofs.numbers.read.Reads as read-reads
+use Rattle.timetable.proofs.fields.field.Reads as field-reads
+
+exactly-requires : tie.Need-exactly-requires
+exactly-requires c κs = search needs
+
+none-requires : tie.Need-none-requires
+none-requires c κs = search needs
+
+returns : tie.Need-returns
+returns c = no-lone _ _ (no (c .before .before .exactly .ensures) (c .before .if1 .taken)) (c .none .ensures)
+
+field-requires : tie.Need-field-requires
+field-requires c κs = search needs
+
+read-requires : tie.Need-read-requires
+read-requires c κs = search needs
+
+returns-2 : tie.Need-returns-2
+returns-2 c = lone _ _ (yes (c .before .before .before .exactly .ensures) (c .before .before .if1 .left)) (c .before .field .ensures) (c .read .ensures)
+
+pub lone-number-spec : {M : Type 1} → statement M
+lone-number-spec =
+    tie.close
+    (tie.spec exactly-requires none-requires returns field-requires read-requires returns-2)

@@ -1,0 +1,26 @@
+-- docs/LINES.md, "Hostile desks": "N is one to twenty digits, leading zeros allowed, and at most" a bound.
+use mathlib.Core.Bool.{true, false}
+use mathlib.Core.List.{List}
+use Prim.Native.Nat.{ℕ}
+use lib.Dec.{leb, eqb}
+use lib.ListN.{length}
+use Rattle.basis.specs.Choice.{pick}
+use Rattle.numerals.specs.Reading.{run}
+use Rattle.numerals.specs.Reading as reading
+use Rattle.hostile.specs.declared.numbers.Number.{Number}
+
+-- the longest number has so many digits
+abbrev pub maxDigits : ℕ
+maxDigits = 20
+
+abbrev pub noNumber : Number
+noNumber = record { good = false; value = 0 }
+
+-- the run of digits at the start of a text of some length, where it is the whole text and its number is within the bound
+unfoldable pub wholeWithin : ℕ → ℕ → reading.Number → Number
+wholeWithin most long n =
+    pick (eqb (n .count) long) (pick (leb (n .value) most) (record { good = true; value = n .value }) noNumber) noNumber
+
+unfoldable pub numberOf : ℕ → List ℕ → Number
+numberOf most s =
+    pick (leb 1 (length s)) (pick (leb (length s) maxDigits) (wholeWithin most (length s) (run s 0)) noNumber) noNumber

@@ -1,0 +1,63 @@
+// The numbers of a script: one to twenty digits, within a bound.
+use numerals::digit;
+ghost use mathlib.Core.Path.{_≡_};
+ghost use Prim.Native.Nat.{_+_, _*_, _≤_};
+ghost use lib.Dec.{ltb};
+ghost use Rattle.hostile.specs.Numbers.{numberOf, noNumber};
+
+// The longest number has so many digits.
+const DIGITS: usize = 20;
+
+// A number that was read. Where the text is none, its value is 0.
+pub struct Number {
+    pub good: bool,
+    pub value: u64,
+}
+
+pub fn none() -> Number
+    ensures { λ r. ⌜ r ≡ noNumber ⌝ }
+{
+    Number {
+        good: false,
+        value: 0,
+    }
+}
+
+// Whether v with one more digit is beyond the bound. Nothing wraps, whatever v and the bound are.
+fn beyond(v: u64, d: u8, most: u64) -> bool
+    ensures { λ r. ⌜ r ≡ ltb most (v * 10 + d) ⌝ }
+{
+    if most / 10 < v {
+        return true;
+    }
+    most - v * 10 < d as u64
+}
+
+pub fn read(s: &[u8], most: u64) -> Number
+    ensures { λ r. ⌜ (r ≡ numberOf most (now (s .entry))) × (r .value ≤ most) ⌝ }
+{
+    if s.len() < 1 {
+        return none();
+    }
+    if DIGITS < s.len() {
+        return none();
+    }
+    let mut v: u64 = 0;
+    let mut i = 0;
+    while i < s.len() {
+        let b = s[i];
+        if !digit(b) {
+            return none();
+        }
+        let d = b - b'0';
+        if beyond(v, d, most) {
+            return none();
+        }
+        v = v * 10 + d as u64;
+        i += 1;
+    }
+    Number {
+        good: true,
+        value: v,
+    }
+}

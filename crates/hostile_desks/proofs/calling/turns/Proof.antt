@@ -1,0 +1,48 @@
+use borrow.Author.Needs.{needs}
+use Rattle.hostile_desks.proofs.calling.turns.Statement.{statement}
+use Rattle.hostile_desks.proofs.calling.turns.Tie as tie
+use Rattle.hostile_desks.proofs.calling.turns.Reads as reads
+use Rattle.hostile_desks.proofs.calling.turns.Lts as lts
+use Rattle.hostile.proofs.fields.lone_number.Reads as lone-number-reads
+use Rattle.hostile_desks.proofs.calling.turns_into.Reads as turns-into-reads
+use Rattle.hostile_desks.proofs.setting.no_event.Reads as no-event-reads
+
+-- src/calling.rt:71:9
+lone-number-requires : tie.Need-lone-number-requires
+lone-number-requires c κs = search needs
+
+-- src/calling.rt:73:9
+no-event-requires : tie.Need-no-event-requires
+no-event-requires c κs = search needs
+
+-- src/calling.rt:73:9
+returns : tie.Need-returns
+returns c = search needs
+
+-- src/calling.rt:77:25
+array-borrow-prefix-room : tie.Need-array-borrow-prefix-room
+array-borrow-prefix-room c = search needs
+
+-- src/calling.rt:77:25
+slice-aggregate-turns-into : tie.Need-slice-aggregate-turns-into
+slice-aggregate-turns-into c = ?
+
+-- src/calling.rt:77:5
+turns-into-requires : tie.Need-turns-into-requires
+turns-into-requires c κs = search needs
+
+-- src/calling.rt:70:1
+returns-2 : tie.Need-returns-2
+returns-2 c = search needs
+
+pub turns-spec : {M : Type 1} → statement M
+turns-spec =
+    tie.close
+    (tie.spec
+    lone-number-requires
+    no-event-requires
+    returns
+    array-borrow-prefix-room
+    slice-aggregate-turns-into
+    turns-into-requires
+    returns-2)

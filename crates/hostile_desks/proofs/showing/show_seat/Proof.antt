@@ -1,0 +1,53 @@
+use borrow.Author.Needs.{needs}
+use Rattle.hostile_desks.proofs.showing.show_seat.Statement.{statement}
+use Rattle.hostile_desks.proofs.showing.show_seat.Tie as tie
+use Rattle.hostile_desks.proofs.showing.show_seat.Reads as reads
+use Rattle.hostile_desks.proofs.showing.show_seat.Lts as lts
+use Rattle.hostile.proofs.shown.kept.Reads as kept-reads
+use Rattle.hostile_desks.proofs.showing.blank.Reads as blank-reads
+use Rattle.hostile_desks.proofs.showing.tell_seat.Reads as tell-seat-reads
+
+-- src/showing.rt:73:21
+slice-aggregate-kept : tie.Need-slice-aggregate-kept
+slice-aggregate-kept c = search needs
+
+-- src/showing.rt:73:9
+kept-requires : tie.Need-kept-requires
+kept-requires c κs = search needs
+
+-- src/showing.rt:75:12
+blank-requires : tie.Need-blank-requires
+blank-requires c κs = search needs
+
+-- src/showing.rt:76:13
+returns : tie.Need-returns
+returns c = search needs
+
+-- src/showing.rt:79:25
+array-share-prefix-condition : tie.Need-array-share-prefix-condition
+array-share-prefix-condition c = search needs
+
+-- src/showing.rt:79:25
+slice-aggregate-tell-seat : tie.Need-slice-aggregate-tell-seat
+slice-aggregate-tell-seat c = ?
+
+-- src/showing.rt:79:5
+tell-seat-requires : tie.Need-tell-seat-requires
+tell-seat-requires c κs = ?
+
+-- src/showing.rt:71:1
+returns-2 : tie.Need-returns-2
+returns-2 c = search needs
+
+pub show-seat-spec : {M : Type 1} → statement M
+show-seat-spec =
+    tie.close
+    (tie.spec
+    slice-aggregate-kept
+    kept-requires
+    blank-requires
+    returns
+    array-share-prefix-condition
+    slice-aggregate-tell-seat
+    tell-seat-requires
+    returns-2)
