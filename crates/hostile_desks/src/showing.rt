@@ -79,12 +79,16 @@ fn show_seat(place: usize, s: Seat) {
     tell_seat(place, s, &condition[..long]);
 }
 
-pub fn show(desk: Desk) -> Desk {
+fn tell_desk(last_served: usize, length: usize, issued: u32) {
     io::write_all(STDOUT_FILENO, b"desk");
-    tell_number(desk.last_served as u64);
-    tell_number(desk.timetable_length as u64);
-    tell_number(desk.issued as u64);
+    tell_number(last_served as u64);
+    tell_number(length as u64);
+    tell_number(issued as u64);
     io::write_all(STDOUT_FILENO, b"\n");
+}
+
+pub fn show(desk: Desk) -> Desk {
+    tell_desk(desk.last_served, desk.timetable_length, desk.issued);
     let mut i = 0;
     while i < Desk::SEATS {
         let s = desk.seats[i];

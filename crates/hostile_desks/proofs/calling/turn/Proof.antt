@@ -1,3 +1,8 @@
+use mathlib.Core.Path.{_≡_}
+use lib.ListN.{length}
+use Rattle.desk.specs.Bounds.{seatCount}
+use Rattle.lines.proofs.Calls.{mapped-length}
+use Rattle.hostile_desks.proofs.Told.{turn-within}
 use borrow.Author.Needs.{needs}
 use Rattle.hostile_desks.proofs.calling.turn.Statement.{statement}
 use Rattle.hostile_desks.proofs.calling.turn.Tie as tie
@@ -6,15 +11,14 @@ use Rattle.hostile_desks.proofs.calling.turn.Lts as lts
 use Rattle.desk.proofs.Desk.turn.Reads as turn-reads
 use Rattle.hostile_desks.proofs.telling.tell_turn.Reads as tell-turn-reads
 
--- src/calling.rt:52:9
 turn-requires : tie.Need-turn-requires
 turn-requires c κs = search needs
 
--- src/calling.rt:54:5
 tell-turn-requires : tie.Need-tell-turn-requires
-tell-turn-requires c κs = ?
+tell-turn-requires c κs =
+    let z : length (c .before .before .args .desk .seats) ≡ seatCount = search (mapped-length, needs) in
+    turn-within _ _ (c .turn .result) z (c .turn .ensures)
 
--- src/calling.rt:51:1
 returns : tie.Need-returns
 returns c = search needs
 

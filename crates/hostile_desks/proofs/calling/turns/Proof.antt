@@ -1,3 +1,5 @@
+use mathlib.Core.Path.{sym}
+use lib.Seq.{length-take-le}
 use borrow.Author.Needs.{needs}
 use Rattle.hostile_desks.proofs.calling.turns.Statement.{statement}
 use Rattle.hostile_desks.proofs.calling.turns.Tie as tie
@@ -7,31 +9,24 @@ use Rattle.hostile.proofs.fields.lone_number.Reads as lone-number-reads
 use Rattle.hostile_desks.proofs.calling.turns_into.Reads as turns-into-reads
 use Rattle.hostile_desks.proofs.setting.no_event.Reads as no-event-reads
 
--- src/calling.rt:71:9
 lone-number-requires : tie.Need-lone-number-requires
 lone-number-requires c κs = search needs
 
--- src/calling.rt:73:9
 no-event-requires : tie.Need-no-event-requires
 no-event-requires c κs = search needs
 
--- src/calling.rt:73:9
 returns : tie.Need-returns
 returns c = search needs
 
--- src/calling.rt:77:25
 array-borrow-prefix-room : tie.Need-array-borrow-prefix-room
 array-borrow-prefix-room c = search needs
 
--- src/calling.rt:77:25
 slice-aggregate-turns-into : tie.Need-slice-aggregate-turns-into
-slice-aggregate-turns-into c = ?
+slice-aggregate-turns-into c = sym (length-take-le _ _ (search needs))
 
--- src/calling.rt:77:5
 turns-into-requires : tie.Need-turns-into-requires
 turns-into-requires c κs = search needs
 
--- src/calling.rt:70:1
 returns-2 : tie.Need-returns-2
 returns-2 c = search needs
 

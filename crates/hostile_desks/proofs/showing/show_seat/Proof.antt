@@ -1,3 +1,8 @@
+use mathlib.Core.Path.{_≡_, sym}
+use native.Mathlib.Omega.{arith}
+use lib.ListN.{length, length-take}
+use Rattle.desk.specs.Bounds.{conditionRoom}
+use lib.Seq.{length-take-le}
 use borrow.Author.Needs.{needs}
 use Rattle.hostile_desks.proofs.showing.show_seat.Statement.{statement}
 use Rattle.hostile_desks.proofs.showing.show_seat.Tie as tie
@@ -7,35 +12,29 @@ use Rattle.hostile.proofs.shown.kept.Reads as kept-reads
 use Rattle.hostile_desks.proofs.showing.blank.Reads as blank-reads
 use Rattle.hostile_desks.proofs.showing.tell_seat.Reads as tell-seat-reads
 
--- src/showing.rt:73:21
 slice-aggregate-kept : tie.Need-slice-aggregate-kept
 slice-aggregate-kept c = search needs
 
--- src/showing.rt:73:9
 kept-requires : tie.Need-kept-requires
 kept-requires c κs = search needs
 
--- src/showing.rt:75:12
 blank-requires : tie.Need-blank-requires
 blank-requires c κs = search needs
 
--- src/showing.rt:76:13
 returns : tie.Need-returns
 returns c = search needs
 
--- src/showing.rt:79:25
 array-share-prefix-condition : tie.Need-array-share-prefix-condition
 array-share-prefix-condition c = search needs
 
--- src/showing.rt:79:25
 slice-aggregate-tell-seat : tie.Need-slice-aggregate-tell-seat
-slice-aggregate-tell-seat c = ?
+slice-aggregate-tell-seat c = sym (length-take-le _ _ (search needs))
 
--- src/showing.rt:79:5
 tell-seat-requires : tie.Need-tell-seat-requires
-tell-seat-requires c κs = ?
+tell-seat-requires c κs =
+    let l : length (c .before .before .before .before .before .args .s .condition) ≡ conditionRoom = search needs in
+    omega (arith, length-take (c .before .before .kept .result) (c .before .before .before .before .before .args .s .condition))
 
--- src/showing.rt:71:1
 returns-2 : tie.Need-returns-2
 returns-2 c = search needs
 

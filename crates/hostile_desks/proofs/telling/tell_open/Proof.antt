@@ -1,3 +1,7 @@
+use mathlib.Core.Path.{_≡_}
+use lib.ListN.{length}
+use Rattle.numerals.specs.Writing.{longest}
+use Rattle.lines.proofs.Bounded.{holds-fits}
 use borrow.Author.Needs.{needs}
 use Rattle.hostile_desks.proofs.telling.tell_open.Statement.{statement}
 use Rattle.hostile_desks.proofs.telling.tell_open.Tie as tie
@@ -6,15 +10,14 @@ use Rattle.hostile_desks.proofs.telling.tell_open.Lts as lts
 use Rattle.hostile_desks.proofs.telling.write_text.Reads as write-text-reads
 use Rattle.lines.proofs.text.open_line.Reads as open-line-reads
 
--- src/telling.rt:52:16
 open-line-requires : tie.Need-open-line-requires
 open-line-requires c κs = search needs
 
--- src/telling.rt:52:5
 write-text-requires : tie.Need-write-text-requires
-write-text-requires c κs = ?
+write-text-requires c κs =
+    let z : length (c .open-line .result .bytes) ≡ longest = search needs in
+    holds-fits (c .open-line .result) _ (c .open-line .ensures) z
 
--- src/telling.rt:51:1
 returns : tie.Need-returns
 returns c = search needs
 

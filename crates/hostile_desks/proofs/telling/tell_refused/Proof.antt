@@ -1,3 +1,7 @@
+use mathlib.Core.Path.{_≡_}
+use lib.ListN.{length}
+use Rattle.numerals.specs.Writing.{longest}
+use Rattle.lines.proofs.Bounded.{holds-fits}
 use borrow.Author.Needs.{needs}
 use Rattle.hostile_desks.proofs.telling.tell_refused.Statement.{statement}
 use Rattle.hostile_desks.proofs.telling.tell_refused.Tie as tie
@@ -6,15 +10,14 @@ use Rattle.hostile_desks.proofs.telling.tell_refused.Lts as lts
 use Rattle.hostile_desks.proofs.telling.write_text.Reads as write-text-reads
 use Rattle.lines.proofs.text.refused_line.Reads as refused-line-reads
 
--- src/telling.rt:28:16
 refused-line-requires : tie.Need-refused-line-requires
 refused-line-requires c κs = search needs
 
--- src/telling.rt:28:5
 write-text-requires : tie.Need-write-text-requires
-write-text-requires c κs = ?
+write-text-requires c κs =
+    let z : length (c .refused-line .result .bytes) ≡ longest = search needs in
+    holds-fits (c .refused-line .result) _ (c .refused-line .ensures) z
 
--- src/telling.rt:27:1
 returns : tie.Need-returns
 returns c = search needs
 

@@ -1,3 +1,7 @@
+use mathlib.Core.Path.{_≡_}
+use lib.ListN.{length}
+use Rattle.numerals.specs.Writing.{longest}
+use Rattle.lines.proofs.Bounded.{holds-fits}
 use borrow.Author.Needs.{needs}
 use Rattle.hostile_desks.proofs.telling.tell_turn.Statement.{statement}
 use Rattle.hostile_desks.proofs.telling.tell_turn.Tie as tie
@@ -6,15 +10,14 @@ use Rattle.hostile_desks.proofs.telling.tell_turn.Lts as lts
 use Rattle.hostile_desks.proofs.telling.write_text.Reads as write-text-reads
 use Rattle.lines.proofs.text.turn_line.Reads as turn-line-reads
 
--- src/telling.rt:67:16
 turn-line-requires : tie.Need-turn-line-requires
 turn-line-requires c κs = search needs
 
--- src/telling.rt:67:5
 write-text-requires : tie.Need-write-text-requires
-write-text-requires c κs = ?
+write-text-requires c κs =
+    let z : length (c .turn-line .result .bytes) ≡ longest = search needs in
+    holds-fits (c .turn-line .result) _ (c .turn-line .ensures) z
 
--- src/telling.rt:64:1
 returns : tie.Need-returns
 returns c = search needs
 

@@ -1,3 +1,7 @@
+use native.Mathlib.Omega.{arith}
+use mathlib.Core.Path.{_≡_, sym}
+use lib.ListN.{length}
+use lib.Seq.{length-take-le}
 use borrow.Author.Needs.{needs}
 use Rattle.hostile_desks.proofs.telling.write_text.Statement.{statement}
 use Rattle.hostile_desks.proofs.telling.write_text.Tie as tie
@@ -5,19 +9,19 @@ use Rattle.hostile_desks.proofs.telling.write_text.Reads as reads
 use Rattle.hostile_desks.proofs.telling.write_text.Lts as lts
 use Rattle.io.proofs.write_all.Reads as write-all-reads
 
--- src/telling.rt:24:34
 array-share-prefix-bytes : tie.Need-array-share-prefix-bytes
-array-share-prefix-bytes c = ?
+array-share-prefix-bytes c =
+    let e : length (c .before .args .text .bytes) ≡ 32 = search needs in
+    omega arith
 
--- src/telling.rt:24:34
 slice-aggregate-write-all : tie.Need-slice-aggregate-write-all
-slice-aggregate-write-all c = ?
+slice-aggregate-write-all c =
+    let e : length (c .before .before .args .text .bytes) ≡ 32 = search needs in
+    sym (length-take-le _ _ (omega arith))
 
--- src/telling.rt:24:5
 write-all-requires : tie.Need-write-all-requires
 write-all-requires c κs = search needs
 
--- src/telling.rt:19:1
 returns : tie.Need-returns
 returns c = search needs
 
