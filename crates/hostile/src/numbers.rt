@@ -8,6 +8,9 @@ ghost use Rattle.hostile.specs.Numbers.{numberOf, noNumber};
 // The longest number has so many digits.
 const DIGITS: usize = 20;
 
+// The greatest number, where nothing else bounds it.
+pub const GREATEST: u64 = 18_446_744_073_709_551_615;
+
 // A number that was read. Where the text is none, its value is 0.
 pub struct Number {
     pub good: bool,

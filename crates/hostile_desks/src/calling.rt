@@ -8,13 +8,11 @@ use crate::telling::tell_turns;
 use desk::Desk;
 use hostile::fields::after_tab;
 use hostile::fields::lone_number;
+use hostile::numbers::GREATEST;
 use libc::STDOUT_FILENO;
 
 // The largest room of many turns.
 const ROOM: usize = 4_096;
-
-// The greatest number of 64 bits.
-const GREATEST: u64 = 18_446_744_073_709_551_615;
 
 pub fn fresh(desk: Desk, line: &[u8]) -> Desk {
     let n = lone_number(line, GREATEST);

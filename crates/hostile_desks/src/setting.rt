@@ -4,6 +4,7 @@ use desk::Desk;
 use desk::Seat;
 use hostile::fields::after_tab;
 use hostile::fields::exactly;
+use hostile::numbers::GREATEST;
 use hostile::numbers::Number;
 use hostile::numbers::read;
 use libc::STDOUT_FILENO;
@@ -11,11 +12,7 @@ use timetable::fields::field;
 use timetable::fields::has_field;
 use words::runs::same;
 ghost use Prim.Native.Nat.{_≤_, _<_};
-ghost use lib.ListN.{length};
 ghost use Rattle.desk.specs.Bounds.{seatCount, lastTicket};
-
-// The greatest number of 64 bits.
-const GREATEST: u64 = 18_446_744_073_709_551_615;
 
 // The greatest ticket, as a number of a script.
 const TICKETS: u64 = Desk::LAST_TICKET as u64;

@@ -5,9 +5,9 @@ use desk::Seat;
 use hostile::shown::hex;
 use hostile::shown::kept;
 use libc::STDOUT_FILENO;
-ghost use Prim.Native.Nat.{_≤_, _<_};
+ghost use Prim.Native.Nat.{_≤_};
 ghost use lib.ListN.{length};
-ghost use Rattle.desk.specs.Bounds.{seatCount, conditionRoom};
+ghost use Rattle.desk.specs.Bounds.{conditionRoom};
 
 // Whether all numbers of a seat are zero, and it is not held.
 fn blank(s: Seat) -> bool {

@@ -3,12 +3,6 @@ use lib.Seq.{length-take-le}
 use borrow.Author.Needs.{needs}
 use Rattle.hostile_desks.proofs.after.Statement.{statement}
 use Rattle.hostile_desks.proofs.after.Tie as tie
-use Rattle.hostile_desks.proofs.after.Reads as reads
-use Rattle.hostile_desks.proofs.after.Lts as lts
-use Rattle.hostile_desks.proofs.desk_after.Reads as desk-after-reads
-use Rattle.hostile_desks.proofs.part_after.Reads as part-after-reads
-use Rattle.timetable.proofs.fields.field.Reads as field-reads
-use Rattle.words.proofs.runs.same.Reads as same-reads
 
 field-requires : tie.Need-field-requires
 field-requires c κs = search needs

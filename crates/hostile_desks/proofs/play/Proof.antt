@@ -7,11 +7,6 @@ use borrow.Author.Needs.{needs}
 use Rattle.timetable.proofs.Offsets.{end-from, end-within, next-within, next-further}
 use Rattle.hostile_desks.proofs.play.Statement.{statement}
 use Rattle.hostile_desks.proofs.play.Tie as tie
-use Rattle.hostile_desks.proofs.play.Reads as reads
-use Rattle.hostile_desks.proofs.play.Lts as lts
-use Rattle.hostile_desks.proofs.after.Reads as after-reads
-use Rattle.hostile_desks.proofs.at_start.Reads as at-start-reads
-use Rattle.line_reader.proofs.read_line.Reads as read-line-reads
 
 abbrev Inv-loop : tie.InvT-loop
 Inv-loop file input stand₀ at₀ stand at = (at ≤ length input) × (stand .part ≤ length file)

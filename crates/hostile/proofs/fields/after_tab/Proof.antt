@@ -2,9 +2,6 @@ use Rattle.hostile.proofs.Lines.{no-tab, after-first}
 use borrow.Author.Needs.{needs}
 use Rattle.hostile.proofs.fields.after_tab.Statement.{statement}
 use Rattle.hostile.proofs.fields.after_tab.Tie as tie
-use Rattle.hostile.proofs.fields.after_tab.Reads as reads
-use Rattle.hostile.proofs.fields.after_tab.Lts as lts
-use Rattle.timetable.proofs.fields.field.Reads as field-reads
 
 field-requires : tie.Need-field-requires
 field-requires c κs = search needs

@@ -3,9 +3,6 @@ use Rattle.hostile.proofs.Lines.{too-few, enough}
 use borrow.Author.Needs.{needs}
 use Rattle.hostile.proofs.fields.exactly.Statement.{statement}
 use Rattle.hostile.proofs.fields.exactly.Tie as tie
-use Rattle.hostile.proofs.fields.exactly.Reads as reads
-use Rattle.hostile.proofs.fields.exactly.Lts as lts
-use Rattle.timetable.proofs.fields.has_field.Reads as has-field-reads
 
 has-field-requires : tie.Need-has-field-requires
 has-field-requires c κs = search needs

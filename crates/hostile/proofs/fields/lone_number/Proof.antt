@@ -3,12 +3,6 @@ use Rattle.hostile.proofs.Lines.{no-lone, lone}
 use borrow.Author.Needs.{needs}
 use Rattle.hostile.proofs.fields.lone_number.Statement.{statement}
 use Rattle.hostile.proofs.fields.lone_number.Tie as tie
-use Rattle.hostile.proofs.fields.lone_number.Reads as reads
-use Rattle.hostile.proofs.fields.lone_number.Lts as lts
-use Rattle.hostile.proofs.fields.exactly.Reads as exactly-reads
-use Rattle.hostile.proofs.numbers.none.Reads as none-reads
-use Rattle.hostile.proofs.numbers.read.Reads as read-reads
-use Rattle.timetable.proofs.fields.field.Reads as field-reads
 
 exactly-requires : tie.Need-exactly-requires
 exactly-requires c κs = search needs

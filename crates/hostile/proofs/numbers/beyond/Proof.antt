@@ -2,8 +2,6 @@ use Rattle.hostile.proofs.Within.{tenth-less, rest-less}
 use borrow.Author.Needs.{needs}
 use Rattle.hostile.proofs.numbers.beyond.Statement.{statement}
 use Rattle.hostile.proofs.numbers.beyond.Tie as tie
-use Rattle.hostile.proofs.numbers.beyond.Reads as reads
-use Rattle.hostile.proofs.numbers.beyond.Lts as lts
 
 returns : tie.Need-returns
 returns c = tenth-less _ _ _ (c .if1 .taken)

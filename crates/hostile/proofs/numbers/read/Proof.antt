@@ -9,11 +9,6 @@ use Rattle.numerals.proofs.Runs.{a-digit}
 use Rattle.hostile.proofs.Within.{Passed, start, next, none-read, too-short, too-long, at-other, too-great, at-end}
 use Rattle.hostile.proofs.numbers.read.Statement.{statement}
 use Rattle.hostile.proofs.numbers.read.Tie as tie
-use Rattle.hostile.proofs.numbers.read.Reads as reads
-use Rattle.hostile.proofs.numbers.read.Lts as lts
-use Rattle.hostile.proofs.numbers.beyond.Reads as beyond-reads
-use Rattle.hostile.proofs.numbers.none.Reads as none-reads
-use Rattle.numerals.proofs.digit.Reads as digit-reads
 
 abbrev Inv-loop : tie.InvT-loop
 Inv-loop s most v₀ i₀ v i = Passed s most i v

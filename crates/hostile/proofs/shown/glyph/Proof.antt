@@ -4,8 +4,6 @@ use Rattle.hostile.specs.Shown.{glyph}
 use borrow.Author.Needs.{needs}
 use Rattle.hostile.proofs.shown.glyph.Statement.{statement}
 use Rattle.hostile.proofs.shown.glyph.Tie as tie
-use Rattle.hostile.proofs.shown.glyph.Reads as reads
-use Rattle.hostile.proofs.shown.glyph.Lts as lts
 
 add-result : tie.Need-add-result
 add-result c = search needs

@@ -6,9 +6,6 @@ use mathlib.Core.Path.{_≡_, refl, sym, ap, _∙_}
 use Rattle.hostile.proofs.Spelling.{spelt, none-spelt, spelt-length, next-spelt, all-spelt}
 use Rattle.hostile.proofs.shown.hex.Statement.{statement}
 use Rattle.hostile.proofs.shown.hex.Tie as tie
-use Rattle.hostile.proofs.shown.hex.Reads as reads
-use Rattle.hostile.proofs.shown.hex.Lts as lts
-use Rattle.hostile.proofs.shown.glyph.Reads as glyph-reads
 
 abbrev Inv-loop : tie.InvT-loop
 Inv-loop s out₀ i₀ out i = (i ≤ length s) × (length s * 2 ≤ length out₀) × (out ≡ spelt s out₀ i)

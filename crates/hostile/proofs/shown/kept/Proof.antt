@@ -4,8 +4,6 @@ use borrow.Author.Needs.{needs}
 use Rattle.hostile.proofs.Spelling.{Zeros, no-zeros, one-more, last-kept, none-kept}
 use Rattle.hostile.proofs.shown.kept.Statement.{statement}
 use Rattle.hostile.proofs.shown.kept.Tie as tie
-use Rattle.hostile.proofs.shown.kept.Reads as reads
-use Rattle.hostile.proofs.shown.kept.Lts as lts
 
 abbrev Inv-loop : tie.InvT-loop
 Inv-loop s long₀ long = Zeros s long

@@ -6,10 +6,6 @@ use Rattle.hostile_desks.proofs.Told.{turn-within}
 use borrow.Author.Needs.{needs}
 use Rattle.hostile_desks.proofs.calling.turn.Statement.{statement}
 use Rattle.hostile_desks.proofs.calling.turn.Tie as tie
-use Rattle.hostile_desks.proofs.calling.turn.Reads as reads
-use Rattle.hostile_desks.proofs.calling.turn.Lts as lts
-use Rattle.desk.proofs.Desk.turn.Reads as turn-reads
-use Rattle.hostile_desks.proofs.telling.tell_turn.Reads as tell-turn-reads
 
 turn-requires : tie.Need-turn-requires
 turn-requires c κs = search needs

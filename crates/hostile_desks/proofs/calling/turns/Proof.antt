@@ -3,11 +3,6 @@ use lib.Seq.{length-take-le}
 use borrow.Author.Needs.{needs}
 use Rattle.hostile_desks.proofs.calling.turns.Statement.{statement}
 use Rattle.hostile_desks.proofs.calling.turns.Tie as tie
-use Rattle.hostile_desks.proofs.calling.turns.Reads as reads
-use Rattle.hostile_desks.proofs.calling.turns.Lts as lts
-use Rattle.hostile.proofs.fields.lone_number.Reads as lone-number-reads
-use Rattle.hostile_desks.proofs.calling.turns_into.Reads as turns-into-reads
-use Rattle.hostile_desks.proofs.setting.no_event.Reads as no-event-reads
 
 lone-number-requires : tie.Need-lone-number-requires
 lone-number-requires c κs = search needs

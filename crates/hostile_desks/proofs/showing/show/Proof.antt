@@ -4,10 +4,6 @@ use borrow.Author.Needs.{needs}
 use Rattle.desk.specs.Bounds.{seatCount}
 use Rattle.hostile_desks.proofs.showing.show.Statement.{statement}
 use Rattle.hostile_desks.proofs.showing.show.Tie as tie
-use Rattle.hostile_desks.proofs.showing.show.Reads as reads
-use Rattle.hostile_desks.proofs.showing.show.Lts as lts
-use Rattle.hostile_desks.proofs.showing.show_seat.Reads as show-seat-reads
-use Rattle.hostile_desks.proofs.showing.tell_desk.Reads as tell-desk-reads
 
 abbrev Inv-loop : tie.InvT-loop
 Inv-loop desk i₀ i = Unit {0}

@@ -6,11 +6,6 @@ use lib.Seq.{length-take-le}
 use borrow.Author.Needs.{needs}
 use Rattle.hostile_desks.proofs.showing.show_seat.Statement.{statement}
 use Rattle.hostile_desks.proofs.showing.show_seat.Tie as tie
-use Rattle.hostile_desks.proofs.showing.show_seat.Reads as reads
-use Rattle.hostile_desks.proofs.showing.show_seat.Lts as lts
-use Rattle.hostile.proofs.shown.kept.Reads as kept-reads
-use Rattle.hostile_desks.proofs.showing.blank.Reads as blank-reads
-use Rattle.hostile_desks.proofs.showing.tell_seat.Reads as tell-seat-reads
 
 slice-aggregate-kept : tie.Need-slice-aggregate-kept
 slice-aggregate-kept c = search needs

@@ -3,10 +3,6 @@ use lib.Seq.{length-take-le}
 use borrow.Author.Needs.{needs}
 use Rattle.hostile_desks.proofs.showing.tell_bytes.Statement.{statement}
 use Rattle.hostile_desks.proofs.showing.tell_bytes.Tie as tie
-use Rattle.hostile_desks.proofs.showing.tell_bytes.Reads as reads
-use Rattle.hostile_desks.proofs.showing.tell_bytes.Lts as lts
-use Rattle.hostile.proofs.shown.hex.Reads as hex-reads
-use Rattle.io.proofs.write_all.Reads as write-all-reads
 
 slice-aggregate-hex : tie.Need-slice-aggregate-hex
 slice-aggregate-hex c = search needs

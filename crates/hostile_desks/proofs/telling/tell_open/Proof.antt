@@ -5,10 +5,6 @@ use Rattle.lines.proofs.Bounded.{holds-fits}
 use borrow.Author.Needs.{needs}
 use Rattle.hostile_desks.proofs.telling.tell_open.Statement.{statement}
 use Rattle.hostile_desks.proofs.telling.tell_open.Tie as tie
-use Rattle.hostile_desks.proofs.telling.tell_open.Reads as reads
-use Rattle.hostile_desks.proofs.telling.tell_open.Lts as lts
-use Rattle.hostile_desks.proofs.telling.write_text.Reads as write-text-reads
-use Rattle.lines.proofs.text.open_line.Reads as open-line-reads
 
 open-line-requires : tie.Need-open-line-requires
 open-line-requires c κs = search needs

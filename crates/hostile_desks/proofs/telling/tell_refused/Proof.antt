@@ -5,10 +5,6 @@ use Rattle.lines.proofs.Bounded.{holds-fits}
 use borrow.Author.Needs.{needs}
 use Rattle.hostile_desks.proofs.telling.tell_refused.Statement.{statement}
 use Rattle.hostile_desks.proofs.telling.tell_refused.Tie as tie
-use Rattle.hostile_desks.proofs.telling.tell_refused.Reads as reads
-use Rattle.hostile_desks.proofs.telling.tell_refused.Lts as lts
-use Rattle.hostile_desks.proofs.telling.write_text.Reads as write-text-reads
-use Rattle.lines.proofs.text.refused_line.Reads as refused-line-reads
 
 refused-line-requires : tie.Need-refused-line-requires
 refused-line-requires c κs = search needs

@@ -5,10 +5,6 @@ use Rattle.lines.proofs.Bounded.{holds-fits}
 use borrow.Author.Needs.{needs}
 use Rattle.hostile_desks.proofs.telling.tell_turn.Statement.{statement}
 use Rattle.hostile_desks.proofs.telling.tell_turn.Tie as tie
-use Rattle.hostile_desks.proofs.telling.tell_turn.Reads as reads
-use Rattle.hostile_desks.proofs.telling.tell_turn.Lts as lts
-use Rattle.hostile_desks.proofs.telling.write_text.Reads as write-text-reads
-use Rattle.lines.proofs.text.turn_line.Reads as turn-line-reads
 
 turn-line-requires : tie.Need-turn-line-requires
 turn-line-requires c κs = search needs

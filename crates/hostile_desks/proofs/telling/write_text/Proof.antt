@@ -5,9 +5,6 @@ use lib.Seq.{length-take-le}
 use borrow.Author.Needs.{needs}
 use Rattle.hostile_desks.proofs.telling.write_text.Statement.{statement}
 use Rattle.hostile_desks.proofs.telling.write_text.Tie as tie
-use Rattle.hostile_desks.proofs.telling.write_text.Reads as reads
-use Rattle.hostile_desks.proofs.telling.write_text.Lts as lts
-use Rattle.io.proofs.write_all.Reads as write-all-reads
 
 array-share-prefix-bytes : tie.Need-array-share-prefix-bytes
 array-share-prefix-bytes c =
