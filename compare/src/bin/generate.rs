@@ -11,7 +11,6 @@
 
 use compare::generator::desks::{self, Case, Timetable};
 use compare::generator::{calls, histogram::Histogram, hostile, random::Random};
-use compare::programs;
 use std::fs;
 use std::io::{self, BufWriter, Write};
 use std::path::Path;
@@ -24,7 +23,7 @@ fn main() -> ExitCode {
     let shown = words.iter().any(|word| word == "--histogram");
     words.retain(|word| word != "--histogram");
     let words: Vec<&str> = words.iter().map(String::as_str).collect();
-    let mut histogram = Histogram::default();
+    let mut histogram = if shown { Histogram::shown() } else { Histogram::default() };
     let done = match words[..] {
         ["calls", seed, count] => generate_calls(number(seed), number(count), &mut histogram),
         ["desk", seed, dir] => write_desk(&desks::case(number(seed)), Path::new(dir), &mut histogram),
@@ -37,9 +36,7 @@ fn main() -> ExitCode {
         eprintln!("generate: {error}");
         return ExitCode::from(2);
     }
-    if shown {
-        histogram.print();
-    }
+    histogram.print();
     ExitCode::SUCCESS
 }
 
@@ -71,7 +68,7 @@ fn write_timetable(timetable: &Timetable, dir: &Path) -> io::Result<()> {
 fn write_desk(case: &Case, dir: &Path, histogram: &mut Histogram) -> io::Result<()> {
     write_timetable(&case.timetable, dir)?;
     fs::write(dir.join("conditions"), &case.conditions)?;
-    histogram.count_desk(&programs::desk(case.timetable.bytes(), &case.conditions));
+    histogram.count_desk(case.timetable.bytes(), &case.conditions);
     Ok(())
 }
 

@@ -2,21 +2,30 @@
 
 use crate::hostile::{Script, MOST_EVENTS_BYTES};
 use crate::lines::lines;
-use crate::programs::answer_line;
+use crate::programs::{answer_line, desk};
 use std::collections::BTreeMap;
 
 #[derive(Default)]
 pub struct Histogram {
+    /// Whether anything is counted at all: that takes as long as to answer the cases.
+    counting: bool,
     counts: BTreeMap<String, usize>,
 }
 
 impl Histogram {
+    pub fn shown() -> Histogram {
+        Histogram { counting: true, counts: BTreeMap::new() }
+    }
+
     fn count(&mut self, name: String) {
         *self.counts.entry(name).or_insert(0) += 1;
     }
 
     /// A call by its word, by its kinds, and by its answer.
     pub fn count_call(&mut self, line: &[u8]) {
+        if !self.counting {
+            return;
+        }
         let answer = answer_line(line);
         let result = match answer.trim_end().strip_prefix("refused\t") {
             Some(number) => format!("refused {number:>2}"),
@@ -37,8 +46,11 @@ impl Histogram {
     }
 
     /// The desk program's output by the words of its lines and by its numbers.
-    pub fn count_desk(&mut self, output: &str) {
-        for line in output.lines() {
+    pub fn count_desk(&mut self, timetable: &[u8], conditions: &[u8]) {
+        if !self.counting {
+            return;
+        }
+        for line in desk(timetable, conditions).lines() {
             let fields: Vec<&str> = line.split('\t').collect();
             let name = match fields[0] {
                 "refused" => format!("refused {:>2}", fields[1]),
@@ -51,6 +63,9 @@ impl Histogram {
 
     /// Each event by its word and by the words of its answer's first line.
     pub fn count_hostile(&mut self, file: &[u8], input: &[u8]) {
+        if !self.counting {
+            return;
+        }
         if input.len() > MOST_EVENTS_BYTES {
             return self.count("whole input refused  7".to_string());
         }

@@ -2,6 +2,7 @@
 //! random scripts.
 
 mod conditions;
+mod harm;
 mod play;
 mod ways;
 
@@ -104,7 +105,8 @@ fn turns_first() -> Vec<String> {
 fn whole_inputs() -> Vec<Case> {
     let bytes = |text: &[u8]| Timetable::Bytes(text.to_vec());
     let own = |name: &str, timetable, events: &[u8]| Case { name: format!("input-{name}"), timetable, events: events.to_vec() };
-    let calls = b"show\nsound\nopen\txs:date($1) eq xs:date($1)\nturn\nturns\t64\nclose\t1\npart\t65536\npart\t65537\npart\t65538\nturn\nshow\n";
+    let calls = b"show\nsound\nopen\txs:date($1) eq xs:date($1)\nturn\nturns\t64\nclose\t1\n\
+        part\t65536\npart\t65537\npart\t65538\nturn\nshow\n";
     let great = great_file();
     let mut cases = vec![
         own("empty", bytes(TABLE.as_bytes()), b""),

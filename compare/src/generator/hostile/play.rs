@@ -1,9 +1,9 @@
-//! Long random scripts: queries opened, served and closed over a small timetable, the desk damaged now and then and mended
-//! again, and lines that are no events among them. Each script is played while it is written, so that its events are about
+//! Long random scripts: queries opened, served and closed over a small timetable, the desk damaged now and then (`harm`) and
+//! mended again, and lines that are no events among them. Each script is played while it is written, so that its events are about
 //! the desk as it then is.
 
 use super::Case;
-use crate::desk::{Seat, LAST_TICKET, MOST_TIMETABLE_BYTES, SEATS};
+use crate::desk::{LAST_TICKET, MOST_TIMETABLE_BYTES};
 use crate::generator::conditions::{any, fitting, Setting};
 use crate::generator::damage::{damaged, noise};
 use crate::generator::desks::{great_timetable, timetable, Timetable};
@@ -27,15 +27,15 @@ pub fn case(seed: u64) -> Case {
     Case { name: seed.to_string(), timetable, events }
 }
 
-struct Player<'a> {
-    random: &'a mut Random,
-    setting: &'a Setting,
-    script: Script<'a>,
+pub(super) struct Player<'a> {
+    pub(super) random: &'a mut Random,
+    pub(super) setting: &'a Setting,
+    pub(super) script: Script<'a>,
     events: Vec<u8>,
     /// A few good conditions, opened again and again.
     usual: Vec<String>,
     /// Events that undo the damage done, the latest last.
-    mending: Vec<Vec<u8>>,
+    pub(super) mending: Vec<Vec<u8>>,
 }
 
 impl<'a> Player<'a> {
@@ -56,7 +56,7 @@ impl<'a> Player<'a> {
         }
     }
 
-    fn tell(&mut self, event: impl AsRef<[u8]>) {
+    pub(super) fn tell(&mut self, event: impl AsRef<[u8]>) {
         self.script.answer(event.as_ref());
         self.events.extend(event.as_ref());
         self.events.push(b'\n');
@@ -152,7 +152,7 @@ impl<'a> Player<'a> {
         self.tell(format!("part\t{number}"));
     }
 
-    fn fresh(&mut self) {
+    pub(super) fn fresh(&mut self) {
         let length = match self.random.below(6) {
             0 => self.beside(MOST_TIMETABLE_BYTES),
             1 => self.extreme(),
@@ -165,179 +165,26 @@ impl<'a> Player<'a> {
     }
 
     /// The number, one less or one more.
-    fn beside(&mut self, number: usize) -> usize {
+    pub(super) fn beside(&mut self, number: usize) -> usize {
         self.random.pick(&[number, number.wrapping_sub(1), number.wrapping_add(1)])
     }
 
-    fn extreme(&mut self) -> usize {
-        let great = self.random.pick(&[1 << 16, 1 << 31, 1 << 32, 1 << 53, 1 << 63, 0]);
+    /// A number near a power of two, near zero from either side among them.
+    pub(super) fn extreme(&mut self) -> usize {
+        let great: usize = self.random.pick(&[1 << 16, 1 << 31, 1 << 32, 1 << 53, 1 << 63, 0]);
         let small = self.random.pick(&[0, 0, 1, 15, 16, 240, self.script.desk.length]);
         if self.random.chance(50) {
-            return great + small;
+            return great.wrapping_add(small);
         }
-        usize::wrapping_sub(great, 1 + small)
+        great.wrapping_sub(small).wrapping_sub(1)
     }
 
     /// The number's digits, seldom after zeros.
-    fn digits(&mut self, number: usize) -> String {
+    pub(super) fn digits(&mut self, number: usize) -> String {
         if self.random.chance(3) {
             return format!("{number:020}");
         }
         number.to_string()
-    }
-
-    fn damage(&mut self) {
-        match self.random.below(12) {
-            0 => self.damage_last_served(),
-            1 => self.damage_length(),
-            2 => self.damage_issued(),
-            3 | 4 => self.damage_condition(),
-            _ => self.damage_seat(),
-        }
-    }
-
-    /// Sets a number of the desk or of a seat, and keeps the event that sets it back.
-    fn set(&mut self, name: &str, number: usize, before: usize) {
-        let number = self.digits(number);
-        self.mending.push(format!("{name}\t{before}").into_bytes());
-        self.tell(format!("{name}\t{number}"));
-    }
-
-    fn damage_last_served(&mut self) {
-        let number = match self.random.below(3) {
-            0 => self.random.below(SEATS),
-            1 => self.beside(SEATS),
-            _ => self.extreme(),
-        };
-        self.set("set\tlast_served", number, self.script.desk.last_served);
-    }
-
-    fn damage_length(&mut self) {
-        let number = match self.random.below(4) {
-            0 => self.beside(self.script.desk.length),
-            1 => self.beside(MOST_TIMETABLE_BYTES),
-            2 => self.random.below(self.script.file.len() + 1),
-            _ => self.extreme(),
-        };
-        self.set("set\tlength", number, self.script.desk.length);
-    }
-
-    fn damage_issued(&mut self) {
-        let highest = self.script.desk.seats.iter().filter(|seat| seat.held).map(|seat| seat.ticket).max().unwrap_or(0);
-        let number = match self.random.below(3) {
-            0 => self.random.pick(&[LAST_TICKET, LAST_TICKET, LAST_TICKET - 1, LAST_TICKET - 2]) as usize,
-            1 => self.beside(highest as usize).min(LAST_TICKET as usize),
-            _ => self.random.below(LAST_TICKET as usize + 1),
-        };
-        self.set("set\tissued", number, self.script.desk.last_issued as usize);
-    }
-
-    /// A seat's place, mostly a held one's.
-    fn place(&mut self) -> usize {
-        let held: Vec<usize> = (0..SEATS).filter(|&place| self.script.desk.seats[place].held).collect();
-        if held.is_empty() || self.random.chance(15) {
-            return self.random.below(SEATS);
-        }
-        self.random.pick(&held)
-    }
-
-    fn damage_seat(&mut self) {
-        let place = self.place();
-        let Seat { held, ticket, offset, hits, unreadable, condition_length, .. } = self.script.desk.seats[place];
-        let (name, number, before) = match self.random.weighted(&[2, 3, 4, 2, 2, 2]) {
-            0 => ("held", usize::from(!held), usize::from(held)),
-            1 => ("ticket", self.other_ticket(), ticket as usize),
-            2 => ("offset", self.other_offset(), offset),
-            3 => ("hits", self.other_count(offset.wrapping_sub(unreadable)), hits),
-            4 => ("unreadable", self.other_count(offset.wrapping_sub(hits)), unreadable),
-            _ => ("condition_length", self.other_condition_length(condition_length), condition_length),
-        };
-        self.set(&format!("seat\t{place}\t{name}"), number, before);
-    }
-
-    fn other_ticket(&mut self) -> usize {
-        let issued = self.script.desk.last_issued as usize;
-        let number = match self.random.below(4) {
-            0 => self.beside(issued),
-            1 => 0,
-            2 => self.script.desk.seats[self.random.below(SEATS)].ticket as usize,
-            _ => self.random.below(issued + 1),
-        };
-        number.min(LAST_TICKET as usize)
-    }
-
-    fn other_offset(&mut self) -> usize {
-        let length = self.script.desk.length;
-        match self.random.below(5) {
-            0 => self.beside(length),
-            1 => self.extreme(),
-            _ => self.random.below(length.min(MOST_TIMETABLE_BYTES) + 1),
-        }
-    }
-
-    /// A count near the greatest that is sound.
-    fn other_count(&mut self, greatest: usize) -> usize {
-        match self.random.below(4) {
-            0 => self.extreme(),
-            1 => 0,
-            _ => self.beside(greatest),
-        }
-    }
-
-    fn other_condition_length(&mut self, own: usize) -> usize {
-        match self.random.below(4) {
-            0 => self.extreme(),
-            1 => self.random.pick(&[0, 1, 239, 240, 241]),
-            2 => self.random.below(241),
-            _ => self.beside(own),
-        }
-    }
-
-    /// Other bytes for a condition, mostly with their own length.
-    fn damage_condition(&mut self) {
-        let place = self.place();
-        let seat = self.script.desk.seats[place].clone();
-        let mut text = match self.random.below(4) {
-            0 => any(self.random, self.setting),
-            1 => damaged(self.random, &seat.condition[..seat.condition_length.min(seat.condition.len())]),
-            2 => [seat.condition[..seat.condition_length.min(200)].to_vec(), noise(self.random)].concat(),
-            _ => fitting(self.random, self.setting, 0, 0).into_bytes(),
-        };
-        text.retain(|&byte| byte != b'\n');
-        text.truncate(seat.condition.len());
-        let bytes = |text: &[u8]| [format!("seat\t{place}\tcondition\t").as_bytes(), text].concat();
-        self.mending.push(bytes(trimmed(&seat.condition)));
-        self.tell(bytes(&text));
-        if self.random.chance(65) {
-            self.set(&format!("seat\t{place}\tcondition_length"), text.len(), seat.condition_length);
-        }
-    }
-
-    /// Undoes all damage, or frees the seats, or begins again.
-    fn mend(&mut self) {
-        while let Some(event) = self.mending.pop() {
-            self.tell(event);
-            if self.script.desk.is_sound() && self.random.chance(50) {
-                return;
-            }
-        }
-        if self.script.desk.is_sound() {
-            return;
-        }
-        if self.random.chance(30) {
-            return self.fresh();
-        }
-        for place in 0..SEATS {
-            if self.script.desk.seats[place].held && self.random.chance(70) {
-                self.tell(format!("seat\t{place}\theld\t0"));
-            }
-        }
-        if self.script.desk.last_served >= SEATS {
-            self.tell("set\tlast_served\t15");
-        }
-        if self.script.desk.length > MOST_TIMETABLE_BYTES {
-            self.tell(format!("set\tlength\t{}", self.script.timetable.len()));
-        }
     }
 
     /// A line that is no event, mostly.
@@ -353,12 +200,6 @@ impl<'a> Player<'a> {
         };
         self.tell(line);
     }
-}
-
-/// The bytes without the zeros at their end.
-fn trimmed(bytes: &[u8]) -> &[u8] {
-    let end = bytes.iter().rposition(|&byte| byte != 0).map_or(0, |last| last + 1);
-    &bytes[..end]
 }
 
 /// Lines either side of what an event is.

@@ -8,8 +8,9 @@ const HALF: u64 = 1 << 63;
 const WORD: u64 = 1 << 32;
 const LAST_TICKET: u64 = WORD - 1;
 
-/// Events that alter the desk of `built`. In events, as here throughout, one space stands for a tab, and a letter for a place: `p` is the
-/// seat that is altered, `q` the one after it and `r` another, all three held; `f` is a free one, `o` the one before `p`.
+/// Events that alter the desk of `built`. In events, as here throughout, one space stands for a tab, and a letter for a
+/// place: `p` is the seat that is altered, `q` the one after it and `r` another, all three held; `f` is a free one, `o` the
+/// one before `p`.
 pub struct Way {
     pub name: String,
     /// Whether the file goes on to 65,537 bytes.
