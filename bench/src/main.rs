@@ -1,0 +1,67 @@
+//! Measures the proved desk program against the independent one and prints tables.
+//!
+//!     bench PROVED INDEPENDENT FOLDER      the cases are written into FOLDER
+
+mod basex;
+mod inputs;
+mod measure;
+mod plan;
+mod profile;
+mod report;
+mod shares;
+
+use measure::{measure_all, peak_memory, Case, Programs};
+use plan::{Plan, Series};
+use profile::{profile, Profile};
+use shares::Shares;
+use std::io;
+use std::path::Path;
+use std::process::ExitCode;
+
+fn main() -> ExitCode {
+    let words: Vec<String> = std::env::args().skip(1).collect();
+    let [proved, independent, work] = &words[..] else {
+        eprintln!("words: PROVED INDEPENDENT FOLDER");
+        return ExitCode::from(2);
+    };
+    let programs = Programs { proved: proved.into(), independent: independent.into() };
+    match run(&programs, Path::new(work)) {
+        Ok(()) => ExitCode::SUCCESS,
+        Err(error) => {
+            eprintln!("bench: {error}");
+            ExitCode::FAILURE
+        }
+    }
+}
+
+fn run(programs: &Programs, work: &Path) -> io::Result<()> {
+    let mut plan = Plan::new(programs, work)?;
+    measure_all(programs, plan.cases.iter_mut().map(|(_, case)| case))?;
+    let profiles = profiles(programs, &plan)?;
+    let queries: io::Result<Vec<Option<f64>>> = plan.of(Series::Asked).into_iter().map(basex::query_time).collect();
+    let shares = Shares::new(&plan, profiles.as_ref());
+    report::method(&plan);
+    report::goals(&plan, &shares);
+    report::turns_a_second(&plan);
+    report::seats(&plan);
+    report::timetable(&plan);
+    report::condition(&plan);
+    report::shares(&plan, &shares);
+    report::instructions(&plan, profiles.as_ref());
+    report::memory(&[
+        ("16 conditions over departures", memory(programs, plan.last(Series::Asked))?),
+        ("16 conditions over 65,536 empty lines", memory(programs, plan.last(Series::EmptyLines))?),
+    ]);
+    report::basex(&plan, &queries?);
+    Ok(())
+}
+
+fn profiles(programs: &Programs, plan: &Plan) -> io::Result<Option<[Profile; 2]>> {
+    let late = profile(&programs.proved, &plan.last(Series::Profiled).folder)?;
+    let early = profile(&programs.proved, &plan.last(Series::ProfiledInFirstYear).folder)?;
+    Ok(late.zip(early).map(|(late, early)| [late, early]))
+}
+
+fn memory(programs: &Programs, case: &Case) -> io::Result<[u64; 2]> {
+    Ok([peak_memory(&programs.proved, &case.folder)?, peak_memory(&programs.independent, &case.folder)?])
+}

@@ -1,0 +1,109 @@
+//! Which cases are measured.
+
+use crate::inputs::{self, FIRST_YEAR, MOST_TIMETABLE_BYTES, SEATS, YEAR};
+use crate::measure::{Case, Programs};
+use std::io;
+use std::path::Path;
+
+/// What the cases of a series differ in.
+#[derive(Clone, Copy, PartialEq, Eq, Debug)]
+pub enum Series {
+    /// The number of conditions, over a timetable of departures.
+    Asked,
+    /// The same in year 1.
+    AskedInFirstYear,
+    EmptyLines,
+    LongConditions,
+    DeepConditions,
+    /// The number of seats held with one and the same condition, over a timetable of delays.
+    SeatsOverDelays,
+    /// The same over a timetable of departures.
+    SeatsOverDepartures,
+    /// The bytes of the timetable.
+    TimetableBytes,
+    /// The spaces in a condition.
+    Spaces,
+    /// The tests in a condition that are not evaluated.
+    TestsReadOver,
+    /// The tests in a condition that are evaluated.
+    TestsEvaluated,
+    /// A quarter of the departures, in which instructions are counted.
+    Profiled,
+    ProfiledInFirstYear,
+}
+
+use Series::*;
+
+const ALL: [Series; 13] = [
+    Asked,
+    AskedInFirstYear,
+    EmptyLines,
+    LongConditions,
+    DeepConditions,
+    SeatsOverDelays,
+    SeatsOverDepartures,
+    TimetableBytes,
+    Spaces,
+    TestsReadOver,
+    TestsEvaluated,
+    Profiled,
+    ProfiledInFirstYear,
+];
+
+pub struct Plan {
+    pub cases: Vec<(Series, Case)>,
+}
+
+impl Plan {
+    pub fn new(programs: &Programs, work: &Path) -> io::Result<Plan> {
+        let mut cases = Vec::new();
+        for series in ALL {
+            for (place, (timetable, conditions)) in inputs_of(series).iter().enumerate() {
+                let folder = work.join(format!("{series:?}-{place}"));
+                cases.push((series, Case::new(programs, folder, timetable, conditions)?));
+            }
+        }
+        let plan = Plan { cases };
+        for (late, early) in [(Asked, AskedInFirstYear), (Profiled, ProfiledInFirstYear)] {
+            if plan.last(late).answers != plan.last(early).answers {
+                return Err(io::Error::other("departures are answered differently in another year"));
+            }
+        }
+        Ok(plan)
+    }
+
+    pub fn of(&self, series: Series) -> Vec<&Case> {
+        self.cases.iter().filter(|(own, _)| *own == series).map(|(_, case)| case).collect()
+    }
+
+    /// The greatest case of a series.
+    pub fn last(&self, series: Series) -> &Case {
+        self.of(series).last().expect("no series is empty")
+    }
+}
+
+type Input = (Vec<u8>, Vec<String>);
+
+fn inputs_of(series: Series) -> Vec<Input> {
+    let departures = |year| inputs::departures(MOST_TIMETABLE_BYTES, year);
+    let all = inputs::asked(SEATS, YEAR);
+    match series {
+        Asked => [1, 4, SEATS].map(|count| (departures(YEAR), inputs::asked(count, YEAR))).into(),
+        AskedInFirstYear => vec![(departures(FIRST_YEAR), inputs::asked(SEATS, FIRST_YEAR))],
+        EmptyLines => vec![(inputs::empty_lines(), all)],
+        LongConditions => vec![(departures(YEAR), inputs::long_conditions())],
+        DeepConditions => vec![(departures(YEAR), inputs::deep_conditions())],
+        SeatsOverDelays => seats(inputs::delays(), inputs::with_spaces(0)),
+        SeatsOverDepartures => seats(departures(YEAR), all[0].clone()),
+        TimetableBytes => [8_192, 16_384, 32_768, 65_536].map(|bytes| (inputs::departures(bytes, YEAR), all.clone())).into(),
+        Spaces => [0, 12, 72, 192].map(|spaces| (inputs::delays(), vec![inputs::with_spaces(spaces)])).into(),
+        TestsReadOver => [0, 1, 2, 3].map(|count| (inputs::delays(), vec![inputs::with_tests_read_over(count)])).into(),
+        TestsEvaluated => [1, 2, 3, 4].map(|count| (inputs::delays(), vec![inputs::with_tests_evaluated(count)])).into(),
+        Profiled => vec![(inputs::departures(16_384, YEAR), all)],
+        ProfiledInFirstYear => vec![(inputs::departures(16_384, FIRST_YEAR), inputs::asked(SEATS, FIRST_YEAR))],
+    }
+}
+
+fn seats(timetable: Vec<u8>, condition: String) -> Vec<Input> {
+    [1, 2, 4, 8, SEATS].map(|count| (timetable.clone(), vec![condition.clone(); count])).into()
+}

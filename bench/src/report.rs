@@ -1,0 +1,254 @@
+//! What was measured, as Markdown.
+
+use crate::basex;
+use crate::inputs::{FIRST_YEAR, YEAR};
+use crate::measure::{has_processor_time, Case, ROUNDS, SHORT_RUNS};
+use crate::plan::{Plan, Series};
+use crate::profile::{Part, Profile, PARTS};
+use crate::shares::{byte_costs, length, Shares};
+
+pub fn method(plan: &Plan) {
+    let clock = if has_processor_time() { "the time that the program had the processor" } else { "elapsed time" };
+    let starts = plan.last(Series::Asked).starts();
+    let [proved, independent] = [starts.proved, starts.independent].map(|start| start.as_secs_f64() * 1e3);
+    let short = ROUNDS * SHORT_RUNS;
+    println!("Both programs are built for release and run in turn over the same files. Before anything is measured, what they write is");
+    println!("compared byte for byte. A time is {clock}, its output thrown away: the least of {ROUNDS} runs,");
+    println!("of {short} where a run is short. The cost of a turn is the time of the whole run less that with an empty timetable (sixteen");
+    println!("conditions: {proved:.1} ms proved, {independent:.1} ms independent), over the turns at lines. Both programs read the condition's text at each turn.");
+}
+
+fn heading(title: &str, columns: &[&str]) {
+    println!("\n### {title}\n");
+    println!("| {} |", columns.join(" | "));
+    println!("|{}", "---|".repeat(columns.len()));
+}
+
+fn row(cells: &[String]) {
+    println!("| {} |", cells.join(" | "));
+}
+
+fn times(ratio: f64) -> String {
+    format!("{ratio:.2}")
+}
+
+fn nanoseconds(cost: f64) -> String {
+    thousands(cost.round() as u64)
+}
+
+fn thousands(number: u64) -> String {
+    let digits = number.to_string();
+    let mut text = String::new();
+    for (place, digit) in digits.chars().enumerate() {
+        if place > 0 && (digits.len() - place) % 3 == 0 {
+            text.push(',');
+        }
+        text.push(digit);
+    }
+    text
+}
+
+pub fn turns_a_second(plan: &Plan) {
+    let columns =
+        ["Case", "Turns at lines", "Proved, turns a second", "Independent, turns a second", "Time proved / independent"];
+    heading("Turns a second", &columns);
+    for case in plan.of(Series::Asked) {
+        turns_row(&asked_name(case), case);
+    }
+    turns_row(&format!("16 conditions over departures of year {FIRST_YEAR}"), plan.last(Series::AskedInFirstYear));
+    turns_row("16 conditions over 65,536 empty lines", plan.last(Series::EmptyLines));
+    turns_row("16 conditions of 240 bytes over departures", plan.last(Series::LongConditions));
+    turns_row("16 conditions of 240 bytes, 16 deep, over departures", plan.last(Series::DeepConditions));
+    println!("\nDepartures: 65,536 bytes, {} lines such as", thousands(plan.of(Series::Asked)[0].turns as u64));
+    println!("`550→2024-03-30T04:30:00+02:00→PT0S→Kamppi`. The conditions are those that `bench/src/inputs.rs` lists.");
+}
+
+fn asked_name(case: &Case) -> String {
+    match case.conditions.len() {
+        1 => "1 condition over departures".to_string(),
+        count => format!("{count} conditions over departures"),
+    }
+}
+
+fn turns_row(name: &str, case: &Case) {
+    let costs = case.costs();
+    let a_second = [costs.proved, costs.independent].map(|cost| thousands((1e9 / cost) as u64));
+    let figures = [vec![thousands(case.turns as u64)], a_second.to_vec(), vec![times(costs.proved / costs.independent)]];
+    row(&[vec![name.to_string()], figures.concat()].concat());
+}
+
+pub fn seats(plan: &Plan) {
+    let columns = ["Held seats", "Proved, delays", "Independent, delays", "Proved, departures", "Independent, departures"];
+    heading("Cost of a turn and the number of held seats, ns", &columns);
+    for (delays, departures) in plan.of(Series::SeatsOverDelays).iter().zip(plan.of(Series::SeatsOverDepartures)) {
+        let (first, second) = (delays.costs(), departures.costs());
+        let cells = [first.proved, first.independent, second.proved, second.independent].map(nanoseconds);
+        row(&[vec![delays.conditions.len().to_string()], cells.to_vec()].concat());
+    }
+    let lines = thousands(plan.of(Series::SeatsOverDelays)[0].turns as u64);
+    println!("\nEvery seat holds the same condition. Delays: {lines} lines of one delay each and a test that compares no dates. Departures: the");
+    println!(
+        "first of the sixteen conditions. The proved program checks the desk's soundness once for each 4,096 bytes of output."
+    );
+}
+
+pub fn timetable(plan: &Plan) {
+    let columns = ["Bytes", "Turns at lines", "Proved", "Independent"];
+    heading("Cost of a turn and the timetable's length, 16 conditions over departures, ns", &columns);
+    for case in plan.of(Series::TimetableBytes) {
+        let costs = case.costs();
+        let sizes = [case.timetable_bytes as u64, case.turns as u64].map(thousands);
+        row(&[sizes.to_vec(), [costs.proved, costs.independent].map(nanoseconds).to_vec()].concat());
+    }
+}
+
+pub fn condition(plan: &Plan) {
+    let columns = ["Made longer by", "Bytes", "Proved", "for each byte more", "Independent", "for each byte more"];
+    heading("Cost of a turn and the condition's length, one condition over delays, ns", &columns);
+    condition_rows("spaces between two symbols", &plan.of(Series::Spaces));
+    condition_rows("tests that are read and not evaluated", &plan.of(Series::TestsReadOver));
+    condition_rows("tests that are evaluated", &plan.of(Series::TestsEvaluated));
+}
+
+fn condition_rows(name: &str, cases: &[&Case]) {
+    for (place, case) in cases.iter().enumerate() {
+        let more = match place {
+            0 => [String::new(), String::new()],
+            _ => {
+                let costs = byte_costs(cases[place - 1], case);
+                [costs.proved, costs.independent].map(|cost| format!("{cost:.1}"))
+            }
+        };
+        let [proved, independent] = [case.costs().proved, case.costs().independent].map(nanoseconds);
+        let [more_proved, more_independent] = more;
+        row(&[name.to_string(), length(case).to_string(), proved, more_proved, independent, more_independent]);
+    }
+}
+
+pub fn shares(plan: &Plan, shares: &Shares) {
+    let columns = ["Part", "ns", "Share", "Share without the walk", "How it was got"];
+    heading("Where the time of a proved turn goes, 16 conditions over departures", &columns);
+    let early = nanoseconds(plan.last(Series::AskedInFirstYear).costs().proved);
+    let walk = match shares.exact {
+        true => format!(
+            "a turn in year {YEAR} less the same in year {FIRST_YEAR} ({early} ns), times callgrind's instructions of the walk in year \
+             {YEAR} over those that year {FIRST_YEAR} saves: times of day stand on 1972-12-31 in both"
+        ),
+        false => format!(
+            "a turn in year {YEAR} less the same in year {FIRST_YEAR} ({early} ns); the walk of times of day, which stand on 1972-12-31 \
+             in both, is not in it: that takes valgrind"
+        ),
+    };
+    let text = format!(
+        "{:.1} ns a byte, from the tests above that are read and not evaluated, times {:.0} bytes, the sixteen conditions' average; \
+         the values of literals, read at each turn too, are not in it",
+        shares.text_byte, shares.text_bytes
+    );
+    let share = |part: f64, whole: f64| format!("{:.0}%", 100.0 * part / whole);
+    let line = |name: &str, cost: f64, without: String, how: String| {
+        row(&[name.to_string(), nanoseconds(cost), share(cost, shares.whole), without, how])
+    };
+    line("the whole turn", shares.whole, String::new(), format!("year {YEAR}"));
+    line("the walk over the years, crate `calendar`", shares.walk, String::new(), walk);
+    line("all else", shares.rest(), "100%".to_string(), "the rest".to_string());
+    line("in it: the condition's text read, its symbols and grammar", shares.text(), share(shares.text(), shares.rest()), text);
+}
+
+pub fn instructions(plan: &Plan, profiles: Option<&[Profile; 2]>) {
+    let [late_title, early_title] = [YEAR, FIRST_YEAR].map(|year| format!("Year {year}"));
+    let columns = ["Part", &late_title, "Share", &early_title, "Share without the walk"];
+    let title = "Instructions of a proved turn, 16 conditions over departures";
+    let Some([late, early]) = profiles else {
+        println!("\n### {title}\n\nNot counted: valgrind is not there.");
+        return;
+    };
+    heading(title, &columns);
+    let percent = |part: u64, whole: u64| format!("{:.1}%", 100.0 * part as f64 / whole as f64);
+    let turns = plan.last(Series::Profiled).turns as u64;
+    let rest = early.total() - early.of(Part::YearWalk);
+    for (part, name) in PARTS {
+        let without = if part == Part::YearWalk { String::new() } else { percent(early.of(part), rest) };
+        let [in_late, in_early] = [late.of(part), early.of(part)];
+        row(&[
+            name.to_string(),
+            thousands(in_late / turns),
+            percent(in_late, late.total()),
+            thousands(in_early / turns),
+            without,
+        ]);
+    }
+    let conditions = plan.last(Series::Profiled).conditions.concat();
+    let (literals, fields) = (conditions.matches('"').count() / 2, conditions.matches('$').count());
+    println!("\nCounted by callgrind over a quarter of the departures, start included, by the crate of the function; what the compiler placed within");
+    println!("another crate's function counts there. The sixteen conditions hold {literals} literals and {fields} fields.");
+}
+
+pub fn memory(rows: &[(&str, [u64; 2])]) {
+    heading("Peak memory, KiB", &["Case", "Proved", "Independent"]);
+    for (name, peaks) in rows {
+        row(&[vec![name.to_string()], peaks.map(thousands).to_vec()].concat());
+    }
+    println!(
+        "\nThe kernel's high-water mark, `VmHWM` of `/proc/PID/status`, read while the program waits for its output to be taken."
+    );
+}
+
+pub fn basex(plan: &Plan, queries: &[Option<f64>]) {
+    let title = "BaseX, an XQuery processor";
+    if queries.contains(&None) {
+        println!("\n### {title}\n\nNot measured: BaseX is not there.");
+        return;
+    }
+    heading(title, &["Case", "BaseX, turns a second", "Time BaseX / proved", "Time BaseX / independent"]);
+    for (case, milliseconds) in plan.of(Series::Asked).iter().zip(queries.iter().flatten()) {
+        let (cost, costs) = (milliseconds * 1e6 / case.turns as f64, case.costs());
+        row(&[asked_name(case), thousands((1e9 / cost) as u64), times(cost / costs.proved), times(cost / costs.independent)]);
+    }
+    println!("\nOne query that counts the hits of each condition; its counts are the desk's. Elapsed time, the average of {} runs within one", basex::RUNS);
+    println!("start of BaseX, the start left out, the reading of the query and of the timetable included.");
+}
+
+/// What counts as the same: a cost may be so many times another and still not have grown.
+const SAME: f64 = 1.1;
+/// The most that the proved program may take without the walk over the years, times the independent one's time.
+const MOST_TIMES: f64 = 3.0;
+
+pub fn goals(plan: &Plan, shares: &Shares) {
+    heading("Goals", &["Goal", "Figure", "Met"]);
+    let grown = |series| plan.last(series).costs().proved / plan.of(series)[0].costs().proved;
+    let held = [Series::SeatsOverDelays, Series::SeatsOverDepartures].map(grown);
+    let [delays, departures] = held.map(times);
+    goal(
+        "a cost of a turn that does not grow with the number of held seats",
+        format!("with 16 seats {delays} times that with 1 (delays), {departures} times (departures)"),
+        held.iter().all(|&ratio| ratio <= SAME),
+    );
+    let timetable = grown(Series::TimetableBytes);
+    let figure = format!("cost of a turn over 65,536 bytes {} times that over 8,192", times(timetable));
+    goal("linear in the timetable's length", figure, timetable <= SAME);
+    let above = [Series::Spaces, Series::TestsReadOver, Series::TestsEvaluated].map(|series| above_line(&plan.of(series)));
+    let [spaces, read_over, evaluated] = above.map(times);
+    goal(
+        "linear in the condition's length",
+        format!("the longest costs {spaces} (spaces), {read_over} (tests read), {evaluated} (tests evaluated) times what the line through two shorter ones gives"),
+        above.iter().all(|&ratio| ratio <= SAME),
+    );
+    let ratio = shares.rest() / plan.last(Series::Asked).costs().independent;
+    goal(
+        "without the walk over the years at most 3 times the independent program's time, 16 conditions over departures",
+        format!("{}{} times", if shares.exact { "" } else { "at most " }, times(ratio)),
+        ratio <= MOST_TIMES,
+    );
+    println!("\nUp to {SAME} times counts as the same.");
+}
+
+fn goal(name: &str, figure: String, met: bool) {
+    row(&[name.to_string(), figure, if met { "yes" } else { "no" }.to_string()]);
+}
+
+/// The cost of the longest condition over that on the straight line through the first one and the last but one.
+fn above_line(cases: &[&Case]) -> f64 {
+    let [first, .., middle, last] = cases else { panic!("a series has at least three cases") };
+    let expected = first.costs().proved + byte_costs(first, middle).proved * (length(last) - length(first)) as f64;
+    last.costs().proved / expected
+}
