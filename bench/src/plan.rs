@@ -64,12 +64,24 @@ impl Plan {
             }
         }
         let plan = Plan { cases };
+        plan.check()?;
+        Ok(plan)
+    }
+
+    /// Empty lines are unreadable and no others, and departures are answered alike in both years: the work is what it is meant to be.
+    fn check(&self) -> io::Result<()> {
+        for (series, case) in &self.cases {
+            let expected = if *series == EmptyLines { case.turns } else { 0 };
+            if case.answers.lines().filter(|line| line.starts_with("unreadable\t")).count() != expected {
+                return Err(io::Error::other(format!("not {expected} unreadable lines: {}", case.folder.display())));
+            }
+        }
         for (late, early) in [(Asked, AskedInFirstYear), (Profiled, ProfiledInFirstYear)] {
-            if plan.last(late).answers != plan.last(early).answers {
+            if self.last(late).answers != self.last(early).answers {
                 return Err(io::Error::other("departures are answered differently in another year"));
             }
         }
-        Ok(plan)
+        Ok(())
     }
 
     pub fn of(&self, series: Series) -> Vec<&Case> {
