@@ -15,7 +15,8 @@ pub fn method(plan: &Plan) {
     println!("Both programs are built for release and run in turn over the same files. Before anything is measured, what they write is");
     println!("compared byte for byte. A time is {clock}, its output thrown away: the least of {ROUNDS} runs,");
     println!("of {short} where a run is short. The cost of a turn is the time of the whole run less that with an empty timetable (sixteen");
-    println!("conditions: {proved:.1} ms proved, {independent:.1} ms independent), over the turns at lines. Both programs read the condition's text at each turn.");
+    println!("conditions: {proved:.1} ms proved, {independent:.1} ms independent), over the turns at lines. Both programs read the condition's text");
+    println!("at each turn; the independent one also makes all of Open's checks of it again.");
 }
 
 fn heading(title: &str, columns: &[&str]) {
@@ -37,15 +38,10 @@ fn nanoseconds(cost: f64) -> String {
 }
 
 fn thousands(number: u64) -> String {
-    let digits = number.to_string();
-    let mut text = String::new();
-    for (place, digit) in digits.chars().enumerate() {
-        if place > 0 && (digits.len() - place) % 3 == 0 {
-            text.push(',');
-        }
-        text.push(digit);
+    match number {
+        0..=999 => number.to_string(),
+        _ => format!("{},{:03}", thousands(number / 1_000), number % 1_000),
     }
-    text
 }
 
 pub fn turns_a_second(plan: &Plan) {
@@ -204,8 +200,8 @@ pub fn basex(plan: &Plan, queries: &[Option<f64>]) {
         let (cost, costs) = (milliseconds * 1e6 / case.turns as f64, case.costs());
         row(&[asked_name(case), thousands((1e9 / cost) as u64), times(cost / costs.proved), times(cost / costs.independent)]);
     }
-    println!("\nOne query that counts the hits of each condition; its counts are the desk's. Elapsed time, the average of {} runs within one", basex::RUNS);
-    println!("start of BaseX, the start left out, the reading of the query and of the timetable included.");
+    println!("\nOne query that counts the hits of each condition; its counts are the desk's. Elapsed time, the average of the first {}", basex::RUNS);
+    println!("runs within one start of BaseX: the start is left out, the reading of the query and of the timetable is not.");
 }
 
 /// What counts as the same: a cost may be so many times another and still not have grown.
