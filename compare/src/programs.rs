@@ -1,5 +1,7 @@
-//! The two programs as functions from bytes to bytes.
+//! The programs as functions from bytes to bytes.
 
+use crate::conditions::accept;
+use crate::conditions::evaluation::holds;
 use crate::desk::{Desk, Turn};
 use crate::lines::{fields, lines};
 use crate::values::operations::{add, adjust, cast, compare, components, multiply, subtract, unzone};
@@ -94,6 +96,26 @@ fn order_word(order: Ordering) -> &'static str {
         Ordering::Less => "lt",
         Ordering::Equal => "eq",
         Ordering::Greater => "gt",
+    }
+}
+
+/// Judgements: the first field of each line is a condition, what follows its tab is the line that it is judged at.
+pub fn judgements(input: &[u8]) -> String {
+    lines(&input[..input.len().min(MOST_CALLS_BYTES)]).into_iter().map(judged).collect()
+}
+
+fn judged(line: &[u8]) -> String {
+    let (condition, at) = match line.iter().position(|&byte| byte == b'\t') {
+        Some(tab) => (&line[..tab], &line[tab + 1..]),
+        None => (line, &line[line.len()..]),
+    };
+    match accept(condition) {
+        Err(number) => refused(number),
+        Ok(tree) => match holds(&tree, &fields(at)) {
+            Ok(true) => "hit\n".to_string(),
+            Ok(false) => "miss\n".to_string(),
+            Err(number) => format!("unreadable\t{number}\n"),
+        },
     }
 }
 
