@@ -14,9 +14,9 @@ use Rattle.value.specs.Refusals.{badCondition, tooDeep}
 use Rattle.words.specs.Depth.{deep}
 use Rattle.results.specs.declared.Sort.{Sort}
 use Rattle.results.specs.declared.Sort.the-variants as S
-use Rattle.condition.specs.Grammar.{Parsed, none, got}
-use Rattle.condition.specs.Trees.{Tree, parse, sortOf, firstBad}
-use Rattle.condition.specs.Condition.{checkOf, bySort, byTree, passes, accepted, minLength, maxLength}
+use Rattle.reading.specs.Grammar.{Parsed, none, got}
+use Rattle.reading.specs.Trees.{Tree, parse, sortOf, first, firstBad}
+use Rattle.condition.specs.Condition.{checkOf, byKinds, byTree, passes, accepted, minLength, maxLength}
 
 passes-gives : (a : Answer (Unit {0})) → passes a ≡ true → a ≡ gives tt
 unfolding passes
@@ -64,8 +64,8 @@ pub record Stated (s : List ℕ) (p : Parsed Tree) : Type 0 where
   pub is-truth : sortOf tree ≡ S.Truth
   pub reads : firstBad s tree ≡ gives tt
 
-truth-stated : (s : List ℕ) (t : Tree) (n : ℕ) (x : Sort) → sortOf t ≡ x → bySort x (firstBad s t) ≡ gives tt → Stated s (got t n)
-unfolding bySort
+truth-stated : (s : List ℕ) (t : Tree) (n : ℕ) (x : Sort) → sortOf t ≡ x → first (byKinds x) (firstBad s t) ≡ gives tt → Stated s (got t n)
+unfolding byKinds first
 truth-stated s t n S.Clash e h = no-refusal _ h
 truth-stated s t n S.Truth e h = record { tree = t; end = n; stated = refl; is-truth = e; reads = h }
 truth-stated s t n (S.Of k) e h = no-refusal _ h

@@ -4,11 +4,11 @@ use mathlib.Core.List.{List}
 use Prim.Native.Nat.{ℕ}
 use Rattle.value.specs.declared.Kind.{Kind}
 use Rattle.timetable.specs.Fields.{fieldsOf, hasField, fieldAt}
-use Rattle.results.specs.Data.{valued, onto, joined, castDatum, timesDatum}
-use Rattle.results.specs.Givens.{readField}
-use Rattle.condition.specs.Grammar.{Parsed, none, got}
-use Rattle.condition.specs.Trees.{Tree, leaf, one, two, literal, field, cast, times, parse, eval}
+use Rattle.results.specs.Data.{valued, readField, onto, joined, castDatum, timesDatum}
+use Rattle.reading.specs.Grammar.{Parsed, none, got}
+use Rattle.reading.specs.Trees.{Tree, leaf, one, two, literal, field, cast, times, parse, eval}
 use Rattle.condition.specs.Condition.{shown, ofTree, resultAt}
+use Rattle.condition.specs.Laws.{FieldsAlone}
 
 module _ (s a b : List ℕ) (e : fieldsOf a ≡ fieldsOf b) where
   field-same : (k : Kind) (n : ℕ) → readField k a n ≡ readField k b n
@@ -28,6 +28,6 @@ module _ (s a b : List ℕ) (e : fieldsOf a ≡ fieldsOf b) where
   tree-same none = refl
   tree-same (got t n) = ap shown (eval-same t)
 
-  pub fields-alone : resultAt s a ≡ resultAt s b
-  unfolding resultAt
-  fields-alone = tree-same (parse s)
+pub fields-alone : FieldsAlone
+unfolding resultAt
+fields-alone s a b e = tree-same s a b e (parse s)

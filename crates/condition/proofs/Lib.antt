@@ -1,12 +1,6 @@
-pub mod Good
-pub mod Rules
-pub mod Steps
-pub mod Falls
-pub mod Folds
-pub mod Carried
 pub mod Accepted
 pub mod Ways
-pub mod Keeps
 pub mod Readable
+pub mod OpenNumbers
 pub mod FieldsAlone
 pub mod Answers

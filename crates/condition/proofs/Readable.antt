@@ -26,18 +26,20 @@ use Rattle.operation.proofs.Validity.{cast-within}
 use Rattle.words.specs.Runs.{between}
 use Rattle.words.specs.declared.Op.{Op}
 use Rattle.words.specs.declared.Op.the-variants as O
-use Rattle.results.specs.Sorts.{moment, takes, comparedKinds, addedKinds, lessKinds, kindsOf, joins, sortTwo, sortCast, sortTimes}
-use Rattle.results.specs.Data.{Datum, value, truth, valued, tested, ofValues, applied, settles, onto, joined, castDatum, timesDatum}
-use Rattle.results.specs.Givens.{readField}
+use Rattle.results.specs.Sorts.{comparedKinds, addedKinds, lessKinds, kindsOf, joins, sortTwo, sortCast, sortTimes}
+use Rattle.results.specs.Data.{Datum, value, truth, valued, readField, tested, ofValues, applied, settles, onto, joined, castDatum, timesDatum}
 use Rattle.results.specs.declared.Sort.{Sort}
 use Rattle.results.specs.declared.Sort.the-variants as S
-use Rattle.results.proofs.Numbers.{atLine, Only, read-only}
+use Rattle.results.specs.Numbers.{atLine}
+use Rattle.results.proofs.Numbers.{Only, read-only, text-at-line}
 use Rattle.results.proofs.Settled.{Fits, FitsSort, plus-settled, minus-settled, order-settled, times-settled, cast-settled}
-use Rattle.condition.specs.Grammar.{Parsed, none, got}
-use Rattle.condition.specs.Trees.{Tree, leaf, one, two, literal, field, cast, times, parse, sortOf, eval}
-use Rattle.condition.specs.Condition.{accepted, Result, hit, miss, unreadable, shown, ofTree, resultAt}
+use Rattle.reading.specs.Grammar.{Parsed, none, got}
+use Rattle.reading.specs.Trees.{Tree, leaf, one, two, literal, field, cast, times, parse, sortOf, eval}
+use Rattle.condition.specs.Condition.{shown, ofTree, resultAt}
+pub use Rattle.condition.specs.Laws.{Readable}
+use Rattle.condition.specs.Laws.{AcceptedReadable}
 use Rattle.condition.proofs.Accepted.{Stated, accepted-stated}
-use Rattle.condition.proofs.Keeps.{All, Bounded, parse-bounded}
+use Rattle.reading.proofs.Keeps.{All, Bounded, parse-bounded}
 
 -- what a part of a sort may give
 abbrev Typed : Sort → Answer Datum → Type 0
@@ -53,15 +55,15 @@ fits-typed : (k : Kind) (r : Answer Value) → Fits k r → ((v : Value) → r �
 fits-typed k (gives v) f w = (ap S.Of (sym f), w v refl)
 fits-typed k (refuses n) f w = ap atLine f
 
-sort-typed : (x : Sort) (r : Answer Value) → (x ≡ S.Clash → ⊥) → (x ≡ S.Truth → ⊥) → FitsSort x r → ((v : Value) → r ≡ gives v → okValue v ≡ true) → Typed x (valued r)
-sort-typed S.Clash r n m f w = absurd (n refl)
-sort-typed S.Truth r n m f w = absurd (m refl)
-sort-typed (S.Of k) r n m f w = fits-typed k r f w
+sort-typed : (x : Sort) (r : Answer Value) → (x ≡ S.Clash → ⊥) → FitsSort x r → ((v : Value) → r ≡ gives v → okValue v ≡ true) → Typed x (valued r)
+sort-typed S.Clash r n f w = absurd (n refl)
+sort-typed S.Truth r n f w = absurd f
+sort-typed (S.Of k) r n f w = fits-typed k r f w
 
 -- literals and fields
 read-typed : (k : Kind) (r : Answer Value) → Only r → ((v : Value) → r ≡ gives v → Valid k v) → Typed (S.Of k) (valued r)
 read-typed k (gives v) h w = (ap S.Of (sym (w v refl .kind)), w v refl .ok)
-read-typed k (refuses n) h w = h
+read-typed k (refuses n) h w = text-at-line n h
 
 text-typed : (k : Kind) (s : List ℕ) → Typed (S.Of k) (valued (readAs k s))
 text-typed k s = read-typed k (readAs k s) (read-only k s) (what-reads-is-valid k s)
@@ -74,29 +76,8 @@ field-typed k line n = by (hasField line n)
     by true = text-typed k (fieldAt line n)
     by false = refl
 
--- no sum, difference or product is a truth value
-no-truth : (b : Bool) (x y : Sort) → (x ≡ S.Truth → ⊥) → (y ≡ S.Truth → ⊥) → pick b x y ≡ S.Truth → ⊥
-no-truth true x y p q = p
-no-truth false x y p q = q
-
-kind-no-truth : (k : Kind) → S.Of k ≡ S.Truth → ⊥
-kind-no-truth k e = differ k (sym e)
-
 clash-no-truth : S.Clash ≡ S.Truth → ⊥
 clash-no-truth e = let z : _≡_ {A = ℕ} 0 1 = cc in omega arith
-
-added-no-truth : (j k : Kind) → addedKinds j k ≡ S.Truth → ⊥
-unfolding addedKinds
-added-no-truth j k = no-truth (takes j k) _ _ (kind-no-truth j)
-    (no-truth (takes k j) _ _ (kind-no-truth k) (no-truth (moment j) _ _ clash-no-truth (no-truth (sameKind j k) _ _ (kind-no-truth j) clash-no-truth)))
-
-less-no-truth : (j k : Kind) → lessKinds j k ≡ S.Truth → ⊥
-unfolding lessKinds
-less-no-truth j k = no-truth (takes j k) _ _ (kind-no-truth j)
-    (no-truth (sameKind j k) _ _ (no-truth (moment j) _ _ (kind-no-truth K.DayTimeDuration) (kind-no-truth j)) clash-no-truth)
-
-times-no-truth : (k : Kind) → sortTimes (S.Of k) ≡ S.Truth → ⊥
-times-no-truth k = no-truth (moment k) _ _ clash-no-truth (kind-no-truth k)
 
 -- one part below
 cast-value : (k : Kind) (v : Value) → okValue v ≡ true → (sortCast k (S.Of (kindOf v)) ≡ S.Clash → ⊥) → Typed (sortCast k (S.Of (kindOf v))) (valued (castOf v k))
@@ -115,7 +96,7 @@ cast-typed k x (refuses m) n h = h
 times-typed : (b : Bool) (v : ℕ) (x : Sort) (a : Answer Datum) → v < 1000000 → (sortTimes x ≡ S.Clash → ⊥) → Typed x a → Typed (sortTimes x) (onto a (timesDatum b v))
 unfolding onto
 times-typed b v x (gives (value u)) l n h = subst (λ y. (sortTimes y ≡ S.Clash → ⊥) → Typed (sortTimes y) (valued (timesOf u b v))) (sym (h .0))
-    (λ m. sort-typed (sortTimes (S.Of (kindOf u))) (timesOf u b v) m (times-no-truth (kindOf u)) (times-settled u (h .1) b v (omega arith)) (times-within u b v)) n
+    (λ m. sort-typed (sortTimes (S.Of (kindOf u))) (timesOf u b v) m (times-settled u (h .1) b v (omega arith)) (times-within u b v)) n
 times-typed b v x (gives (truth c)) l n h = absurd (n (ap sortTimes h))
 times-typed b v x (refuses m) l n h = h
 
@@ -139,9 +120,9 @@ values-typed O.Le v w p q n = compared-typed O.Le v w p q n
 values-typed O.Gt v w p q n = compared-typed O.Gt v w p q n
 values-typed O.Ge v w p q n = compared-typed O.Ge v w p q n
 values-typed O.Plus v w p q n =
-    sort-typed (addedKinds (kindOf v) (kindOf w)) (plusOf v w) n (added-no-truth (kindOf v) (kindOf w)) (plus-settled v p w q) (plus-within v w)
+    sort-typed (addedKinds (kindOf v) (kindOf w)) (plusOf v w) n (plus-settled v p w q) (plus-within v w)
 values-typed O.Minus v w p q n =
-    sort-typed (lessKinds (kindOf v) (kindOf w)) (minusIn utc v w) n (less-no-truth (kindOf v) (kindOf w)) (minus-settled v p w q utc) (minus-within utc v w)
+    sort-typed (lessKinds (kindOf v) (kindOf w)) (minusIn utc v w) n (minus-settled v p w q utc) (minus-within utc v w)
 
 right-clash : (o : Op) (x : Sort) → sortTwo o x S.Clash ≡ S.Clash
 right-clash o S.Clash = refl
@@ -204,12 +185,6 @@ tree-typed s line (two o b p l r) g n = two-typed o (sortOf l) (sortOf r) (eval 
     (tree-typed s line l (g .0) (λ e. n (ap (λ x. sortTwo o x (sortOf r)) e)))
     (tree-typed s line r (g .1) (λ e. n (ap (sortTwo o (sortOf l)) e ∙ right-clash o (sortOf l))))
 
--- hit, miss, or unreadable with a number that a line can have
-abbrev pub Readable : Result → Type 0
-Readable hit = Unit {0}
-Readable miss = Unit {0}
-Readable (unreadable n) = atLine n ≡ true
-
 shown-readable : (a : Answer Datum) → Typed S.Truth a → Readable (shown a)
 unfolding shown
 shown-readable (gives (value v)) h = differ (kindOf v) (h .0)
@@ -228,6 +203,6 @@ stated-readable s line (got t n) h g =
     let f : sortOf t ≡ S.Truth = ap sortOf (sym e) ∙ h .is-truth in
     shown-readable (eval s line t) (subst (λ x. Typed x (eval s line t)) f (tree-typed s line t g (clash-no t f)))
 
-pub accepted-readable : (s line : List ℕ) → accepted s ≡ true → Readable (resultAt s line)
+pub accepted-readable : AcceptedReadable
 unfolding resultAt
 accepted-readable s line h = stated-readable s line (parse s) (accepted-stated s h) (parse-bounded s)

@@ -12,8 +12,8 @@ use Rattle.words.specs.Depth.{deep}
 use Rattle.results.specs.Data.{Datum, value, truth}
 use Rattle.results.specs.declared.Sort.{Sort}
 use Rattle.results.specs.declared.Sort.the-variants as S
-use Rattle.condition.specs.Grammar.{Parsed, none, got}
-use Rattle.condition.specs.Trees.{Tree, parse, sortOf, firstBad, eval}
+use Rattle.reading.specs.Grammar.{Parsed, none, got}
+use Rattle.reading.specs.Trees.{Tree, parse, sortOf, first, firstBad, eval}
 use Rattle.condition.specs.declared.Checked.{Checked}
 use Rattle.condition.specs.declared.Checked.the-variants as C
 use Rattle.condition.specs.declared.Judged.{Judged}
@@ -32,14 +32,15 @@ passes (gives x) = true
 passes (refuses n) = false
 
 -- "the whole condition need[s] truth values"
-unfoldable pub bySort : Sort → Answer (Unit {0}) → Answer (Unit {0})
-bySort S.Truth literals = literals
-bySort S.Clash literals = refuses wrongKind
-bySort (S.Of k) literals = refuses wrongKind
+unfoldable pub byKinds : Sort → Answer (Unit {0})
+byKinds S.Clash = refuses wrongKind
+byKinds S.Truth = gives tt
+byKinds (S.Of k) = refuses wrongKind
 
+-- "7 by grammar, 9, the leftmost bad literal's own number"
 unfoldable pub byTree : List ℕ → Parsed Tree → Answer (Unit {0})
 byTree s none = refuses badCondition
-byTree s (got t n) = bySort (sortOf t) (firstBad s t)
+byTree s (got t n) = first (byKinds (sortOf t)) (firstBad s t)
 
 unfoldable pub checkOf : List ℕ → Answer (Unit {0})
 checkOf s =

@@ -1,4 +1,3 @@
-pub mod Grammar
-pub mod Trees
 pub mod Condition
-pub mod Reading
+pub mod Laws
+pub mod Carried

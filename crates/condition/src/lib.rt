@@ -1,4 +1,5 @@
 // Conditions: which texts are accepted, and the result of a condition at a line (document 01, "Conditions").
+use reading::Read;
 use results::Given;
 use results::Mode;
 use results::Part;
@@ -7,11 +8,10 @@ use value::Refusal;
 use words::depth::too_deep;
 ghost use mathlib.Core.Path.{_≡_};
 ghost use mathlib.Core.Bool.{true};
-ghost use Rattle.condition.specs.Condition.{checked, checkOf, accepted, resultAt, resultOf, judged, bySort};
 ghost use Rattle.basis.specs.Answer.{gives, refuses};
-ghost use Rattle.condition.specs.Reading.{literals, resulting};
-
-mod reading; // reading.rt: the readers of a condition, which call one another
+ghost use Rattle.reading.specs.Trees as trees;
+ghost use Rattle.condition.specs.Condition.{checked, checkOf, accepted, resultAt, resultOf, judged, byKinds};
+ghost use Rattle.condition.specs.Carried as the;
 
 // Whether a condition's text is accepted.
 pub enum Checked {
@@ -27,12 +27,6 @@ pub enum Judged {
     Refused(Refusal),
 }
 
-// What was read, and where its text ends.
-pub enum Read {
-    Bad,
-    Got(Part, usize),
-}
-
 // The least and the greatest length of a condition's text.
 const MIN_LENGTH: usize = 1;
 
@@ -44,22 +38,48 @@ fn refused(number: u8) -> Checked
     Checked::Refused(Refusal { number })
 }
 
+// What the kinds say: a whole condition is a truth value.
+fn kinds(sort: Sort) -> Checked
+    ensures { λ r. ⌜ checked r ≡ byKinds sort ⌝ }
+{
+    match sort {
+        Sort::Clash => refused(Refusal::WRONG_KIND),
+        Sort::Truth => Checked::Accepted,
+        Sort::Of(_) => refused(Refusal::WRONG_KIND),
+    }
+}
+
+// What the literals say: the number of the leftmost bad one.
+fn literals(given: Given) -> Checked
+    ensures { λ r. ⌜ checked r ≡ the.literals given ⌝ }
+{
+    match given {
+        Given::Nothing => Checked::Accepted,
+        Given::Is(_) => Checked::Accepted,
+        Given::Truth(_) => Checked::Accepted,
+        Given::Refused(r) => Checked::Refused(r),
+    }
+}
+
+// The first refusal of two.
+fn first(a: Checked, b: Checked) -> Checked
+    ensures { λ r. ⌜ checked r ≡ trees.first (checked a) (checked b) ⌝ }
+{
+    match a {
+        Checked::Accepted => b,
+        Checked::Refused(r) => Checked::Refused(r),
+    }
+}
+
 // Kinds come before literals.
 fn check_part(part: Part) -> Checked
-    ensures { λ r. ⌜ checked r ≡ bySort (part .sort) (literals (part .given)) ⌝ }
+    ensures { λ r. ⌜ checked r ≡ trees.first (byKinds (part .sort)) (the.literals (part .given)) ⌝ }
 {
     let sort = part.sort;
     let given = part.given;
-    match sort {
-        Sort::Clash => refused(Refusal::WRONG_KIND),
-        Sort::Of(_) => refused(Refusal::WRONG_KIND),
-        Sort::Truth => match given {
-            Given::Nothing => Checked::Accepted,
-            Given::Is(_) => Checked::Accepted,
-            Given::Truth(_) => Checked::Accepted,
-            Given::Refused(r) => Checked::Refused(r),
-        },
-    }
+    let by_kinds = kinds(sort);
+    let by_literals = literals(given);
+    first(by_kinds, by_literals)
 }
 
 // Open's checks of a condition: 7 by length, 8, 7 by grammar, 9, the leftmost bad literal's own number.
@@ -83,7 +103,7 @@ pub fn check(text: &[u8]) -> Checked
 
 // What an evaluated condition says of its line.
 fn judged_of(given: Given) -> Judged
-    ensures { λ r. ⌜ judged r ≡ gives (resulting given) ⌝ }
+    ensures { λ r. ⌜ judged r ≡ gives (the.resulting given) ⌝ }
 {
     match given {
         Given::Nothing => Judged::Unreadable(Refusal {

@@ -62,12 +62,12 @@ text-dead m x e = rw e
 pub read-on : (k : Kind) (w v : List ℕ) (y : Outcome) → w ≡ v → meaning y ≡ readAs k w → meaning y ≡ readAs k v
 read-on k w v y e h = rw (← e) h
 
-pub no-field : (k : Kind) (line : List ℕ) (n : ℕ) {t : Bool} {r : Given} → t ≡ hasField line n → not t ≡ true → r ≡ the.givenOf (refuses noField) → r ≡ the.givenOf (its.valued (the.readField k line n))
-unfolding the.readField
+pub no-field : (k : Kind) (line : List ℕ) (n : ℕ) {t : Bool} {r : Given} → t ≡ hasField line n → not t ≡ true → r ≡ the.givenOf (refuses noField) → r ≡ the.givenOf (its.valued (its.readField k line n))
+unfolding its.readField
 no-field k line n {t} e f h = rw (← e, not-true t f) h
 
-pub a-field : (k : Kind) (line w : List ℕ) (n : ℕ) (y : Outcome) {t : Bool} {r : Given} → t ≡ hasField line n → not t ≡ false → w ≡ fieldAt line n → meaning y ≡ readAs k w → r ≡ the.givenOf (its.valued (meaning y)) → r ≡ the.givenOf (its.valued (the.readField k line n))
-unfolding the.readField
+pub a-field : (k : Kind) (line w : List ℕ) (n : ℕ) (y : Outcome) {t : Bool} {r : Given} → t ≡ hasField line n → not t ≡ false → w ≡ fieldAt line n → meaning y ≡ readAs k w → r ≡ the.givenOf (its.valued (meaning y)) → r ≡ the.givenOf (its.valued (its.readField k line n))
+unfolding its.readField
 a-field k line w n y {t} e f g h i = rw (← e, not-false t f, ← g, ← h) i
 
 pub field-check : (m : Mode) (x : Answer Value) → m ≡ M.Check → G.Nothing ≡ the.fieldIn m x

@@ -3,3 +3,4 @@ pub mod GiveLaws
 pub mod PartLaws
 pub mod Numbers
 pub mod Settled
+pub mod Clashes

@@ -1,9 +1,9 @@
--- The numbers that reading a value can refuse with: 1, 2 and 3. With 4 of arithmetic and 6 of a missing field they are those
--- that a line's result can have.
+-- Reading a value is refused with 1, 2 or 3, which are among the numbers that a line's result can have.
 use mathlib.Core.Path.{_≡_, refl}
 use mathlib.Core.Bool.{Bool, true, false}
 use mathlib.Core.List.{List}
 use Prim.Native.Nat.{ℕ, _+_, _*_}
+use native.Mathlib.Omega.{arith}
 use lib.Dec.{eqb, leb}
 use lib.ListN.{length}
 use Rattle.basis.specs.Choice.{pick}
@@ -28,15 +28,23 @@ use Rattle.durations.specs.Forms.{Form, dayTime, yearMonth}
 use Rattle.durations.specs.declared.Shape.{Shape}
 use Rattle.durations.specs.declared.Amount.{Amount}
 use Rattle.text.specs.Reading.{readAs}
+use Rattle.results.specs.Numbers.{ofText}
+pub use Rattle.results.specs.Numbers.{atLine}
 
--- the numbers of a line's result
-abbrev pub atLine : ℕ → Bool
-atLine n = pick (eqb n 1) true (pick (eqb n 2) true (pick (eqb n 3) true (pick (eqb n 4) true (eqb n 6))))
+-- a number that a value's text can have is one that a line's result can have
+pub text-at-line : (n : ℕ) → ofText n ≡ true → atLine n ≡ true
+text-at-line n h = by (eqb n 1) (eqb n 2) (eqb n 3) h
+  where
+    by : (a b c : Bool) → pick a true (pick b true c) ≡ true → pick a true (pick b true (pick c true (pick (eqb n 4) true (eqb n 6)))) ≡ true
+    by true b c h = refl
+    by false true c h = refl
+    by false false true h = refl
+    by false false false h = let z : _≡_ {A = ℕ} 0 1 = cc in absurd (omega arith)
 
--- an answer whose number is one of a line's result, if it is a refusal
+-- an answer whose number is one of a value's text, if it is a refusal
 abbrev pub Only : {A : Type 0} → Answer A → Type 0
 Only (gives v) = Unit {0}
-Only (refuses n) = atLine n ≡ true
+Only (refuses n) = ofText n ≡ true
 
 only-either : {A : Type 0} (b : Bool) (x y : Answer A) → Only x → Only y → Only (pick b x y)
 only-either true x y p q = p

@@ -41,7 +41,7 @@ pub literal-is : (m : Mode) (k : Kind) (s : List ℕ) (from to : ℕ) (g : Given
 unfolding the.literalPart
 literal-is m k s from to g e = rw e
 
-pub field-is : (m : Mode) (k : Kind) (line : List ℕ) (n : ℕ) (g : Given) → g ≡ the.fieldIn m (the.readField k line n) → _≡_ {A = Part} (record { sort = S.Of k; given = g }) (the.fieldPart m k line n)
+pub field-is : (m : Mode) (k : Kind) (line : List ℕ) (n : ℕ) (g : Given) → g ≡ the.fieldIn m (its.readField k line n) → _≡_ {A = Part} (record { sort = S.Of k; given = g }) (the.fieldPart m k line n)
 unfolding the.fieldPart
 field-is m k line n g e = rw e
 

@@ -1,5 +1,5 @@
 -- Where the kinds fit, each operation on valid values gives a valid value of the settled kind, or 4; a comparison gives a
--- truth value. So no 9 and no 16 can come of parts whose sorts fit.
+-- truth value. So no 9 and no 16 can come of parts whose sorts fit. Where they clash, it is refused with 9.
 use mathlib.Core.Path.{_≡_, refl, sym, ap, _∙_}
 use mathlib.Core.Bool.{Bool, true, false}
 use Prim.Native.Nat.{ℕ, _+_, _-_, _/_, _≤_}
@@ -10,6 +10,7 @@ use Rattle.basis.specs.Choice.{pick, both}
 use Rattle.basis.specs.Answer.{Answer, gives, refuses}
 use Rattle.calendar.specs.Calendar.{monthCount}
 use Rattle.value.specs.Bounds.{minYear, maxYear}
+use Rattle.value.specs.Refusals.{wrongKind}
 use Rattle.value.specs.Values.{okDayTime, okYearMonth}
 use Rattle.value.specs.Durations.{plus, minus, lessTicks, lessMonths}
 use Rattle.value.specs.Kinds.{hasDate, hasTime, kindOf, okValue, kept}
@@ -39,10 +40,10 @@ abbrev pub Fits : Kind → Answer Value → Type 0
 Fits k (gives v) = kindOf v ≡ k
 Fits k (refuses n) = n ≡ 4
 
--- the same, by the sort that the kinds settle; nothing where they do not fit
+-- the same, by the sort that the kinds settle, which of a sum, difference or product is no truth value; 9 where they clash
 abbrev pub FitsSort : Sort → Answer Value → Type 0
-FitsSort S.Clash a = Unit {0}
-FitsSort S.Truth a = Unit {0}
+FitsSort S.Clash a = a ≡ refuses wrongKind
+FitsSort S.Truth a = ⊥
 FitsSort (S.Of k) a = Fits k a
 
 fits-either : (k : Kind) (b : Bool) (x y : Answer Value) → Fits k x → Fits k y → Fits k (pick b x y)
@@ -83,68 +84,73 @@ on-time d = refl
 on-date-time : (d : DateTime) → kindOf (valueOf K.DateTime d) ≡ K.DateTime
 on-date-time d = refl
 
+-- a time has no months
+no-months : (d : DateTime) (p q : ℕ) → moved K.Time d p q ≡ refuses wrongKind
+unfolding moved
+no-months d p q = refl
+
 -- a moment and a duration added, either way round
 sum-fits : (a b : Value) → FitsSort (addedKinds (kindOf a) (kindOf b)) (sumOf (operandOf a) (operandOf b))
 unfolding addedKinds moment sumOf
-sum-fits (V′.Date d) (V′.Date e) = tt
-sum-fits (V′.Date d) (V′.Time e) = tt
-sum-fits (V′.Date d) (V′.DateTime e) = tt
+sum-fits (V′.Date d) (V′.Date e) = refl
+sum-fits (V′.Date d) (V′.Time e) = refl
+sum-fits (V′.Date d) (V′.DateTime e) = refl
 sum-fits (V′.Date d) (V′.DayTime t) = shifted-fit K.Date on-date d _ _
 sum-fits (V′.Date d) (V′.YearMonth m) = moved-fit K.Date on-date refl d _ _
-sum-fits (V′.Time d) (V′.Date e) = tt
-sum-fits (V′.Time d) (V′.Time e) = tt
-sum-fits (V′.Time d) (V′.DateTime e) = tt
+sum-fits (V′.Time d) (V′.Date e) = refl
+sum-fits (V′.Time d) (V′.Time e) = refl
+sum-fits (V′.Time d) (V′.DateTime e) = refl
 sum-fits (V′.Time d) (V′.DayTime t) = shifted-fit K.Time on-time d _ _
-sum-fits (V′.Time d) (V′.YearMonth m) = tt
-sum-fits (V′.DateTime d) (V′.Date e) = tt
-sum-fits (V′.DateTime d) (V′.Time e) = tt
-sum-fits (V′.DateTime d) (V′.DateTime e) = tt
+sum-fits (V′.Time d) (V′.YearMonth m) = no-months d _ _
+sum-fits (V′.DateTime d) (V′.Date e) = refl
+sum-fits (V′.DateTime d) (V′.Time e) = refl
+sum-fits (V′.DateTime d) (V′.DateTime e) = refl
 sum-fits (V′.DateTime d) (V′.DayTime t) = shifted-fit K.DateTime on-date-time d _ _
 sum-fits (V′.DateTime d) (V′.YearMonth m) = moved-fit K.DateTime on-date-time refl d _ _
 sum-fits (V′.DayTime t) (V′.Date e) = shifted-fit K.Date on-date e _ _
 sum-fits (V′.DayTime t) (V′.Time e) = shifted-fit K.Time on-time e _ _
 sum-fits (V′.DayTime t) (V′.DateTime e) = shifted-fit K.DateTime on-date-time e _ _
 sum-fits (V′.DayTime t) (V′.DayTime u) = ticks-fit _ _
-sum-fits (V′.DayTime t) (V′.YearMonth m) = tt
+sum-fits (V′.DayTime t) (V′.YearMonth m) = refl
 sum-fits (V′.YearMonth m) (V′.Date e) = moved-fit K.Date on-date refl e _ _
-sum-fits (V′.YearMonth m) (V′.Time e) = tt
+sum-fits (V′.YearMonth m) (V′.Time e) = no-months e _ _
 sum-fits (V′.YearMonth m) (V′.DateTime e) = moved-fit K.DateTime on-date-time refl e _ _
-sum-fits (V′.YearMonth m) (V′.DayTime t) = tt
+sum-fits (V′.YearMonth m) (V′.DayTime t) = refl
 sum-fits (V′.YearMonth m) (V′.YearMonth n) = months-fit _ _
 
 difference-fits : (o : Offset) (a b : Value) → FitsSort (lessKinds (kindOf a) (kindOf b)) (differenceIn o (operandOf a) (operandOf b))
 unfolding lessKinds moment differenceIn lessMoment sumOf
 difference-fits o (V′.Date d) (V′.Date e) = ticks-fit _ _
-difference-fits o (V′.Date d) (V′.Time e) = tt
-difference-fits o (V′.Date d) (V′.DateTime e) = tt
+difference-fits o (V′.Date d) (V′.Time e) = refl
+difference-fits o (V′.Date d) (V′.DateTime e) = refl
 difference-fits o (V′.Date d) (V′.DayTime t) = shifted-fit K.Date on-date d _ _
 difference-fits o (V′.Date d) (V′.YearMonth m) = moved-fit K.Date on-date refl d _ _
-difference-fits o (V′.Time d) (V′.Date e) = tt
+difference-fits o (V′.Time d) (V′.Date e) = refl
 difference-fits o (V′.Time d) (V′.Time e) = ticks-fit _ _
-difference-fits o (V′.Time d) (V′.DateTime e) = tt
+difference-fits o (V′.Time d) (V′.DateTime e) = refl
 difference-fits o (V′.Time d) (V′.DayTime t) = shifted-fit K.Time on-time d _ _
-difference-fits o (V′.Time d) (V′.YearMonth m) = tt
-difference-fits o (V′.DateTime d) (V′.Date e) = tt
-difference-fits o (V′.DateTime d) (V′.Time e) = tt
+difference-fits o (V′.Time d) (V′.YearMonth m) = no-months d _ _
+difference-fits o (V′.DateTime d) (V′.Date e) = refl
+difference-fits o (V′.DateTime d) (V′.Time e) = refl
 difference-fits o (V′.DateTime d) (V′.DateTime e) = ticks-fit _ _
 difference-fits o (V′.DateTime d) (V′.DayTime t) = shifted-fit K.DateTime on-date-time d _ _
 difference-fits o (V′.DateTime d) (V′.YearMonth m) = moved-fit K.DateTime on-date-time refl d _ _
-difference-fits o (V′.DayTime t) (V′.Date e) = tt
-difference-fits o (V′.DayTime t) (V′.Time e) = tt
-difference-fits o (V′.DayTime t) (V′.DateTime e) = tt
+difference-fits o (V′.DayTime t) (V′.Date e) = refl
+difference-fits o (V′.DayTime t) (V′.Time e) = refl
+difference-fits o (V′.DayTime t) (V′.DateTime e) = refl
 difference-fits o (V′.DayTime t) (V′.DayTime u) = ticks-fit _ _
-difference-fits o (V′.DayTime t) (V′.YearMonth m) = tt
-difference-fits o (V′.YearMonth m) (V′.Date e) = tt
-difference-fits o (V′.YearMonth m) (V′.Time e) = tt
-difference-fits o (V′.YearMonth m) (V′.DateTime e) = tt
-difference-fits o (V′.YearMonth m) (V′.DayTime t) = tt
+difference-fits o (V′.DayTime t) (V′.YearMonth m) = refl
+difference-fits o (V′.YearMonth m) (V′.Date e) = refl
+difference-fits o (V′.YearMonth m) (V′.Time e) = refl
+difference-fits o (V′.YearMonth m) (V′.DateTime e) = refl
+difference-fits o (V′.YearMonth m) (V′.DayTime t) = refl
 difference-fits o (V′.YearMonth m) (V′.YearMonth n) = months-fit _ _
 
 product-fits : (a : Value) (b : Bool) (n : ℕ) → FitsSort (sortTimes (S.Of (kindOf a))) (productOf (operandOf a) b n)
 unfolding moment productOf
-product-fits (V′.Date d) b n = tt
-product-fits (V′.Time d) b n = tt
-product-fits (V′.DateTime d) b n = tt
+product-fits (V′.Date d) b n = refl
+product-fits (V′.Time d) b n = refl
+product-fits (V′.DateTime d) b n = refl
 product-fits (V′.DayTime t) b n = fits-either K.DayTimeDuration b _ _ (ticks-fit _ _) (ticks-fit _ _)
 product-fits (V′.YearMonth m) b n = fits-either K.YearMonthDuration b _ _ (months-fit _ _) (months-fit _ _)
 

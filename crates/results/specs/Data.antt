@@ -1,14 +1,18 @@
 -- Document 01, "Conditions": "Evaluation goes left to right; the right side of `or` after a true left, and of `and` after a
 -- false left, isn't evaluated; all else is, up to the first refusal." What a part of a condition gives: a value or a truth
 -- value, or the first refusal. Kinds that do not fit are 9; an accepted condition has none.
+use mathlib.Core.Path.{_≡_}
 use mathlib.Core.Bool.{Bool, true, false, not}
+use mathlib.Core.List.{List}
 use Prim.Native.Nat.{ℕ}
 use Rattle.basis.specs.Choice.{pick}
 use Rattle.basis.specs.Answer.{Answer, gives, refuses}
-use Rattle.value.specs.Refusals.{wrongKind}
+use Rattle.value.specs.Refusals.{noField, wrongKind}
 use Rattle.value.specs.Ticks.{utc}
 use Rattle.value.specs.declared.Kind.{Kind}
 use Rattle.value.specs.declared.Value.{Value}
+use Rattle.timetable.specs.Fields.{fieldAt, hasField}
+use Rattle.text.specs.Reading.{readAs}
 use Rattle.operation.specs.Order.{Order, less, equal, greater, orderIn}
 use Rattle.arithmetic.specs.Sums.{plusOf, minusIn}
 use Rattle.arithmetic.specs.Products.{timesOf}
@@ -25,6 +29,10 @@ pub data Datum : Type 0 where
 abbrev pub valued : Answer Value → Answer Datum
 valued (gives v) = gives (value v)
 valued (refuses n) = refuses n
+
+-- a field of the line, read as a kind: "line has fewer fields than `$n` asks" is 6
+unfoldable pub readField : Kind → List ℕ → ℕ → Answer Value
+readField k line n = pick (hasField line n) (readAs k (fieldAt line n)) (refuses noField)
 
 -- whether a comparison holds of two values, of which the left is less, equal or greater
 abbrev pub among : Op → Bool → Bool → Bool → Bool
@@ -93,6 +101,18 @@ onto (refuses n) f = refuses n
 
 unfoldable pub joined : Op → Answer Datum → Answer Datum → Answer Datum
 joined o a b = onto a (λ x. pick (settled o x) (gives x) (onto b (applied o x)))
+
+-- "the right side of `or` after a true left, and of `and` after a false left, isn't evaluated": whatever it is, a refusal too, the
+-- result stays. "all else is, up to the first refusal": after any other left the right side decides, and a refusal on the left comes
+-- first. It is proved as `short-circuit`.
+pub record ShortCircuit : Type 0 where
+  pub or-true : (right : Answer Datum) → joined O.Or (gives (truth true)) right ≡ gives (truth true)
+  pub and-false : (right : Answer Datum) → joined O.And (gives (truth false)) right ≡ gives (truth false)
+  pub or-false : (y : Bool) → joined O.Or (gives (truth false)) (gives (truth y)) ≡ gives (truth y)
+  pub and-true : (y : Bool) → joined O.And (gives (truth true)) (gives (truth y)) ≡ gives (truth y)
+  pub or-refused : (n : ℕ) → joined O.Or (gives (truth false)) (refuses n) ≡ refuses n
+  pub and-refused : (n : ℕ) → joined O.And (gives (truth true)) (refuses n) ≡ refuses n
+  pub left-first : (o : Op) (n : ℕ) (right : Answer Datum) → joined o (refuses n) right ≡ refuses n
 
 -- a sum that is cast, and a term times a whole number
 abbrev pub castDatum : Kind → Datum → Answer Datum

@@ -1,20 +1,19 @@
 -- What the code carries of a part of a condition: its sort, and what it gives in the mode in which it is read. A part that is
 -- not evaluated gives nothing; one that is only checked gives the leftmost refusal of a literal in it, or nothing.
-use mathlib.Core.Bool.{Bool, true, false}
+-- No contract of a public call of `condition` rests on this file: what a condition gives at a line is stated over Data.antt. That
+-- the code, which carries this, comes to the same is proved (`code-meets` in crate `reading`).
+use mathlib.Core.Bool.{Bool}
 use mathlib.Core.List.{List}
 use Prim.Native.Nat.{ℕ}
 use Rattle.basis.specs.Choice.{pick}
 use Rattle.basis.specs.Answer.{Answer, gives, refuses}
-use Rattle.value.specs.Refusals.{noField}
 use Rattle.value.specs.declared.Kind.{Kind}
 use Rattle.value.specs.declared.Value.{Value}
-use Rattle.timetable.specs.Fields.{fieldAt, hasField}
 use Rattle.text.specs.Reading.{readAs}
 use Rattle.words.specs.Runs.{between}
 use Rattle.words.specs.declared.Op.{Op}
 use Rattle.results.specs.Sorts.{sortTwo, sortCast, sortTimes}
-use Rattle.results.specs.Data.{Datum, value, truth, valued, applied, settles, settled, castDatum, timesDatum}
-use Rattle.results.specs.declared.Sort.{Sort}
+use Rattle.results.specs.Data.{Datum, value, truth, valued, readField, applied, settles, castDatum, timesDatum}
 use Rattle.results.specs.declared.Sort.the-variants as S
 use Rattle.results.specs.declared.Given.{Given}
 use Rattle.results.specs.declared.Given.the-variants.{Nothing, Is, Truth, Refused}
@@ -42,10 +41,6 @@ abbrev pub fieldIn : Mode → Answer Value → Given
 fieldIn Check a = Nothing
 fieldIn Live a = givenOf (valued a)
 fieldIn Dead a = Nothing
-
--- a field of the line, read as a kind: "line has fewer fields than `$n` asks" is 6
-unfoldable pub readField : Kind → List ℕ → ℕ → Answer Value
-readField k line n = pick (hasField line n) (readAs k (fieldAt line n)) (refuses noField)
 
 unfoldable pub literalPart : Mode → Kind → List ℕ → ℕ → ℕ → Part
 literalPart m k s from to = record { sort = S.Of k; given = textIn m (readAs k (between s from to)) }

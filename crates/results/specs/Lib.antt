@@ -1,3 +1,5 @@
 pub mod Sorts
 pub mod Data
+pub mod Fitting
+pub mod Numbers
 pub mod Givens

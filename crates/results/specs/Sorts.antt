@@ -1,8 +1,7 @@
 -- Document 01, "Conditions": "Kinds are settled by the text alone. Only values of one kind are compared; `and`, `or` and the
 -- whole condition need truth values, which are never compared or added." Which kinds fit each operation of "Operations".
-use mathlib.Core.Bool.{Bool, true, false, not}
-use Prim.Native.Nat.{ℕ}
-use Rattle.basis.specs.Choice.{pick, both}
+use mathlib.Core.Bool.{Bool, true, false}
+use Rattle.basis.specs.Choice.{pick}
 use Rattle.value.specs.Kinds.{hasDate, hasTime}
 use Rattle.value.specs.declared.Kind.{Kind}
 use Rattle.value.specs.declared.Kind.the-variants as K

@@ -56,7 +56,7 @@ pub fn literal(mode: Mode, kind: Kind, s: &[u8], from: usize, to: usize) -> Give
 }
 
 fn read_field(kind: Kind, line: &[u8], n: usize) -> Given
-    ensures { λ r. ⌜ r ≡ the.givenOf (its.valued (the.readField kind (now (line .entry)) n)) ⌝ }
+    ensures { λ r. ⌜ r ≡ the.givenOf (its.valued (its.readField kind (now (line .entry)) n)) ⌝ }
 {
     if !timetable::fields::has_field(line, n) {
         return refused(Refusal::NO_FIELD);
@@ -66,7 +66,7 @@ fn read_field(kind: Kind, line: &[u8], n: usize) -> Given
 
 // The n-th field of the line.
 pub fn field(mode: Mode, kind: Kind, line: &[u8], n: usize) -> Given
-    ensures { λ r. ⌜ r ≡ the.fieldIn mode (the.readField kind (now (line .entry)) n) ⌝ }
+    ensures { λ r. ⌜ r ≡ the.fieldIn mode (its.readField kind (now (line .entry)) n) ⌝ }
 {
     match mode {
         Mode::Check => Given::Nothing,

@@ -33,8 +33,8 @@ use Rattle.words.specs.declared.Start.{Start}
 use Rattle.words.specs.declared.Start.the-variants as S
 use Rattle.words.specs.declared.Held.{Held}
 use Rattle.words.specs.declared.Held.the-variants as H
-use Rattle.words.specs.declared.Factor.{Factor}
-use Rattle.words.specs.declared.Factor.the-variants as F
+use Rattle.words.specs.declared.Multiplier.{Multiplier}
+use Rattle.words.specs.declared.Multiplier.the-variants as T
 
 -- n lies past a place, and within a text of so many bytes
 abbrev pub Past : ℕ → ℕ → ℕ → Type 0
@@ -59,10 +59,10 @@ PastHeld L at (H.Field i p n) = Past L at n
 PastHeld L at H.Bad = Unit {0}
 PastHeld L at H.Sum = Unit {0}
 
-abbrev pub PastFactor : ℕ → ℕ → Factor → Type 0
-PastFactor L at F.No = Unit {0}
-PastFactor L at F.Bad = Unit {0}
-PastFactor L at (F.At negative v p n) = Past L at n
+abbrev pub PastMultiplier : ℕ → ℕ → Multiplier → Type 0
+PastMultiplier L at T.No = Unit {0}
+PastMultiplier L at T.Bad = Unit {0}
+PastMultiplier L at (T.At negative v p n) = Past L at n
 
 -- what holds of both answers of a choice, each under its test, holds of the choice
 picked : {A : Type 0} (P : A → Type 0) (b : Bool) (x y : A) → (b ≡ true → P x) → (b ≡ false → P y) → P (pick b x y)
@@ -165,43 +165,43 @@ module _ (s : List ℕ) (at : ℕ) where
       (λ e. picked (PastHeld (length s) at) (eqb (getD s (skipped s at) 0) 36) _ _
       (λ f. field-past (skipped s at) (skips-from s at) (stands-at s (skipped s at) 36 f refl)) (λ f. tt))
 
-  whole-past : (b : Bool) (p d : ℕ) → at < d → d ≤ length s → PastFactor (length s) at (the.wholeOf b p d (run s d))
+  whole-past : (b : Bool) (p d : ℕ) → at < d → d ≤ length s → PastMultiplier (length s) at (the.wholeOf b p d (run s d))
   unfolding the.wholeOf
-  whole-past b p d h k = picked (PastFactor (length s) at) (leb 1 (run s d .count)) _ _
-      (λ e. picked (PastFactor (length s) at) (leb (run s d .count) 6) _ _ (λ f. (omega arith, run-le s d k)) (λ f. tt)) (λ e. tt)
+  whole-past b p d h k = picked (PastMultiplier (length s) at) (leb 1 (run s d .count)) _ _
+      (λ e. picked (PastMultiplier (length s) at) (leb (run s d .count) 6) _ _ (λ f. (omega arith, run-le s d k)) (λ f. tt)) (λ e. tt)
 
-  from-past : (p : ℕ) → at < p → p ≤ length s → PastFactor (length s) at (the.wholeFrom s p)
+  from-past : (p : ℕ) → at < p → p ≤ length s → PastMultiplier (length s) at (the.wholeFrom s p)
   unfolding the.wholeFrom
-  from-past p h k = picked (PastFactor (length s) at) (eqb (getD s p 0) 45) _ _
+  from-past p h k = picked (PastMultiplier (length s) at) (eqb (getD s p 0) 45) _ _
       (λ e. let j : p < length s = stands-at s p 45 e refl in whole-past true p (p + 1) (omega arith) (omega arith))
       (λ e. whole-past false p p h k)
 
-  pub factor-past : PastFactor (length s) at (the.factorAt s at)
-  unfolding the.factorAt
-  factor-past = picked (PastFactor (length s) at) (eqb (getD s (skipped s at) 0) 42) _ _
+  pub multiplier-past : PastMultiplier (length s) at (the.multiplierAt s at)
+  unfolding the.multiplierAt
+  multiplier-past = picked (PastMultiplier (length s) at) (eqb (getD s (skipped s at) 0) 42) _ _
       (λ e. let j : skipped s at < length s = stands-at s (skipped s at) 42 e refl in
       from-past (skipped s (skipped s at + 1)) (omega (arith, skips-from s at, skips-from s (skipped s at + 1)))
       (run-within Space s (skipped s at + 1) (omega arith))) (λ e. tt)
 
 -- at the end of a text no `*` stands, so none without its whole number
-pub star-at-end : (s : List ℕ) (at : ℕ) → length s ≤ at → the.factorAt s at ≡ F.Bad → ⊥
-unfolding the.factorAt
-star-at-end s at h = picked (λ x. x ≡ F.Bad → ⊥) (eqb (getD s (skipped s at) 0) 42) _ _
+pub star-at-end : (s : List ℕ) (at : ℕ) → length s ≤ at → the.multiplierAt s at ≡ T.Bad → ⊥
+unfolding the.multiplierAt
+star-at-end s at h = picked (λ x. x ≡ T.Bad → ⊥) (eqb (getD s (skipped s at) 0) 42) _ _
     (λ e f. let k : skipped s at < length s = stands-at s (skipped s at) 42 e refl in omega (arith, skips-from s at))
     (λ e f. let z : _≡_ {A = ℕ} 0 1 = cc in omega arith)
 
 -- a whole number of at most six digits is below 1,000,000
-abbrev pub Small : Factor → Type 0
-Small F.No = Unit {0}
-Small F.Bad = Unit {0}
-Small (F.At negative v p n) = v < 1000000
+abbrev pub Small : Multiplier → Type 0
+Small T.No = Unit {0}
+Small T.Bad = Unit {0}
+Small (T.At negative v p n) = v < 1000000
 
 whole-small : (s : List ℕ) (b : Bool) (p d : ℕ) → Small (the.wholeOf b p d (run s d))
 unfolding the.wholeOf
 whole-small s b p d = picked Small (leb 1 (run s d .count)) _ _
     (λ e. picked Small (leb (run s d .count) 6) _ _ (λ f. widened (run s d .value) (run s d .count) 6 (leb-true _ _ f) (run-lt s d)) (λ f. tt)) (λ e. tt)
 
-pub factor-small : (s : List ℕ) (at : ℕ) → Small (the.factorAt s at)
-unfolding the.factorAt the.wholeFrom
-factor-small s at = picked Small (eqb (getD s (skipped s at) 0) 42) _ _
+pub multiplier-small : (s : List ℕ) (at : ℕ) → Small (the.multiplierAt s at)
+unfolding the.multiplierAt the.wholeFrom
+multiplier-small s at = picked Small (eqb (getD s (skipped s at) 0) 42) _ _
     (λ e. picked Small (eqb (getD s (skipped s (skipped s at + 1)) 0) 45) _ _ (λ f. whole-small s true _ _) (λ f. whole-small s false _ _)) (λ e. tt)

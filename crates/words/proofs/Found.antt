@@ -32,8 +32,8 @@ use Rattle.words.specs.declared.Start.{Start}
 use Rattle.words.specs.declared.Start.the-variants as S
 use Rattle.words.specs.declared.Held.{Held}
 use Rattle.words.specs.declared.Held.the-variants as H
-use Rattle.words.specs.declared.Factor.{Factor}
-use Rattle.words.specs.declared.Factor.the-variants as F
+use Rattle.words.specs.declared.Multiplier.{Multiplier}
+use Rattle.words.specs.declared.Multiplier.the-variants as T
 
 -- a byte that is not 0 stands within the text
 pub stands : (s : List ℕ) (p x c : ℕ) → x ≡ getD s p 0 → x ≡ c → leb 1 c ≡ true → p < length s
@@ -104,18 +104,18 @@ module _ (s : List ℕ) (at p x : ℕ) (e : p ≡ skipped s at) (q : x ≡ getD 
   unfolding the.heldAt
   held-sum n h = rw (← e, ne-eqb _ _ (λ k. n (q ∙ k)), ne-eqb _ _ (λ k. h (q ∙ k)))
 
-  pub factor-no : (x ≡ 42 → ⊥) → F.No ≡ the.factorAt s at
-  unfolding the.factorAt
-  factor-no n = rw (← e, ne-eqb _ _ (λ k. n (q ∙ k)))
+  pub multiplier-no : (x ≡ 42 → ⊥) → T.No ≡ the.multiplierAt s at
+  unfolding the.multiplierAt
+  multiplier-no n = rw (← e, ne-eqb _ _ (λ k. n (q ∙ k)))
 
   module _ (h : x ≡ 42) (d y : ℕ) (f : d ≡ skipped s (p + 1)) (g : y ≡ getD s d 0) where
-    pub factor-minus : {r : Factor} → y ≡ 45 → r ≡ the.wholeOf true d (d + 1) (run s (d + 1)) → r ≡ the.factorAt s at
-    unfolding the.factorAt the.wholeFrom
-    factor-minus i j = rw (← e, eq-eqb _ _ (sym q ∙ h), ← f, eq-eqb _ _ (sym g ∙ i)) j
+    pub multiplier-minus : {r : Multiplier} → y ≡ 45 → r ≡ the.wholeOf true d (d + 1) (run s (d + 1)) → r ≡ the.multiplierAt s at
+    unfolding the.multiplierAt the.wholeFrom
+    multiplier-minus i j = rw (← e, eq-eqb _ _ (sym q ∙ h), ← f, eq-eqb _ _ (sym g ∙ i)) j
 
-    pub factor-plain : {r : Factor} → (y ≡ 45 → ⊥) → r ≡ the.wholeOf false d d (run s d) → r ≡ the.factorAt s at
-    unfolding the.factorAt the.wholeFrom
-    factor-plain i j = rw (← e, eq-eqb _ _ (sym q ∙ h), ← f, ne-eqb _ _ (λ k. i (g ∙ k))) j
+    pub multiplier-plain : {r : Multiplier} → (y ≡ 45 → ⊥) → r ≡ the.wholeOf false d d (run s d) → r ≡ the.multiplierAt s at
+    unfolding the.multiplierAt the.wholeFrom
+    multiplier-plain i j = rw (← e, eq-eqb _ _ (sym q ∙ h), ← f, ne-eqb _ _ (λ k. i (g ∙ k))) j
 
 -- after a mark, spaces are skipped within the text
 pub skips-within : (s : List ℕ) (p x c d : ℕ) → x ≡ getD s p 0 → x ≡ c → leb 1 c ≡ true → d ≡ skipped s (p + 1) → d ≤ length s
@@ -180,11 +180,11 @@ module _ (s : List ℕ) (negative : Bool) (from at : ℕ) (r : Run) (f : Found s
   pub whole-from : at ≤ r .end
   whole-from = omega (arith, f .ends)
 
-  pub whole-none : r .end - at < 1 → F.Bad ≡ the.wholeOf negative from at (run s at)
+  pub whole-none : r .end - at < 1 → T.Bad ≡ the.wholeOf negative from at (run s at)
   unfolding the.wholeOf
   whole-none h = let k : run s at .count < 1 = omega (arith, f .ends) in rw (lt-leb _ _ k)
 
-  pub whole-long : 1 ≤ r .end - at → 6 < r .end - at → F.Bad ≡ the.wholeOf negative from at (run s at)
+  pub whole-long : 1 ≤ r .end - at → 6 < r .end - at → T.Bad ≡ the.wholeOf negative from at (run s at)
   unfolding the.wholeOf
   whole-long g h = let k : 6 < run s at .count = omega (arith, f .ends) in let j : 1 ≤ run s at .count = omega arith in
       rw (le-leb _ _ j, lt-leb _ _ k)
@@ -195,7 +195,7 @@ module _ (s : List ℕ) (negative : Bool) (from at : ℕ) (r : Run) (f : Found s
   pub whole-fits : r .end - at ≤ 6 → r .value < 4294967296
   whole-fits h = omega (arith, f .capped)
 
-  pub whole-is : 1 ≤ r .end - at → r .end - at ≤ 6 → F.At negative (r .value) from (r .end) ≡ the.wholeOf negative from at (run s at)
+  pub whole-is : 1 ≤ r .end - at → r .end - at ≤ 6 → T.At negative (r .value) from (r .end) ≡ the.wholeOf negative from at (run s at)
   unfolding the.wholeOf
   whole-is g h = let k : run s at .count ≤ 6 = omega (arith, f .ends) in let j : 1 ≤ run s at .count = omega (arith, f .ends) in
       let v : r .value ≡ run s at .value = omega (arith, f .capped, whole-small h) in

@@ -1,11 +1,11 @@
 -- Document 01, "Conditions": the symbols of a condition, each where it is looked for: at the first place that holds no space.
 -- A place that is given with a symbol is that of its first byte, and the last number is the place after it.
 use mathlib.Core.Bool.{Bool, true, false}
-use mathlib.Core.List.{List, [], _∷_}
-use Prim.Native.Nat.{ℕ, _+_, _-_}
+use mathlib.Core.List.{List}
+use Prim.Native.Nat.{ℕ, _+_}
 use lib.Dec.{leb, ltb, eqb}
 use lib.ListN.{length, getD}
-use Rattle.basis.specs.Choice.{pick, both}
+use Rattle.basis.specs.Choice.{pick}
 use Rattle.basis.specs.Letters.{bytes}
 use Rattle.numerals.specs.Reading.{Number, run}
 use Rattle.value.specs.declared.Kind.{Kind}
@@ -24,8 +24,8 @@ use Rattle.words.specs.declared.Start.{Start}
 use Rattle.words.specs.declared.Start.the-variants as S
 use Rattle.words.specs.declared.Held.{Held}
 use Rattle.words.specs.declared.Held.the-variants as H
-use Rattle.words.specs.declared.Factor.{Factor}
-use Rattle.words.specs.declared.Factor.the-variants as F
+use Rattle.words.specs.declared.Multiplier.{Multiplier}
+use Rattle.words.specs.declared.Multiplier.the-variants as T
 
 abbrev pub opening : ℕ
 opening = 40
@@ -121,12 +121,12 @@ heldAt s at =
 abbrev pub maxDigits : ℕ
 maxDigits = 6
 
-unfoldable pub wholeOf : Bool → ℕ → ℕ → Number → Factor
+unfoldable pub wholeOf : Bool → ℕ → ℕ → Number → Multiplier
 wholeOf negative from digits n =
-    pick (leb 1 (n .count)) (pick (leb (n .count) maxDigits) (F.At negative (n .value) from (digits + n .count)) F.Bad) F.Bad
+    pick (leb 1 (n .count)) (pick (leb (n .count) maxDigits) (T.At negative (n .value) from (digits + n .count)) T.Bad) T.Bad
 
-unfoldable pub wholeFrom : List ℕ → ℕ → Factor
+unfoldable pub wholeFrom : List ℕ → ℕ → Multiplier
 wholeFrom s p = pick (eqb (getD s p 0) 45) (wholeOf true p (p + 1) (run s (p + 1))) (wholeOf false p p (run s p))
 
-unfoldable pub factorAt : List ℕ → ℕ → Factor
-factorAt s at = pick (eqb (getD s (skipped s at) 0) 42) (wholeFrom s (skipped s (skipped s at + 1))) F.No
+unfoldable pub multiplierAt : List ℕ → ℕ → Multiplier
+multiplierAt s at = pick (eqb (getD s (skipped s at) 0) 42) (wholeFrom s (skipped s (skipped s at + 1))) T.No

@@ -51,8 +51,9 @@ pub enum Start {
     Make(Kind, usize, usize),
 }
 
-// What a constructor's parentheses hold: a text's bytes from a place to a place, a field's number and place, what is neither
-// and no sum, or perhaps a sum. The last number is the place after it.
+// What stands in a constructor's parentheses. Text: a text in quotes, by the places between which its bytes stand. Field: a
+// field, by its number and the place of its `$`. Bad: a quote or a `$` with which no such text or field begins. Sum: anything
+// else, which is then read as a sum. The last number is the place after it.
 pub enum Held {
     Text(usize, usize, usize),
     Field(usize, usize, usize),
@@ -60,9 +61,9 @@ pub enum Held {
     Sum,
 }
 
-// A `*` with a whole number after it: whether it is negative, its digits' number, its place and the place after it. Bad is a
-// `*` with none.
-pub enum Factor {
+// A `*` and the whole number after it: whether that is negative, what its digits say, its place and the place after it. Bad is a
+// `*` without a whole number.
+pub enum Multiplier {
     No,
     Bad,
     At(bool, u32, usize, usize),

@@ -1,9 +1,9 @@
 // The symbol at a place, after any spaces.
 use crate::Class;
-use crate::Factor;
 use crate::Held;
 use crate::Joint;
 use crate::Mark;
+use crate::Multiplier;
 use crate::Named;
 use crate::Op;
 use crate::Start;
@@ -15,7 +15,7 @@ use numerals::byte;
 use numerals::digits;
 use value::Kind;
 ghost use mathlib.Core.Path.{_≡_};
-ghost use Prim.Native.Nat.{ℕ, _+_, _≤_};
+ghost use Prim.Native.Nat.{_+_, _≤_};
 ghost use mathlib.Core.Bool.{true};
 ghost use lib.Dec.{leb};
 ghost use lib.ListN.{length};
@@ -210,28 +210,28 @@ pub fn held(s: &[u8], at: usize) -> Held
 }
 
 // A whole number at a place, whose digits begin at another.
-fn whole(s: &[u8], negative: bool, from: usize, at: usize) -> Factor
+fn whole(s: &[u8], negative: bool, from: usize, at: usize) -> Multiplier
     requires { ⌜ at ≤ length (now s) ⌝ }
     ensures { λ r. ⌜ r ≡ the.wholeOf negative from at (run (now (s .entry)) at) ⌝ }
 {
     let n = digits(s, at, BEYOND_DIGITS);
     let end = n.end;
     if end - at < 1 {
-        return Factor::Bad;
+        return Multiplier::Bad;
     }
     if MAX_DIGITS < end - at {
-        return Factor::Bad;
+        return Multiplier::Bad;
     }
-    Factor::At(negative, n.value as u32, from, end)
+    Multiplier::At(negative, n.value as u32, from, end)
 }
 
 // A `*` and the whole number after it.
-pub fn factor(s: &[u8], at: usize) -> Factor
-    ensures { λ r. ⌜ r ≡ the.factorAt (now (s .entry)) at ⌝ }
+pub fn multiplier(s: &[u8], at: usize) -> Multiplier
+    ensures { λ r. ⌜ r ≡ the.multiplierAt (now (s .entry)) at ⌝ }
 {
     let star = skip(s, at);
     if byte(s, star) != b'*' {
-        return Factor::No;
+        return Multiplier::No;
     }
     let p = skip(s, star + 1);
     if byte(s, p) == b'-' {

@@ -5,39 +5,30 @@ use Rattle.condition.proofs.judged_of.Tie as tie
 use Rattle.condition.proofs.judged_of.Reads as reads
 use Rattle.condition.proofs.judged_of.Lts as lts
 
--- src/lib.rt:89:46
 enum-told : tie.Need-enum-told
 enum-told c = search needs
 
--- src/lib.rt:90:44
 enum-told-2 : tie.Need-enum-told-2
 enum-told-2 c = search needs
 
--- src/lib.rt:91:22
 enum-known-given : tie.Need-enum-known-given
 enum-known-given c = search needs
 
--- src/lib.rt:93:17
 returns : tie.Need-returns
 returns c = search (shows-nothing, shows-value, shows-hit, shows-miss, shows-refused)
 
--- src/lib.rt:97:24
 enum-known-given-2 : tie.Need-enum-known-given-2
 enum-known-given-2 c = search needs
 
--- src/lib.rt:85:1
 returns-2 : tie.Need-returns-2
 returns-2 c = search (shows-nothing, shows-value, shows-hit, shows-miss, shows-refused)
 
--- src/lib.rt:85:1
 returns-3 : tie.Need-returns-3
 returns-3 c = search (shows-nothing, shows-value, shows-hit, shows-miss, shows-refused)
 
--- src/lib.rt:85:1
 returns-4 : tie.Need-returns-4
 returns-4 c = search (shows-nothing, shows-value, shows-hit, shows-miss, shows-refused)
 
--- src/lib.rt:85:1
 returns-5 : tie.Need-returns-5
 returns-5 c = search (shows-nothing, shows-value, shows-hit, shows-miss, shows-refused)
 

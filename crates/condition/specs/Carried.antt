@@ -1,0 +1,20 @@
+-- What the part that was read says, which the code carries in place of a tree: of its literals where it was checked, of the line
+-- where it was evaluated. No contract of a public call rests on this file.
+use Rattle.basis.specs.Choice.{pick}
+use Rattle.basis.specs.Answer.{Answer, gives, refuses}
+use Rattle.value.specs.Refusals.{wrongKind}
+use Rattle.results.specs.declared.Given.{Given}
+use Rattle.results.specs.declared.Given.the-variants.{Nothing, Is, Truth, Refused}
+use Rattle.condition.specs.Condition.{Result, hit, miss, unreadable}
+
+unfoldable pub literals : Given → Answer (Unit {0})
+literals Nothing = gives tt
+literals (Is v) = gives tt
+literals (Truth x) = gives tt
+literals (Refused r) = refuses (r .number)
+
+unfoldable pub resulting : Given → Result
+resulting Nothing = unreadable wrongKind
+resulting (Is v) = unreadable wrongKind
+resulting (Truth x) = pick x hit miss
+resulting (Refused r) = unreadable (r .number)

@@ -1,0 +1,123 @@
+-- What the code carries of each part is what the definitions give of its tree: in each mode the code's operations meet those
+-- on trees.
+use mathlib.Core.Path.{_≡_, refl, sym, ap, _∙_}
+use mathlib.Core.Bool.{Bool, true, false}
+use mathlib.Core.List.{List}
+use Prim.Native.Nat.{ℕ}
+use Rattle.basis.specs.Choice.{pick}
+use Rattle.basis.specs.Answer.{Answer, gives, refuses}
+use Rattle.value.specs.declared.Kind.{Kind}
+use Rattle.value.specs.declared.Value.{Value}
+use Rattle.words.specs.declared.Op.{Op}
+use Rattle.text.specs.Reading.{readAs}
+use Rattle.words.specs.Runs.{between}
+use Rattle.results.specs.Data.{Datum, value, truth, valued, readField, applied, settles, settled, onto, joined, castDatum, timesDatum}
+use Rattle.results.specs.Givens.{givenOf, badOf, textIn, fieldIn, literalPart, fieldPart, castGiven, timesGiven, rightGiven, refusedGiven, twoGiven, rightMode, afterGiven, castPart, timesPart, twoPart, afterPart}
+use Rattle.results.specs.declared.Sort.{Sort}
+use Rattle.results.specs.declared.Given.{Given}
+use Rattle.results.specs.declared.Given.the-variants as G
+use Rattle.results.specs.declared.Part.{Part}
+use Rattle.results.specs.declared.Mode.{Mode}
+use Rattle.results.specs.declared.Mode.the-variants.{Check, Live, Dead}
+use Rattle.reading.specs.Trees.{Tree, leaf, one, two, literal, field, cast, times, sortOf, fits, first, firstBad, eval}
+use Rattle.reading.specs.Readers.{parts, givenIn, partOf}
+use Rattle.reading.proofs.Folds.{Meets}
+
+with-given : (x : Sort) (g h : Given) → g ≡ h → _≡_ {A = Part} (record { sort = x; given = g }) (record { sort = x; given = h })
+with-given x g h e = ap (λ y. record { sort = x; given = y }) e
+
+bad-fits : {A : Type 0} (a : Answer A) → badOf a ≡ badOf (fits a)
+unfolding fits
+bad-fits (gives v) = refl
+bad-fits (refuses n) = refl
+
+cast-bad : (k : Kind) (a : Answer (Unit {0})) → castGiven k (badOf a) ≡ badOf a
+cast-bad k (gives x) = refl
+cast-bad k (refuses n) = refl
+
+cast-live : (k : Kind) (a : Answer Datum) → castGiven k (givenOf a) ≡ givenOf (onto a (castDatum k))
+unfolding onto
+cast-live k (gives (value v)) = refl
+cast-live k (gives (truth x)) = refl
+cast-live k (refuses n) = refl
+
+times-bad : (b : Bool) (n : ℕ) (a : Answer (Unit {0})) → timesGiven b n (badOf a) ≡ badOf a
+times-bad b n (gives x) = refl
+times-bad b n (refuses m) = refl
+
+times-live : (b : Bool) (n : ℕ) (a : Answer Datum) → timesGiven b n (givenOf a) ≡ givenOf (onto a (timesDatum b n))
+unfolding onto
+times-live b n (gives (value v)) = refl
+times-live b n (gives (truth x)) = refl
+times-live b n (refuses m) = refl
+
+right-live : (o : Op) (x : Datum) (a : Answer Datum) → rightGiven o x (givenOf a) ≡ givenOf (onto a (applied o x))
+unfolding onto
+right-live o x (gives (value v)) = refl
+right-live o x (gives (truth y)) = refl
+right-live o x (refuses n) = refl
+
+refused-bad : (a : Answer (Unit {0})) → refusedGiven (badOf a) ≡ badOf a
+refused-bad (gives x) = refl
+refused-bad (refuses n) = refl
+
+module _ (s line : List ℕ) where
+  literal-carried : (m : Mode) (k : Kind) (w from to : ℕ) → textIn m (readAs k (between s from to)) ≡ givenIn s line m (leaf k w (literal from to))
+  unfolding givenIn firstBad eval
+  literal-carried Check k w from to = bad-fits (readAs k (between s from to))
+  literal-carried Live k w from to = refl
+  literal-carried Dead k w from to = refl
+
+  field-carried : (m : Mode) (k : Kind) (w n p : ℕ) → fieldIn m (readField k line n) ≡ givenIn s line m (leaf k w (field n p))
+  unfolding givenIn firstBad eval
+  field-carried Check k w n p = refl
+  field-carried Live k w n p = refl
+  field-carried Dead k w n p = refl
+
+  cast-carried : (m : Mode) (k : Kind) (w : ℕ) (t : Tree) → castGiven k (givenIn s line m t) ≡ givenIn s line m (one (cast k) w t)
+  unfolding givenIn firstBad eval
+  cast-carried Check k w t = cast-bad k (firstBad s t)
+  cast-carried Live k w t = cast-live k (eval s line t)
+  cast-carried Dead k w t = refl
+
+  times-carried : (m : Mode) (b : Bool) (v p : ℕ) (t : Tree) → timesGiven b v (givenIn s line m t) ≡ givenIn s line m (one (times b v) p t)
+  unfolding givenIn firstBad eval
+  times-carried Check b v p t = times-bad b v (firstBad s t)
+  times-carried Live b v p t = times-live b v (eval s line t)
+  times-carried Dead b v p t = refl
+
+  -- the right side of an operator, checked or evaluated after its left side
+  two-bad : (o : Op) (a : Answer (Unit {0})) (u : Tree) → twoGiven o (badOf a) (givenIn s line (afterGiven o Check (badOf a)) u) ≡ badOf (first a (firstBad s u))
+  unfolding givenIn first
+  two-bad o (gives x) u = refused-bad (firstBad s u)
+  two-bad o (refuses n) u = refl
+
+  settled-live : (o : Op) (x : Bool) (u : Tree) (b : Bool) → pick b (G.Truth x) (rightGiven o (truth x) (givenIn s line (pick b Dead Live) u)) ≡
+      givenOf (pick b (gives (truth x)) (onto (eval s line u) (applied o (truth x))))
+  unfolding givenIn
+  settled-live o x u true = refl
+  settled-live o x u false = right-live o (truth x) (eval s line u)
+
+  two-live : (o : Op) (a : Answer Datum) (u : Tree) → twoGiven o (givenOf a) (givenIn s line (afterGiven o Live (givenOf a)) u) ≡ givenOf (joined o a (eval s line u))
+  unfolding givenIn joined onto
+  two-live o (gives (value v)) u = right-live o (value v) (eval s line u)
+  two-live o (gives (truth x)) u = settled-live o x u (settles o x)
+  two-live o (refuses n) u = refl
+
+  two-carried : (m : Mode) (o : Op) (b p : ℕ) (t u : Tree) →
+      twoGiven o (givenIn s line m t) (givenIn s line (afterGiven o m (givenIn s line m t)) u) ≡ givenIn s line m (two o b p t u)
+  unfolding givenIn firstBad eval
+  two-carried Check o b p t u = two-bad o (firstBad s t) u
+  two-carried Live o b p t u = two-live o (eval s line t) u
+  two-carried Dead o b p t u = refl
+
+  pub code-meets : Meets Part Mode (parts s line) (partOf s line)
+  unfolding sortOf literalPart fieldPart castPart timesPart twoPart afterPart
+  code-meets =
+      record {
+        a-literal = λ m k w from to. with-given _ _ _ (literal-carried m k w from to);
+        a-field = λ m k w n p. with-given _ _ _ (field-carried m k w n p);
+        a-cast = λ m k w t. with-given _ _ _ (cast-carried m k w t);
+        a-times = λ m b v p t. with-given _ _ _ (times-carried m b v p t);
+        a-two = λ m o b p t u. with-given _ _ _ (two-carried m o b p t u);
+      }

@@ -1,0 +1,56 @@
+-- The ways out of the reader of the whole text.
+use mathlib.Core.Path.{_≡_, refl, sym, ap, _∙_}
+use mathlib.Core.List.{List}
+use Prim.Native.Nat.{ℕ, _<_, _≤_}
+use native.Mathlib.Omega.{arith}
+use lib.ListN.{length}
+use borrow.Author.Tests.{le-leb, lt-leb}
+use Rattle.words.specs.Runs.{skipped}
+use Rattle.words.specs.Depth.{maxDepth}
+use Rattle.results.specs.declared.Part.{Part}
+use Rattle.results.specs.declared.Mode.{Mode}
+use Rattle.reading.specs.Grammar.{Parsed, none, got, condition}
+use Rattle.reading.specs.Trees.{Tree, trees, whole, parse}
+use Rattle.reading.specs.Readers.{told, parts, conditionRead, partOf, readOf}
+use Rattle.reading.specs.declared.Read.{Read}
+use Rattle.reading.specs.declared.Read.the-variants.{Bad, Got}
+use Rattle.reading.proofs.Folds.{each, grammar-folds}
+use Rattle.reading.proofs.Carried.{code-meets}
+
+pub no-part : {A : Type 0} (v : Part) (n : ℕ) → Bad ≡ Got v n → A
+no-part v n e = let z : _≡_ {A = ℕ} 0 1 = cc in absurd (omega arith)
+
+-- the reader of the whole text
+module _ (s line : List ℕ) (m : Mode) where
+  carried : conditionRead maxDepth s line 0 m ≡ told (each (partOf s line m) (condition Tree (Unit {0}) trees s maxDepth 0 tt))
+  unfolding conditionRead
+  carried = ap told (grammar-folds Part Mode (parts s line) s (partOf s line) (code-meets s line) maxDepth 0 m)
+
+  fails : (p : Parsed Tree) → Bad ≡ told (each (partOf s line m) p) → Bad ≡ readOf s line m (whole s p)
+  unfolding readOf
+  fails none e = refl
+  fails (got t k) e = no-part (partOf s line m t) k e
+
+  goes-on : (v : Part) (n : ℕ) (p : Parsed Tree) → Got v n ≡ told (each (partOf s line m) p) → skipped s n < length s → Bad ≡ readOf s line m (whole s p)
+  unfolding readOf
+  goes-on v n none e h = refl
+  goes-on v n (got t k) e h = let q : n ≡ k = cc in let h′ : skipped s k < length s = rw q at h in rw (lt-leb _ _ h′)
+
+  ends : (v : Part) (n : ℕ) (p : Parsed Tree) → Got v n ≡ told (each (partOf s line m) p) → length s ≤ skipped s n → Got v n ≡ readOf s line m (whole s p)
+  unfolding readOf
+  ends v n none e h = no-part v n (sym e)
+  ends v n (got t k) e h = let q : n ≡ k = cc in let h′ : length s ≤ skipped s k = rw q at h in rw (le-leb _ _ h′) e
+
+  module _ (g : Read) (e : g ≡ conditionRead maxDepth s line 0 m) where
+    pub whole-bad : g ≡ Bad → Bad ≡ readOf s line m (parse s)
+    unfolding parse
+    whole-bad b = fails (condition Tree (Unit {0}) trees s maxDepth 0 tt) (sym b ∙ e ∙ carried)
+
+    module _ (v : Part) (n k : ℕ) (b : g ≡ Got v n) (q : k ≡ skipped s n) where
+      pub whole-more : k < length s → Bad ≡ readOf s line m (parse s)
+      unfolding parse
+      whole-more h = goes-on v n (condition Tree (Unit {0}) trees s maxDepth 0 tt) (sym b ∙ e ∙ carried) (rw q at h)
+
+      pub whole-got : length s ≤ k → Got v n ≡ readOf s line m (parse s)
+      unfolding parse
+      whole-got h = ends v n (condition Tree (Unit {0}) trees s maxDepth 0 tt) (sym b ∙ e ∙ carried) (rw q at h)

@@ -1,0 +1,13 @@
+-- Document 01, "Refusal numbers": the numbers that a value's text can be refused with, and those that a line's result can have.
+use mathlib.Core.Bool.{Bool, true}
+use Prim.Native.Nat.{ℕ}
+use lib.Dec.{eqb}
+use Rattle.basis.specs.Choice.{pick}
+
+-- 1 no shape, or bad calendar or clock; 2 beyond bounds; 3 over six fraction digits
+abbrev pub ofText : ℕ → Bool
+ofText n = pick (eqb n 1) true (pick (eqb n 2) true (eqb n 3))
+
+-- those of a field's text, 4 of arithmetic, and 6 where the line has too few fields
+abbrev pub atLine : ℕ → Bool
+atLine n = pick (eqb n 1) true (pick (eqb n 2) true (pick (eqb n 3) true (pick (eqb n 4) true (eqb n 6))))
