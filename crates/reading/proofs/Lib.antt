@@ -6,3 +6,4 @@ pub mod Folds
 pub mod Carried
 pub mod Wholes
 pub mod Keeps
+pub mod Allowance

@@ -1,7 +1,8 @@
 -- Document 01, "Conditions": the tree that a text states, the sort that the text alone settles, the leftmost bad literal,
 -- and what the tree gives at a line.
-use Prim.Native.Nat.{ℕ}
-use mathlib.Core.Bool.{Bool}
+use mathlib.Core.Path.{_≡_}
+use Prim.Native.Nat.{ℕ, _≤_}
+use mathlib.Core.Bool.{Bool, false}
 use mathlib.Core.List.{List}
 use lib.ListN.{length}
 use lib.Dec.{leb}
@@ -10,7 +11,7 @@ use Rattle.basis.specs.Answer.{Answer, gives, refuses}
 use Rattle.value.specs.declared.Kind.{Kind}
 use Rattle.text.specs.Reading.{readAs}
 use Rattle.words.specs.Runs.{skipped, between}
-use Rattle.words.specs.Depth.{maxDepth}
+use Rattle.words.specs.Depth.{maxDepth, deep}
 use Rattle.words.specs.declared.Op.{Op}
 use Rattle.results.specs.Sorts.{sortTwo, sortCast, sortTimes}
 use Rattle.results.specs.Data.{Datum, valued, readField, onto, joined, castDatum, timesDatum}
@@ -49,8 +50,17 @@ trees =
 abbrev pub whole : {X : Type 0} → List ℕ → Parsed X → Parsed X
 whole s p = then p (λ x n. pick (leb (length s) (skipped s n)) (got x n) none)
 
+-- the tree that a text states, where so many parentheses may be opened within one another
+abbrev pub parseWith : ℕ → List ℕ → Parsed Tree
+parseWith d s = whole s (condition Tree (Unit {0}) trees s d 0 tt)
+
 unfoldable pub parse : List ℕ → Parsed Tree
-parse s = whole s (condition Tree (Unit {0}) trees s maxDepth 0 tt)
+parse s = parseWith maxDepth s
+
+-- the sixteen of `parse` never decide: a text that is not too deep (which Open asks first) states the same tree, or none, with any
+-- greater number; proved as `allowance-never-decides`
+abbrev pub AllowanceNeverDecides : Type 0
+AllowanceNeverDecides = (s : List ℕ) (d : ℕ) → deep s ≡ false → maxDepth ≤ d → parseWith d s ≡ parse s
 
 -- "Kinds are settled by the text alone."
 unfoldable pub sortOf : Tree → Sort

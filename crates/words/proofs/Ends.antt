@@ -65,11 +65,11 @@ PastMultiplier L at T.Bad = Unit {0}
 PastMultiplier L at (T.At negative v p n) = Past L at n
 
 -- what holds of both answers of a choice, each under its test, holds of the choice
-picked : {A : Type 0} (P : A → Type 0) (b : Bool) (x y : A) → (b ≡ true → P x) → (b ≡ false → P y) → P (pick b x y)
+pub picked : {A : Type 0} (P : A → Type 0) (b : Bool) (x y : A) → (b ≡ true → P x) → (b ≡ false → P y) → P (pick b x y)
 picked P true x y p q = p refl
 picked P false x y p q = q refl
 
-stands-at : (s : List ℕ) (p c : ℕ) → eqb (getD s p 0) c ≡ true → leb 1 c ≡ true → p < length s
+pub stands-at : (s : List ℕ) (p c : ℕ) → eqb (getD s p 0) c ≡ true → leb 1 c ≡ true → p < length s
 stands-at s p c e k = within s p c (eqb-true _ _ e) (leb-true 1 c k)
 
 skips-from : (s : List ℕ) (at : ℕ) → at ≤ skipped s at

@@ -4,3 +4,4 @@ pub mod Sameness
 pub mod Depths
 pub mod Found
 pub mod Ends
+pub mod Levels
