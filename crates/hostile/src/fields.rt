@@ -5,25 +5,14 @@ use crate::numbers::read;
 use timetable::fields::field;
 use timetable::fields::has_field;
 ghost use mathlib.Core.Path.{_≡_};
-ghost use Prim.Native.Nat.{_+_, _^_, _≤_, _<_};
+ghost use Prim.Native.Nat.{_≤_};
 ghost use Rattle.hostile.specs.Fields as the;
-
-// Whether a line has so many fields, and no more.
-pub fn exactly(line: &[u8], n: usize) -> bool
-    requires { ⌜ n + 1 < 2 ^ 64 ⌝ }
-    ensures { λ r. ⌜ r ≡ the.exactly (now (line .entry)) n ⌝ }
-{
-    if !has_field(line, n) {
-        return false;
-    }
-    !has_field(line, n + 1)
-}
 
 // The number of an event that has a number alone.
 pub fn lone_number(line: &[u8], most: u64) -> Number
     ensures { λ r. ⌜ (r ≡ the.loneNumber most (now (line .entry))) × (r .value ≤ most) ⌝ }
 {
-    if !exactly(line, 2) {
+    if has_field(line, 3) {
         return none();
     }
     read(field(line, 2), most)

@@ -26,12 +26,17 @@ pub fn fresh(desk: Desk, line: &[u8]) -> Desk {
     next
 }
 
-pub fn open(desk: Desk, line: &[u8]) -> Desk {
-    let after = desk.open(after_tab(line));
+// Opens a condition.
+fn opened(desk: Desk, text: &[u8]) -> Desk {
+    let after = desk.open(text);
     let answer = after.answer;
     tell_open(answer);
     let next = after.desk;
     next
+}
+
+pub fn open(desk: Desk, line: &[u8]) -> Desk {
+    opened(desk, after_tab(line))
 }
 
 pub fn close(desk: Desk, line: &[u8]) -> Desk {

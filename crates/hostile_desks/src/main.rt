@@ -2,6 +2,10 @@
 // reads and writes; the answers are those of crates `desk` and `lines`.
 use desk::Desk;
 use hostile::fields::lone_number;
+use hostile::names::Bare;
+use hostile::names::Wide;
+use hostile::names::bare_word;
+use hostile::names::wide_word;
 use libc::STDIN_FILENO;
 use libc::STDOUT_FILENO;
 use line_reader::read_line;
@@ -28,49 +32,35 @@ struct Stand {
 }
 
 // An event of one word.
-fn bare_event(desk: Desk, t: &[u8], word: &[u8]) -> Desk {
-    if same(word, b"turn") {
-        return calling::turn(desk, t);
+fn bare_event(desk: Desk, t: &[u8], word: Bare) -> Desk {
+    match word {
+        Bare::Turn => calling::turn(desk, t),
+        Bare::Sound => calling::sound(desk),
+        Bare::Show => showing::show(desk),
+        Bare::No => setting::no_event(desk),
     }
-    if same(word, b"sound") {
-        return calling::sound(desk);
-    }
-    if same(word, b"show") {
-        return showing::show(desk);
-    }
-    setting::no_event(desk)
 }
 
 // An event of several fields.
-fn wide_event(desk: Desk, t: &[u8], line: &[u8], word: &[u8]) -> Desk {
-    if same(word, b"fresh") {
-        return calling::fresh(desk, line);
+fn wide_event(desk: Desk, t: &[u8], line: &[u8], word: Wide) -> Desk {
+    match word {
+        Wide::Fresh => calling::fresh(desk, line),
+        Wide::Open => calling::open(desk, line),
+        Wide::Close => calling::close(desk, line),
+        Wide::Turns => calling::turns(desk, t, line),
+        Wide::Set => setting::set(desk, line),
+        Wide::Seat => setting::seat(desk, line),
+        Wide::No => setting::no_event(desk),
     }
-    if same(word, b"open") {
-        return calling::open(desk, line);
-    }
-    if same(word, b"close") {
-        return calling::close(desk, line);
-    }
-    if same(word, b"turns") {
-        return calling::turns(desk, t, line);
-    }
-    if same(word, b"set") {
-        return setting::set(desk, line);
-    }
-    if same(word, b"seat") {
-        return setting::seat(desk, line);
-    }
-    setting::no_event(desk)
 }
 
 // The desk after an event on it.
 fn desk_after(desk: Desk, t: &[u8], line: &[u8]) -> Desk {
     let word = field(line, 1);
     if has_field(line, 2) {
-        return wide_event(desk, t, line, word);
+        return wide_event(desk, t, line, wide_word(word));
     }
-    bare_event(desk, t, word)
+    bare_event(desk, t, bare_word(word))
 }
 
 // The part of a file of `long` bytes after an event that asks for another.
