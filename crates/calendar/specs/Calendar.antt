@@ -55,7 +55,7 @@ abbrev pub dayOf : Date → ℕ
 dayOf d = dayNumber (d .year) (d .month) (d .day)
 
 -- Runs of f i, f (i + 1), .. days: the run in which the day numbered n lies, and its number there. At most `fuel` runs
--- are passed. (`elim`, not `pick`: a worked case then computes no further than the day's run.)
+-- are passed.
 pub record Place : Type 0 where
   pub run : ℕ
   pub left : ℕ

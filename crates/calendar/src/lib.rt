@@ -1,11 +1,14 @@
 // The proleptic Gregorian calendar of document 01: the leap rule, the lengths of the months, the day number of a date
 // and the date of a day number. Days are counted from 0000-01-01, so that no number here is below zero.
 ghost use mathlib.Core.Path.{_≡_};
-ghost use Prim.Native.Nat.{ℕ, _+_, _-_, _*_, _≤_, _<_};
+ghost use Prim.Native.Nat.{_+_, _-_, _≤_, _<_};
 ghost use Rattle.calendar.specs.Calendar.{leapRow, monthDays, monthRow, yearDays, monthCount, total, GoodDate, dayOf, dateIn, datedOf};
 
+// A year has so many months.
+pub const MONTH_COUNT: usize = 12;
+
 // The lengths of the months, the ordinary year's row and the leap year's.
-const MONTHS: [[u8; 12]; 2] = [
+const MONTHS: [[u8; MONTH_COUNT]; 2] = [
     [31, 28, 31, 30, 31, 30, 31, 31, 30, 31, 30, 31],
     [31, 29, 31, 30, 31, 30, 31, 31, 30, 31, 30, 31],
 ];

@@ -51,7 +51,7 @@ fractionOf i n =
 unfoldable pub fractionAt : List ℕ → ℕ → Fraction
 fractionAt s i = fractionOf i (run s i)
 
--- the letters by which a text is read have no byte 0 among them, which would stand past every end
+-- the letters by which a text is read have no byte 0 among them: past its end every text has a byte 0
 unfoldable pub marked : List ℕ → Bool
 marked [] = true
 marked (c ∷ cs) = both (leb 1 c) (marked cs)

@@ -27,7 +27,7 @@ shortest (suc k) n = pick (ltb n 10) ((48 + n) ∷ []) (shortest k (n / 10) ++ (
 unfoldable pub decimal : ℕ → List ℕ
 decimal n = shortest (suc n) n
 
--- a number of k digits less its final zeros
+-- a number of k digits without its final zeros
 unfoldable pub stripped : ℕ → ℕ → Kept
 stripped zero n = record { value = n; count = 0 }
 stripped (suc k) n = pick (eqb (n % 10) 0) (stripped k (n / 10)) (record { value = n; count = suc k })

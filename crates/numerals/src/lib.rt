@@ -1,8 +1,8 @@
 // Digits read and written, and the text that a value is written into.
 ghost use mathlib.Core.Path.{_≡_};
-ghost use mathlib.Core.List.{List, [], _∷_, _++_};
-ghost use Prim.Native.Nat.{ℕ, _+_, _-_, _*_, _≤_, _<_, _^_, min};
-ghost use lib.ListN.{length, getD, drop};
+ghost use mathlib.Core.List.{[], _∷_};
+ghost use Prim.Native.Nat.{_+_, _*_, _≤_, _<_, _^_, min};
+ghost use lib.ListN.{length};
 ghost use Rattle.numerals.specs.Reading as the;
 ghost use Rattle.numerals.specs.Writing.{textIn, Added, longest};
 ghost use Rattle.numerals.specs.Writing as its;
@@ -26,7 +26,7 @@ pub struct Fraction {
     pub end: usize,
 }
 
-// A number less its final zeros, and its digits.
+// A number without its final zeros, and how many digits it has.
 pub struct Kept {
     pub value: u64,
     pub count: usize,

@@ -42,7 +42,8 @@ linesFrom t at = placed at (linesOf (drop at t))
 unfoldable pub placedLines : List ℕ → List Line
 placedLines t = linesFrom t 0
 
--- where the line at an offset ends: at the next byte 10, or at the end of the timetable
+-- where the line at an offset ends: at the next byte 10, or at the end of the timetable. An offset past the end is its own
+-- line's end, and the next line's start.
 unfoldable pub lineEnd : List ℕ → ℕ → ℕ
 lineEnd t at = at + bytesBefore newline (drop at t)
 

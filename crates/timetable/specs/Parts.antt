@@ -1,4 +1,5 @@
--- Document 01, "Timetable, seats and turns": lines are parted by byte 10, fields by byte 9. What parting is, for any byte.
+-- Document 01, "Timetable, seats and turns": lines end with byte 10, fields are parted by byte 9. What the parts between a
+-- byte are, for any byte.
 use mathlib.Core.List.{List, [], _∷_}
 use Prim.Native.Nat.{ℕ, suc}
 use lib.Dec.{eqb}

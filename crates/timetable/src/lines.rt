@@ -5,7 +5,7 @@ ghost use Rattle.timetable.specs.Lines.{lineEnd, afterEnd, nextLine};
 
 const NEWLINE: u8 = 10;
 
-// Where the line at `at` ends: at its byte 10, or at the timetable's end.
+// Where the line at `at` ends: at its byte 10, or at the timetable's end; past that end, at `at` itself.
 pub fn line_end(t: &[u8], at: usize) -> usize
     ensures { λ r. ⌜ r ≡ lineEnd (now (t .entry)) at ⌝ }
 {
@@ -22,7 +22,7 @@ pub fn after_end(t: &[u8], end: usize) -> usize
     end
 }
 
-// Where the line after the one at `at` starts; the timetable's end after the last one.
+// Where the line after the one at `at` starts; the timetable's end after the last one, and past that end `at` itself.
 pub fn next_line(t: &[u8], at: usize) -> usize
     ensures { λ r. ⌜ r ≡ nextLine (now (t .entry)) at ⌝ }
 {

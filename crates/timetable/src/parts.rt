@@ -1,4 +1,4 @@
-// Where the next byte of a kind stands: what ends a line and what ends a field are found alike.
+// Where the next byte of one value stands: what ends a line and what ends a field are found alike.
 ghost use mathlib.Core.Path.{_≡_};
 ghost use Prim.Native.Nat.{_+_};
 ghost use lib.ListN.{drop};
@@ -15,5 +15,5 @@ pub fn place_of(c: u8, s: &[u8], at: usize) -> usize
         }
         i += 1;
     }
-    i
+    i // none: the end, or `at` itself past it
 }

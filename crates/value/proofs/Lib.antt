@@ -8,3 +8,5 @@ pub mod TwoParts
 pub mod KindParts
 pub mod PartsGiven
 pub mod PlacedBy
+pub mod Numbers
+pub mod Cases

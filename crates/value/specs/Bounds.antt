@@ -24,15 +24,25 @@ maxDayTime = 1_000_000_000_000_000_000
 abbrev pub maxYearMonth : ℕ
 maxYearMonth = 1_000_000
 
--- The clock's own numbers, in ticks: a second has so many. No leap seconds.
+-- The clock's own numbers: a second has so many ticks. No leap seconds.
 abbrev pub parts : ℕ
 parts = 1_000_000
 
+abbrev pub minuteSeconds : ℕ
+minuteSeconds = 60
+
+abbrev pub hourMinutes : ℕ
+hourMinutes = 60
+
+abbrev pub dayHours : ℕ
+dayHours = 24
+
+-- the same in ticks
 abbrev pub minuteTicks : ℕ
-minuteTicks = 60 * parts
+minuteTicks = minuteSeconds * parts
 
 abbrev pub hourTicks : ℕ
-hourTicks = 60 * minuteTicks
+hourTicks = hourMinutes * minuteTicks
 
 abbrev pub dayTicks : ℕ
-dayTicks = 24 * hourTicks
+dayTicks = dayHours * hourTicks

@@ -5,8 +5,9 @@ use Prim.Native.Nat.{ℕ, _/_, _%_}
 use lib.IntN.{ℤ, pos, negℤ}
 use Rattle.basis.specs.Choice.{pick}
 use Rattle.basis.specs.Answer.{Answer, gives, refuses}
+use Rattle.calendar.specs.Calendar.{monthCount}
 use Rattle.calendar.specs.declared.Date.{Date}
-use Rattle.value.specs.Bounds.{parts, minuteTicks, hourTicks, dayTicks}
+use Rattle.value.specs.Bounds.{parts, minuteSeconds, hourMinutes, dayHours, minuteTicks, hourTicks, dayTicks}
 use Rattle.value.specs.Refusals.{outside}
 use Rattle.value.specs.Kinds.{okValue}
 use Rattle.value.specs.declared.Zone.{Zone}
@@ -38,7 +39,7 @@ dateIn d = record { year = d .year; month = d .month; day = d .day }
 
 -- hours, minutes, seconds and their fraction
 abbrev pub clockIn : ℕ → Clock
-clockIn t = record { hours = t / hourTicks; minutes = t / minuteTicks % 60; seconds = t / parts % 60; micros = t % parts }
+clockIn t = record { hours = t / hourTicks; minutes = t / minuteTicks % hourMinutes; seconds = t / parts % minuteSeconds; micros = t % parts }
 
 -- a number with a duration's sign
 abbrev pub signed : Bool → ℕ → ℤ
@@ -49,12 +50,12 @@ signed false n = pos n
 abbrev pub lasting : Bool → ℕ → ℕ → Lasting
 lasting negative months ticks =
     record {
-      years = signed negative (months / 12);
-      months = signed negative (months % 12);
+      years = signed negative (months / monthCount);
+      months = signed negative (months % monthCount);
       days = signed negative (ticks / dayTicks);
-      hours = signed negative (ticks / hourTicks % 24);
-      minutes = signed negative (ticks / minuteTicks % 60);
-      seconds = signed negative (ticks / parts % 60);
+      hours = signed negative (ticks / hourTicks % dayHours);
+      minutes = signed negative (ticks / minuteTicks % hourMinutes);
+      seconds = signed negative (ticks / parts % minuteSeconds);
       micros = signed negative (ticks % parts);
     }
 

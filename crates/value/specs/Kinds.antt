@@ -1,15 +1,13 @@
 -- Document 01, "Values and their bounds" and "Operations": the five kinds, by the parts that each has.
 -- A date is a DateTime at 00:00:00, a time is one on 1972-12-31; so they are ordered, subtracted and adjusted.
 use mathlib.Core.Bool.{Bool, true, false}
-use mathlib.Core.List.{List, [], _∷_}
-use Prim.Native.Nat.{ℕ}
+use mathlib.Core.List.{[], _∷_}
 use lib.Dec.{eqb}
 use Rattle.basis.specs.Choice.{pick, both, every}
 use Rattle.basis.specs.Answer.{Answer, gives, refuses}
 use Rattle.value.specs.Refusals.{outside}
 use Rattle.value.specs.Values.{okDateTime, okDayTime, okYearMonth}
-use Rattle.value.specs.declared.Zone.{Zone}
-use Rattle.value.specs.declared.Zone.the-variants.{Absent, At}
+use Rattle.value.specs.declared.Zone.the-variants.{Absent}
 use Rattle.value.specs.declared.DateTime.{DateTime}
 use Rattle.value.specs.declared.Kind.{Kind}
 use Rattle.value.specs.declared.Kind.the-variants as KV

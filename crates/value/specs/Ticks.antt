@@ -1,6 +1,6 @@
 -- Document 01, "Values and their bounds" and "Operations": local time and UTC instant of a record, in ticks since
 -- 0000-01-01T00:00:00, so that none is below zero; and the record at a local time.
-use mathlib.Core.Bool.{Bool, true, false}
+use mathlib.Core.Bool.{Bool}
 use Prim.Native.Nat.{ℕ, _+_, _-_, _*_, _/_, _%_}
 use lib.Dec.{leb}
 use Rattle.basis.specs.Choice.{pick, both}

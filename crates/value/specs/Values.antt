@@ -1,10 +1,10 @@
 -- Document 01, "Values and their bounds": which records are dates, times, dateTimes and durations.
-use mathlib.Core.Bool.{Bool, true, false}
-use mathlib.Core.List.{List, [], _∷_}
+use mathlib.Core.Bool.{Bool, true}
+use mathlib.Core.List.{[], _∷_}
 use Prim.Native.Nat.{ℕ}
 use lib.Dec.{leb, ltb}
 use Rattle.basis.specs.Choice.{pick, every}
-use Rattle.calendar.specs.Calendar.{monthDays}
+use Rattle.calendar.specs.Calendar.{monthDays, monthCount}
 use Rattle.value.specs.Bounds.{minYear, maxYear, maxMicros, maxZone, maxDayTime, maxYearMonth}
 use Rattle.value.specs.declared.Offset.{Offset}
 use Rattle.value.specs.declared.Offset.the-variants.{East, West}
@@ -16,7 +16,7 @@ use Rattle.value.specs.declared.YearMonth.{YearMonth}
 
 -- the date part: a day of the proleptic Gregorian calendar, within the years
 unfoldable pub okDate : ℕ → ℕ → ℕ → Bool
-okDate y m d = every (leb minYear y ∷ leb y maxYear ∷ leb 1 m ∷ leb m 12 ∷ leb 1 d ∷ leb d (monthDays y m) ∷ [])
+okDate y m d = every (leb minYear y ∷ leb y maxYear ∷ leb 1 m ∷ leb m monthCount ∷ leb 1 d ∷ leb d (monthDays y m) ∷ [])
 
 -- an offset from UTC; zero minutes are east
 unfoldable pub okOffset : Offset → Bool

@@ -1,9 +1,6 @@
 // The values of the five kinds: records, bounds, makers, validity, components, and the spans of time between them.
 use calendar::Date;
 ghost use mathlib.Core.Path.{_≡_};
-ghost use mathlib.Core.Bool.{Bool, true, false};
-ghost use Prim.Native.Nat.{ℕ, _+_, _*_, _≤_, _<_};
-ghost use Rattle.value.specs.Bounds.{minYear, maxYear, maxMicros, maxZone, maxDayTime, maxYearMonth, parts};
 ghost use Rattle.value.specs.Kinds.{made, meaning, kindOf, template};
 ghost use Rattle.value.specs.declared.Kind.the-variants as KV;
 ghost use Rattle.value.specs.declared.Value.the-variants as VV;
@@ -94,7 +91,8 @@ pub struct Clock {
     pub micros: u32,
 }
 
-// The six parts of a duration, the seconds with their fraction beside them. All have the duration's sign.
+// The six parts of a duration, the seconds with their fraction beside them. None is above zero if the duration is negative,
+// none below if it is not.
 pub struct Lasting {
     pub years: i32,
     pub months: i32,
@@ -151,6 +149,18 @@ impl Refusal {
 impl Span {
     // The ticks of a second: a part is below this.
     pub const PARTS: u32 = 1_000_000;
+
+    // The seconds of a minute, the minutes of an hour, the hours of a day.
+    pub const MINUTE: u64 = 60;
+
+    pub const HOUR_MINUTES: u64 = 60;
+
+    pub const DAY_HOURS: u64 = 24;
+
+    // An hour and a day in seconds.
+    pub const HOUR: u64 = Span::HOUR_MINUTES * Span::MINUTE;
+
+    pub const DAY: u64 = Span::DAY_HOURS * Span::HOUR;
 }
 
 impl DateTime {

@@ -9,9 +9,11 @@ use crate::Value;
 use crate::valid;
 use calendar::Date;
 ghost use mathlib.Core.Path.{_≡_};
-ghost use Prim.Native.Nat.{ℕ, _+_, _≤_, _<_, _^_};
+ghost use Prim.Native.Nat.{_≤_, _<_, _^_};
 ghost use Rattle.value.specs.Bounds.{maxMicros, maxDayTime};
 ghost use Rattle.value.specs.Components as the;
+
+const MONTHS: u32 = calendar::MONTH_COUNT as u32;
 
 fn date_in(d: DateTime) -> Date
     ensures { λ r. ⌜ r ≡ the.dateIn d ⌝ }
@@ -29,9 +31,9 @@ fn clock_in(t: u64) -> Clock
 {
     let parts = Span::PARTS as u64;
     Clock {
-        hours: (t / (3600 * parts)) as u8,
-        minutes: (t / (60 * parts) % 60) as u8,
-        seconds: (t / parts % 60) as u8,
+        hours: (t / (Span::HOUR * parts)) as u8,
+        minutes: (t / (Span::MINUTE * parts) % Span::HOUR_MINUTES) as u8,
+        seconds: (t / parts % Span::MINUTE) as u8,
         micros: (t % parts) as u32,
     }
 }
@@ -50,12 +52,18 @@ fn lasting(negative: bool, months: u32, ticks: u64) -> Lasting
     ensures { λ r. ⌜ r ≡ the.lasting negative months ticks ⌝ }
 {
     let parts = Span::PARTS as u64;
-    let years = signed(negative, months / 12);
-    let months = signed(negative, months % 12);
-    let days = signed(negative, (ticks / (86_400 * parts)) as u32);
-    let hours = signed(negative, (ticks / (3600 * parts) % 24) as u32);
-    let minutes = signed(negative, (ticks / (60 * parts) % 60) as u32);
-    let seconds = signed(negative, (ticks / parts % 60) as u32);
+    let years = signed(negative, months / MONTHS);
+    let months = signed(negative, months % MONTHS);
+    let days = signed(negative, (ticks / (Span::DAY * parts)) as u32);
+    let hours = signed(
+        negative,
+        (ticks / (Span::HOUR * parts) % Span::DAY_HOURS) as u32,
+    );
+    let minutes = signed(
+        negative,
+        (ticks / (Span::MINUTE * parts) % Span::HOUR_MINUTES) as u32,
+    );
+    let seconds = signed(negative, (ticks / parts % Span::MINUTE) as u32);
     let micros = signed(negative, (ticks % parts) as u32);
     Lasting {
         years,

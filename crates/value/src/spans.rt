@@ -1,7 +1,8 @@
-// Spans of time: whole seconds and a part of a second. No product of two of them is ever one machine number.
+// Spans of time: whole seconds and a part of a second, since the ticks of the greatest duration times the greatest whole
+// number have no room in one machine number.
 use crate::Span;
 ghost use mathlib.Core.Path.{_≡_};
-ghost use Prim.Native.Nat.{ℕ, _+_, _-_, _*_, _≤_, _<_, _^_};
+ghost use Prim.Native.Nat.{_+_, _-_, _*_, _≤_, _<_, _^_};
 ghost use lib.Dec.{ltb};
 ghost use Rattle.value.specs.Bounds.{parts};
 ghost use Rattle.value.specs.Ticks.{ticksOf, spanOf};

@@ -8,15 +8,11 @@ use crate::spans;
 use calendar::Date;
 use calendar::Dated;
 ghost use mathlib.Core.Path.{_≡_};
-ghost use mathlib.Core.Bool.{Bool, true, false};
-ghost use Prim.Native.Nat.{ℕ, _+_, _-_, _*_, _≤_, _<_, _^_};
-ghost use Rattle.value.specs.Bounds.{parts, maxZone};
+ghost use mathlib.Core.Bool.{true};
+ghost use Prim.Native.Nat.{_*_, _≤_, _<_, _^_};
+ghost use Rattle.value.specs.Bounds.{parts, minuteSeconds, maxZone};
 ghost use Rattle.value.specs.Values.{okOffset, okDateTime};
 ghost use Rattle.value.specs.Ticks.{ticksOf, spanOf, localOf, offsetIn, instantAt, instantOf, placedAt};
-
-const MINUTE: u64 = 60;
-
-const DAY: u64 = 24 * 60 * MINUTE;
 
 pub fn local(d: DateTime) -> Span
     requires { ⌜ okDateTime d ≡ true ⌝ }
@@ -29,7 +25,7 @@ pub fn local(d: DateTime) -> Span
     });
     let t = spans::from_micros(d.micros);
     Span {
-        seconds: n * DAY + t.seconds,
+        seconds: n * Span::DAY + t.seconds,
         part: t.part,
     }
 }
@@ -46,18 +42,18 @@ pub fn offset_in(given: Offset, z: Zone) -> Offset
 
 // The local time t at an offset from UTC, as an instant.
 pub fn instant_at(t: Span, o: Offset) -> Span
-    requires { ⌜ (t .part < parts) × (maxZone * 60 ≤ t .seconds) × (t .seconds < 2 ^ 63) × (okOffset o ≡ true) ⌝ }
+    requires { ⌜ (t .part < parts) × (maxZone * minuteSeconds ≤ t .seconds) × (t .seconds < 2 ^ 63) × (okOffset o ≡ true) ⌝ }
     ensures { λ r. ⌜ r ≡ spanOf (instantAt (ticksOf t) o) ⌝ }
 {
     let seconds = t.seconds;
     let part = t.part;
     match o {
         Offset::East(m) => Span {
-            seconds: seconds - m as u64 * MINUTE,
+            seconds: seconds - m as u64 * Span::MINUTE,
             part,
         },
         Offset::West(m) => Span {
-            seconds: seconds + m as u64 * MINUTE,
+            seconds: seconds + m as u64 * Span::MINUTE,
             part,
         },
     }
@@ -79,7 +75,7 @@ pub fn placed(t: Span, zone: Zone) -> Placed
     ensures { λ r. ⌜ r ≡ placedAt (ticksOf t) zone ⌝ }
 {
     let seconds = t.seconds;
-    let found = calendar::date_of(seconds / DAY, DateTime::MAX_YEAR);
+    let found = calendar::date_of(seconds / Span::DAY, DateTime::MAX_YEAR);
     match found {
         Dated::Later => Placed::Beyond,
         Dated::On(d) => {
@@ -90,7 +86,7 @@ pub fn placed(t: Span, zone: Zone) -> Placed
                 year: d.year,
                 month: d.month,
                 day: d.day,
-                micros: seconds % DAY * Span::PARTS as u64 + t.part as u64,
+                micros: seconds % Span::DAY * Span::PARTS as u64 + t.part as u64,
                 zone,
             })
         }

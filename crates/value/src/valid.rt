@@ -13,6 +13,8 @@ ghost use mathlib.Core.Path.{_≡_};
 ghost use Rattle.value.specs.Values.{okDate, okOffset, okZone, okDateTime, okSigned};
 ghost use Rattle.value.specs.Kinds.{okValue, made, meaning};
 
+const MONTHS: u8 = calendar::MONTH_COUNT as u8;
+
 pub fn date_ok(year: u16, month: u8, day: u8) -> bool
     ensures { λ r. ⌜ r ≡ okDate year month day ⌝ }
 {
@@ -25,7 +27,7 @@ pub fn date_ok(year: u16, month: u8, day: u8) -> bool
     if month < 1 {
         return false;
     }
-    if 12 < month {
+    if MONTHS < month {
         return false;
     }
     if day < 1 {
