@@ -17,7 +17,7 @@ use Rattle.value.specs.Ticks.{localOf, instantOf, inYears, placedAt}
 use Rattle.value.specs.Values.{okDate, okOffset, okZone, okDateTime, okSigned}
 use Rattle.numerals.specs.Reading.{isDigit, number, fractionAt}
 use Rattle.numerals.specs.Writing.{digits, shortest, decimal, stripped, fractionText}
-use Rattle.scan.specs.Scanning.{pairAt, isPair, placed, fractionPart, zoneSigned, zonePart, yearAt, yearPart, partAt, scanned}
+use Rattle.scan.specs.Scanning.{pairAt, isPair, placed, fractionPart, zoneSigned, zonePart, fourZeros, yearAt, yearPart, partAt, scanned}
 use Rattle.layouts.specs.Reading.{nextDay, okClock, isDayEnd, ticksOf, clocked, okParts, zoneIs, onCalendar, bounded, judge, readLayout}
 use Rattle.layouts.specs.Writing.{pairOf, partText, textBy}
 use Rattle.durations.specs.Forms.{weight}
@@ -38,7 +38,7 @@ use Rattle.calls.specs.Replies.{numberText, refusedText}
 use Rattle.cases.specs.Table.{Row, noRow, table, holds, tests, allHold}
 
 pub all-hold : allHold ≡ true
-unfolding both every total place dateOf datedOf fieldsOf hasField fieldAt onto parted ofKind okValue localOf instantOf inYears placedAt okDate okOffset okZone okDateTime okSigned isDigit number fractionAt digits shortest decimal stripped fractionText pairAt isPair placed fractionPart zoneSigned zonePart yearAt yearPart partAt scanned nextDay okClock isDayEnd ticksOf clocked okParts zoneIs onCalendar bounded judge readLayout pairOf partText textBy weight shown shownAll left body textBy-of-durations component components shapeFrom shape counted readBy readAs textOf inTicks inMonths atTicks movedTo moved shifted isZone adjustedFrom momentTo operandTo adjustOf up down orderIn sumOf plusOf lessMoment differenceIn minusIn same named oneText twoText textBy-of-calls answerOf exactly oneOf twoOf pairBy formBy formOf numberText refusedText table holds tests allHold
+unfolding both every total place dateOf datedOf fieldsOf hasField fieldAt onto parted ofKind okValue localOf instantOf inYears placedAt okDate okOffset okZone okDateTime okSigned isDigit number fractionAt digits shortest decimal stripped fractionText pairAt isPair placed fractionPart zoneSigned zonePart fourZeros yearAt yearPart partAt scanned nextDay okClock isDayEnd ticksOf clocked okParts zoneIs onCalendar bounded judge readLayout pairOf partText textBy weight shown shownAll left body textBy-of-durations component components shapeFrom shape counted readBy readAs textOf inTicks inMonths atTicks movedTo moved shifted isZone adjustedFrom momentTo operandTo adjustOf up down orderIn sumOf plusOf lessMoment differenceIn minusIn same named oneText twoText textBy-of-calls answerOf exactly oneOf twoOf pairBy formBy formOf numberText refusedText table holds tests allHold
 all-hold = refl
 
 alike : (a b : List ℕ) → same a b ≡ true → a ≡ b

@@ -1,4 +1,5 @@
--- Worked cases by computation: document 01, "Either side of the line", and where reading stops.
+-- Worked cases by computation, beside those of document 01's table (crate `cases`): fractions and totals at their bounds,
+-- and where reading stops.
 use mathlib.Core.Path.{_≡_, refl}
 use mathlib.Core.Bool.{true, false}
 use Prim.Native.Nat.{ℕ}
@@ -13,32 +14,7 @@ use Rattle.durations.specs.Forms.{weight, dayTime, yearMonth}
 use Rattle.durations.specs.Walks.{component, components, shapeFrom, shape, counted, readBy, readDayTime, readYearMonth, placeIn}
 use Rattle.durations.specs.Spelling.{shown, shownAll, left, body, textBy, dayTimeText, yearMonthText}
 
--- 10. PT36H is written P1DT12H; -PT0S is written PT0S
-pub reads-36-hours : readDayTime (bytes "PT36H") ≡ gives (VV.DayTime (record { negative = false; micros = 129_600_000_000 }))
-unfolding isDigit number fractionAt both weight component components shapeFrom shape counted readBy
-reads-36-hours = refl
-
-pub writes-36-hours : dayTimeText (record { negative = false; micros = 129_600_000_000 }) ≡ bytes "P1DT12H"
-unfolding digits shortest decimal stripped fractionText both weight shown shownAll left body textBy
-writes-36-hours = refl
-
-pub reads-minus-zero : readDayTime (bytes "-PT0S") ≡ gives (VV.DayTime (record { negative = false; micros = 0 }))
-unfolding isDigit number fractionAt both weight component components shapeFrom shape counted readBy
-reads-minus-zero = refl
-
-pub writes-zero : dayTimeText (record { negative = false; micros = 0 }) ≡ bytes "PT0S"
-unfolding textBy
-writes-zero = refl
-
--- 11. P83333Y4M reads; P83333Y5M: 2
-pub reads-most-months : readYearMonth (bytes "P83333Y4M") ≡ gives (VV.YearMonth (record { negative = false; months = 1_000_000 }))
-unfolding isDigit number fractionAt both weight component components shapeFrom shape counted readBy
-reads-most-months = refl
-
-pub one-month-more : readYearMonth (bytes "P83333Y5M") ≡ refuses 2
-unfolding isDigit number fractionAt both weight component components shapeFrom shape counted readBy
-one-month-more = refl
-
+-- the greatest number of months below zero, and none
 pub writes-most-months : yearMonthText (record { negative = true; months = 1_000_000 }) ≡ bytes "-P83333Y4M"
 unfolding digits shortest decimal stripped fractionText both weight shown shownAll left body textBy
 writes-most-months = refl

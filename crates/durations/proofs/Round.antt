@@ -24,7 +24,7 @@ use Rattle.numerals.proofs.Places.{head, beyond}
 use Rattle.durations.specs.declared.Walk.{Walk}
 use Rattle.durations.specs.declared.Shape.{Shape}
 use Rattle.durations.specs.declared.Amount.{Amount}
-use Rattle.durations.specs.Forms.{Form, weight, years, months, hours, minutes, seconds, point, timeMark, startMark, minusSign, dayTime, yearMonth}
+use Rattle.durations.specs.Forms.{Form, weight, years, hours, minutes, seconds, point, timeMark, startMark, minusSign, dayTime, yearMonth}
 use Rattle.durations.specs.Walks.{component, components, timed, ended, onward, begun, shapeFrom, shape, counted, signed, readBy, readDayTime, readYearMonth, asValue, dayTimeOf, yearMonthOf}
 use Rattle.durations.specs.Spelling.{shownAll, left, afterMark, body, spelt, textBy, dayTimeText, yearMonthText}
 use Rattle.durations.proofs.Going.{no-mark}
@@ -221,7 +221,7 @@ sane-year-month : Sane yearMonth
 unfolding isDigit number fractionAt both weight component components shapeFrom shape counted readBy left carried
 sane-year-month =
     record {
-      apart-before = more refl (eqb-false years seconds refl) (eqb-false point years refl) (and (eqb-false months years refl) refl end) (last refl);
+      apart-before = more refl (eqb-false years seconds refl) (eqb-false point years refl) (and (eqb-false minutes years refl) refl end) (last refl);
       apart-after = none;
       small = λ m. omega arith;
       none-before = λ u. refl;

@@ -11,6 +11,6 @@ upTo cap t = record { sum = min cap (t .sum); ticks = t .ticks; long = t .long; 
 abbrev pub shapeUpTo : ℕ → Shape → Shape
 shapeUpTo cap t = record { negative = t .negative; sum = min cap (t .sum); ticks = t .ticks; long = t .long; good = t .good; place = t .place }
 
--- a sum and one more component, both as great as the cap, are a machine number, with room for the next digit
+-- the cap and a cap's worth of days together are below 2^64
 abbrev pub Roomy : ℕ → Type 0
 Roomy cap = cap + cap * weight false days < 2 ^ 64

@@ -6,15 +6,13 @@ use Prim.Native.Nat.{ℕ, _/_}
 use lib.Dec.{eqb}
 use Rattle.basis.specs.Choice.{pick, both}
 use Rattle.basis.specs.Letters.{bytes}
+use Rattle.calendar.specs.Calendar.{monthCount}
 use Rattle.value.specs.Bounds.{maxDayTime, maxYearMonth, parts, minuteTicks, hourTicks, dayTicks}
 
--- The letters that stand in a duration's text: Y, M, D, H, S of the components (M for months, and after T for minutes), and
--- the punctuation.
+-- The bytes that stand in a duration's text: Y, D, H, M, S of the components (M is minutes after T, and months before it,
+-- which count for themselves), and the punctuation.
 abbrev pub years : ℕ
 years = 89
-
-abbrev pub months : ℕ
-months = 77
 
 abbrev pub days : ℕ
 days = 68
@@ -43,7 +41,7 @@ timeMark = 84
 -- what one of a component counts: of years and months in months, of the others in seconds
 unfoldable pub weight : Bool → ℕ → ℕ
 weight time c =
-    pick (eqb c years) 12
+    pick (eqb c years) monthCount
     (pick (eqb c days) (dayTicks / parts)
     (pick (eqb c hours) (hourTicks / parts) (pick (both time (eqb c minutes)) (minuteTicks / parts) 1)))
 

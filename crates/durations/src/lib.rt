@@ -7,7 +7,7 @@ use value::Span;
 use value::Value;
 use value::YearMonth;
 ghost use mathlib.Core.Path.{_≡_};
-ghost use Prim.Native.Nat.{ℕ, _+_, _*_, _≤_, _<_, _^_};
+ghost use Prim.Native.Nat.{_+_, _*_, _≤_, _<_, _^_};
 ghost use lib.ListN.{length};
 ghost use Rattle.value.specs.Kinds as kinds;
 ghost use Rattle.numerals.specs.Writing.{textIn, longest};
@@ -28,7 +28,8 @@ pub struct Walk {
     pub far: usize,
 }
 
-// A whole text, before it is judged. Where it is not good, the place is its first bad byte.
+// A whole text, before it is judged. Where it is not good, the place is that of the first byte that no good text could have
+// there, or the end of a text that stops short.
 pub struct Shape {
     pub negative: bool,
     pub sum: u64,

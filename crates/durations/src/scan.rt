@@ -1,9 +1,10 @@
 // The components of a text, found in order. However many digits a component has, sums stop at a cap and never wrap.
 use crate::Shape;
 use crate::Walk;
+use value::Span;
 ghost use mathlib.Core.Path.{_≡_};
-ghost use mathlib.Core.Bool.{Bool, true, false};
-ghost use Prim.Native.Nat.{ℕ, _+_, _*_, _≤_, _<_, _^_, min};
+ghost use mathlib.Core.Bool.{true, false};
+ghost use Prim.Native.Nat.{_+_, _*_, _≤_, min};
 ghost use lib.ListN.{length};
 ghost use Rattle.numerals.specs.Reading.{marked};
 ghost use Rattle.numerals.specs.Reading as digits;
@@ -11,28 +12,24 @@ ghost use Rattle.durations.specs.Forms as forms;
 ghost use Rattle.durations.specs.Walks as the;
 ghost use Rattle.durations.specs.Capped.{Roomy, upTo, shapeUpTo};
 
-const MINUTE: u64 = 60;
-
-const HOUR: u64 = 60 * MINUTE;
-
-const DAY: u64 = 24 * HOUR;
+const YEAR: u64 = calendar::MONTH_COUNT as u64;
 
 // What one of a component counts: of years and months in months, of the others in seconds.
 pub fn weight(time: bool, letter: u8) -> u64
     ensures { λ r. ⌜ r ≡ forms.weight time letter ⌝ }
 {
     if letter == b'Y' {
-        return 12;
+        return YEAR;
     }
     if letter == b'D' {
-        return DAY;
+        return Span::DAY;
     }
     if letter == b'H' {
-        return HOUR;
+        return Span::HOUR;
     }
     if time {
         if letter == b'M' {
-            return MINUTE;
+            return Span::MINUTE;
         }
     }
     1
@@ -46,7 +43,7 @@ fn plus(sum: u64, n: u64, weight: u64, cap: u64) -> u64
     if w < cap { w } else { cap }
 }
 
-// After the point of a component that makes the sum so great.
+// After the point of a component: with it the sum is the one given.
 fn pointed(s: &[u8], letter: u8, mut t: Walk, sum: u64, from: usize) -> Walk
     requires { ⌜ (from ≤ length (now s)) × (1 ≤ letter) ⌝ }
     ensures { λ r. ⌜ r ≡ the.pointed (now (s .entry)) letter t sum from (digits.fractionAt (now (s .entry)) from) ⌝ }

@@ -9,7 +9,8 @@ use native.Mathlib.Omega.{arith}
 use lib.Dec.{eqb}
 use lib.ListN.{length, getD, drop}
 use borrow.Author.Tests.{eq-eqb, ne-eqb, eqb-true}
-use Rattle.basis.specs.Choice.{both}
+use Rattle.basis.specs.Choice.{both, every}
+use Rattle.basis.proofs.Tests.{both-left, both-right}
 use Rattle.value.specs.Bounds.{maxYear, maxZone, parts}
 use Rattle.value.specs.Values.{okZone}
 use Rattle.value.specs.declared.Offset.the-variants.{East, West}
@@ -24,7 +25,7 @@ use Rattle.numerals.proofs.Decimals.{length-digits, two-cells, four-pairs, digi
 use Rattle.numerals.proofs.Stripping.{stripped-some}
 use Rattle.numerals.proofs.Fractions.{kept, kept-length, fraction-back}
 use Rattle.scan.specs.declared.Scan.{Scan}
-use Rattle.scan.specs.Scanning.{whole, pairAt, yearAt, yearPart, fractionPart, zonePart, zoneSigned, withYear, withFraction, withZone}
+use Rattle.scan.specs.Scanning.{whole, fourZeros, pairAt, yearAt, yearPart, fractionPart, zonePart, zoneSigned, withYear, withFraction, withZone}
 use Rattle.layouts.specs.Writing.{hhmm, zoneText}
 use Rattle.layouts.proofs.Keeping.{zoneKept}
 
@@ -55,21 +56,35 @@ module _ (s : List ℕ) (i y : ℕ) (rest : List ℕ) (from : 1 ≤ y) (to : y �
   four : run s i ≡ record { value = y; count = 4 }
   four = ap (number 0 0) e ∙ digits-run 4 y rest (omega arith) q
 
-  some : both (eqb (y / 100) 0) (eqb (y % 100) 0) ≡ false
-  unfolding both
-  some = go (eqb (y / 100) 0) refl
+  -- the four bytes; a year that is not 0 has one that is not 0
+  bytes-are : (at s i ≡ 48 + y / 100 / 10) × (at s (i + 1) ≡ 48 + y / 100 % 10) × (at s (i + 2) ≡ 48 + y % 100 / 10) × (at s (i + 3) ≡ 48 + y % 100 % 10)
+  bytes-are =
+      let a : drop i s ≡ (48 + y / 100 / 10) ∷ (48 + y / 100 % 10) ∷ (digits 2 (y % 100) ++ rest) = pair-cells s i (y / 100) (digits 2 (y % 100) ++ rest) (omega arith) halves in
+      let b : drop (i + 2) s ≡ digits 2 (y % 100) ++ rest = pair-beyond s i (y / 100) (digits 2 (y % 100) ++ rest) (omega arith) halves in
+      let c : drop (i + 2) s ≡ (48 + y % 100 / 10) ∷ (48 + y % 100 % 10) ∷ rest = pair-cells s (i + 2) (y % 100) rest (omega arith) b in
+      let f : i + 3 ≡ i + 2 + 1 = omega arith in
+      (head s i a, cell s i a 1, head s (i + 2) c, ap (λ (k : ℕ). at s k) f ∙ cell s (i + 2) c 1)
+
+  some : fourZeros s i ≡ false
+  unfolding fourZeros every
+  some = go (fourZeros s i) refl
     where
-      go : (b : Bool) → eqb (y / 100) 0 ≡ b → both (eqb (y / 100) 0) (eqb (y % 100) 0) ≡ false
-      go true z = rw (z, ne-eqb (y % 100) 0 (λ w. omega (arith, eqb-true (y / 100) 0 z)))
-      go false z = rw z
+      go : (b : Bool) → fourZeros s i ≡ b → fourZeros s i ≡ false
+      go true z =
+          let c = bytes-are in
+          let z1 = both-right _ _ z in
+          let z2 = both-right _ _ z1 in
+          let a0 : at s i ≡ 48 = eqb-true _ _ (both-left _ _ z) in
+          let a1 : at s (i + 1) ≡ 48 = eqb-true _ _ (both-left _ _ z1) in
+          let a2 : at s (i + 2) ≡ 48 = eqb-true _ _ (both-left _ _ z2) in
+          let a3 : at s (i + 3) ≡ 48 = eqb-true _ _ (both-left _ _ (both-right _ _ z2)) in
+          let n : _≡_ {A = ℕ} 0 1 = omega (arith, c .0, c .1, c .2, c .3) in
+          cc
+      go false z = z
 
   year-is : yearAt whole s i ≡ record { value = y; at = i + 4; good = true }
   unfolding yearAt both
-  year-is =
-      let a : pairAt s i ≡ record { value = y / 100; at = i + 2; good = true } = pair-back s i (y / 100) (digits 2 (y % 100) ++ rest) (omega arith) halves in
-      let b : pairAt s (i + 2) ≡ record { value = y % 100; at = i + 2 + 2; good = true } =
-      pair-back s (i + 2) (y % 100) rest (omega arith) (pair-beyond s i (y / 100) (digits 2 (y % 100) ++ rest) (omega arith) halves) in
-      rw (four, a, b, some)
+  year-is = rw (four, some)
 
   first : at s i ≡ 48 + y / 100 / 10
   first = head s i (pair-cells s i (y / 100) (digits 2 (y % 100) ++ rest) (omega arith) halves)

@@ -1,5 +1,5 @@
--- Worked cases, by computation: those of document 01, "Either side of the line", that read text of these kinds, and those
--- in which several checks fail, where the first of document 01's order decides.
+-- Worked cases, by computation, beside those of document 01's table (crate `cases`): years, zones and fractions at their
+-- bounds, and texts in which several checks fail, where the first of document 01's order decides.
 use mathlib.Core.Path.{_≡_, refl}
 use Rattle.basis.specs.Choice.{both, every}
 use Rattle.basis.specs.Answer.{gives, refuses}
@@ -13,100 +13,73 @@ use Rattle.value.specs.declared.Kind.the-variants as KV
 use Rattle.value.specs.declared.Value.the-variants as VV
 use Rattle.numerals.specs.Reading.{isDigit, number, fractionAt}
 use Rattle.numerals.specs.Writing.{digits, stripped, fractionText}
-use Rattle.scan.specs.Scanning.{whole, pairAt, yearAt, yearPart, fractionPart, zonePart, zoneSigned, isPair, placed, partAt, scanned, partsOf}
+use Rattle.scan.specs.Scanning.{whole, pairAt, fourZeros, yearAt, yearPart, fractionPart, zonePart, zoneSigned, isPair, placed, partAt, scanned, partsOf}
 use Rattle.layouts.specs.Reading.{readLayout, judge, bounded, onCalendar, okParts, zoneIs, clocked, okClock, isDayEnd, ticksOf, nextDay}
 use Rattle.layouts.specs.Writing.{textOf, textBy, partText, pairOf}
 
--- 1. Hour 24 is 00:00:00 of the next day.
-day-ends : readLayout KV.DateTime (bytes "1999-12-31T24:00:00Z") ≡ gives (VV.DateTime (record { year = 2000; month = 1; day = 1; micros = 0; zone = At (East 0) }))
-unfolding isDigit number fractionAt pairAt yearAt yearPart fractionPart zonePart zoneSigned isPair placed partAt scanned readLayout judge bounded onCalendar okParts zoneIs clocked okClock isDayEnd ticksOf nextDay okDate every both datedOf dateOf total place
-day-ends = refl
-
--- 2. That next day is in a year beyond the bounds.
-last-day-ends : readLayout KV.DateTime (bytes "9999-12-31T24:00:00") ≡ refuses 2
-unfolding isDigit number fractionAt pairAt yearAt yearPart fractionPart zonePart zoneSigned isPair placed partAt scanned readLayout judge bounded onCalendar okParts zoneIs clocked okClock isDayEnd ticksOf nextDay okDate every both datedOf dateOf total place
-last-day-ends = refl
-
--- 3. The calendar.
-leap-day : readLayout KV.Date (bytes "2000-02-29") ≡ gives (VV.Date (record { year = 2000; month = 2; day = 29; micros = 0; zone = Absent }))
-unfolding isDigit number fractionAt pairAt yearAt yearPart fractionPart zonePart zoneSigned isPair placed partAt scanned readLayout judge bounded onCalendar okParts zoneIs clocked okClock isDayEnd ticksOf nextDay okDate every both datedOf dateOf total place
-leap-day = refl
-
-no-leap-day : readLayout KV.Date (bytes "1900-02-29") ≡ refuses 1
-unfolding isDigit number fractionAt pairAt yearAt yearPart fractionPart zonePart zoneSigned isPair placed partAt scanned readLayout judge bounded onCalendar okParts zoneIs clocked okClock isDayEnd ticksOf nextDay okDate every both datedOf dateOf total place
-no-leap-day = refl
-
--- 4. A year out of bounds comes before a bad month; a year of five digits has no leading zero.
-beyond-and-bad : readLayout KV.Date (bytes "12000-13-45") ≡ refuses 2
-unfolding isDigit number fractionAt pairAt yearAt yearPart fractionPart zonePart zoneSigned isPair placed partAt scanned readLayout judge bounded onCalendar okParts zoneIs clocked okClock isDayEnd ticksOf nextDay okDate every both datedOf dateOf total place
-beyond-and-bad = refl
-
-leading-zero : readLayout KV.Date (bytes "02000-01-01") ≡ refuses 1
-unfolding isDigit number fractionAt pairAt yearAt yearPart fractionPart zonePart zoneSigned isPair placed partAt scanned readLayout judge bounded onCalendar okParts zoneIs clocked okClock isDayEnd ticksOf nextDay okDate every both datedOf dateOf total place
-leading-zero = refl
-
+-- A year is not 0, and has as many digits as it likes.
 no-year : readLayout KV.Date (bytes "0000-01-01") ≡ refuses 1
-unfolding isDigit number fractionAt pairAt yearAt yearPart fractionPart zonePart zoneSigned isPair placed partAt scanned readLayout judge bounded onCalendar okParts zoneIs clocked okClock isDayEnd ticksOf nextDay okDate every both datedOf dateOf total place
+unfolding isDigit number fractionAt pairAt fourZeros yearAt yearPart fractionPart zonePart zoneSigned isPair placed partAt scanned readLayout judge bounded onCalendar okParts zoneIs clocked okClock isDayEnd ticksOf nextDay okDate every both datedOf dateOf total place
 no-year = refl
 
 no-year-before : readLayout KV.Date (bytes "-0000-01-01") ≡ refuses 1
-unfolding isDigit number fractionAt pairAt yearAt yearPart fractionPart zonePart zoneSigned isPair placed partAt scanned readLayout judge bounded onCalendar okParts zoneIs clocked okClock isDayEnd ticksOf nextDay okDate every both datedOf dateOf total place
+unfolding isDigit number fractionAt pairAt fourZeros yearAt yearPart fractionPart zonePart zoneSigned isPair placed partAt scanned readLayout judge bounded onCalendar okParts zoneIs clocked okClock isDayEnd ticksOf nextDay okDate every both datedOf dateOf total place
 no-year-before = refl
 
 before-year-one : readLayout KV.Date (bytes "-0001-01-01") ≡ refuses 2
-unfolding isDigit number fractionAt pairAt yearAt yearPart fractionPart zonePart zoneSigned isPair placed partAt scanned readLayout judge bounded onCalendar okParts zoneIs clocked okClock isDayEnd ticksOf nextDay okDate every both datedOf dateOf total place
+unfolding isDigit number fractionAt pairAt fourZeros yearAt yearPart fractionPart zonePart zoneSigned isPair placed partAt scanned readLayout judge bounded onCalendar okParts zoneIs clocked okClock isDayEnd ticksOf nextDay okDate every both datedOf dateOf total place
 before-year-one = refl
 
 many-digits : readLayout KV.Date (bytes "1234567890123456789012345678901234567890-01-01") ≡ refuses 2
-unfolding isDigit number fractionAt pairAt yearAt yearPart fractionPart zonePart zoneSigned isPair placed partAt scanned readLayout judge bounded onCalendar okParts zoneIs clocked okClock isDayEnd ticksOf nextDay okDate every both datedOf dateOf total place
+unfolding isDigit number fractionAt pairAt fourZeros yearAt yearPart fractionPart zonePart zoneSigned isPair placed partAt scanned readLayout judge bounded onCalendar okParts zoneIs clocked okClock isDayEnd ticksOf nextDay okDate every both datedOf dateOf total place
 many-digits = refl
 
 -- 13. Zones and fractions.
 farthest-zone : readLayout KV.Date (bytes "2000-01-01+14:00") ≡ gives (VV.Date (record { year = 2000; month = 1; day = 1; micros = 0; zone = At (East 840) }))
-unfolding isDigit number fractionAt pairAt yearAt yearPart fractionPart zonePart zoneSigned isPair placed partAt scanned readLayout judge bounded onCalendar okParts zoneIs clocked okClock isDayEnd ticksOf nextDay okDate every both datedOf dateOf total place
+unfolding isDigit number fractionAt pairAt fourZeros yearAt yearPart fractionPart zonePart zoneSigned isPair placed partAt scanned readLayout judge bounded onCalendar okParts zoneIs clocked okClock isDayEnd ticksOf nextDay okDate every both datedOf dateOf total place
 farthest-zone = refl
 
 too-far-zone : readLayout KV.Date (bytes "2000-01-01+14:01") ≡ refuses 1
-unfolding isDigit number fractionAt pairAt yearAt yearPart fractionPart zonePart zoneSigned isPair placed partAt scanned readLayout judge bounded onCalendar okParts zoneIs clocked okClock isDayEnd ticksOf nextDay okDate every both datedOf dateOf total place
+unfolding isDigit number fractionAt pairAt fourZeros yearAt yearPart fractionPart zonePart zoneSigned isPair placed partAt scanned readLayout judge bounded onCalendar okParts zoneIs clocked okClock isDayEnd ticksOf nextDay okDate every both datedOf dateOf total place
 too-far-zone = refl
 
 seven-zeros : readLayout KV.Time (bytes "12:00:00.0000000") ≡ refuses 3
-unfolding isDigit number fractionAt pairAt yearAt yearPart fractionPart zonePart zoneSigned isPair placed partAt scanned readLayout judge bounded onCalendar okParts zoneIs clocked okClock isDayEnd ticksOf nextDay okDate every both datedOf dateOf total place
+unfolding isDigit number fractionAt pairAt fourZeros yearAt yearPart fractionPart zonePart zoneSigned isPair placed partAt scanned readLayout judge bounded onCalendar okParts zoneIs clocked okClock isDayEnd ticksOf nextDay okDate every both datedOf dateOf total place
 seven-zeros = refl
 
 six-digits : readLayout KV.Time (bytes "12:00:00.000001") ≡ gives (VV.Time (record { year = 1972; month = 12; day = 31; micros = 43200000001; zone = Absent }))
-unfolding isDigit number fractionAt pairAt yearAt yearPart fractionPart zonePart zoneSigned isPair placed partAt scanned readLayout judge bounded onCalendar okParts zoneIs clocked okClock isDayEnd ticksOf nextDay okDate every both datedOf dateOf total place
+unfolding isDigit number fractionAt pairAt fourZeros yearAt yearPart fractionPart zonePart zoneSigned isPair placed partAt scanned readLayout judge bounded onCalendar okParts zoneIs clocked okClock isDayEnd ticksOf nextDay okDate every both datedOf dateOf total place
 six-digits = refl
 
 no-digit-after-point : readLayout KV.Time (bytes "12:00:00.") ≡ refuses 1
-unfolding isDigit number fractionAt pairAt yearAt yearPart fractionPart zonePart zoneSigned isPair placed partAt scanned readLayout judge bounded onCalendar okParts zoneIs clocked okClock isDayEnd ticksOf nextDay okDate every both datedOf dateOf total place
+unfolding isDigit number fractionAt pairAt fourZeros yearAt yearPart fractionPart zonePart zoneSigned isPair placed partAt scanned readLayout judge bounded onCalendar okParts zoneIs clocked okClock isDayEnd ticksOf nextDay okDate every both datedOf dateOf total place
 no-digit-after-point = refl
 
 -- The order holds across the whole text.
 long-and-bad-hour : readLayout KV.Time (bytes "25:00:00.0000000") ≡ refuses 3
-unfolding isDigit number fractionAt pairAt yearAt yearPart fractionPart zonePart zoneSigned isPair placed partAt scanned readLayout judge bounded onCalendar okParts zoneIs clocked okClock isDayEnd ticksOf nextDay okDate every both datedOf dateOf total place
+unfolding isDigit number fractionAt pairAt fourZeros yearAt yearPart fractionPart zonePart zoneSigned isPair placed partAt scanned readLayout judge bounded onCalendar okParts zoneIs clocked okClock isDayEnd ticksOf nextDay okDate every both datedOf dateOf total place
 long-and-bad-hour = refl
 
 long-and-great-year : readLayout KV.DateTime (bytes "12000-01-01T00:00:00.0000000") ≡ refuses 3
-unfolding isDigit number fractionAt pairAt yearAt yearPart fractionPart zonePart zoneSigned isPair placed partAt scanned readLayout judge bounded onCalendar okParts zoneIs clocked okClock isDayEnd ticksOf nextDay okDate every both datedOf dateOf total place
+unfolding isDigit number fractionAt pairAt fourZeros yearAt yearPart fractionPart zonePart zoneSigned isPair placed partAt scanned readLayout judge bounded onCalendar okParts zoneIs clocked okClock isDayEnd ticksOf nextDay okDate every both datedOf dateOf total place
 long-and-great-year = refl
 
 bad-zone-at-the-end : readLayout KV.DateTime (bytes "9999-12-31T24:00:00+14:01") ≡ refuses 1
-unfolding isDigit number fractionAt pairAt yearAt yearPart fractionPart zonePart zoneSigned isPair placed partAt scanned readLayout judge bounded onCalendar okParts zoneIs clocked okClock isDayEnd ticksOf nextDay okDate every both datedOf dateOf total place
+unfolding isDigit number fractionAt pairAt fourZeros yearAt yearPart fractionPart zonePart zoneSigned isPair placed partAt scanned readLayout judge bounded onCalendar okParts zoneIs clocked okClock isDayEnd ticksOf nextDay okDate every both datedOf dateOf total place
 bad-zone-at-the-end = refl
 
 -- Of a time hour 24 is 00:00:00 of the same reference day; with a fraction it is bad.
 time-ends : readLayout KV.Time (bytes "24:00:00") ≡ gives (VV.Time (record { year = 1972; month = 12; day = 31; micros = 0; zone = Absent }))
-unfolding isDigit number fractionAt pairAt yearAt yearPart fractionPart zonePart zoneSigned isPair placed partAt scanned readLayout judge bounded onCalendar okParts zoneIs clocked okClock isDayEnd ticksOf nextDay okDate every both datedOf dateOf total place
+unfolding isDigit number fractionAt pairAt fourZeros yearAt yearPart fractionPart zonePart zoneSigned isPair placed partAt scanned readLayout judge bounded onCalendar okParts zoneIs clocked okClock isDayEnd ticksOf nextDay okDate every both datedOf dateOf total place
 time-ends = refl
 
 time-ends-late : readLayout KV.Time (bytes "24:00:00.000001") ≡ refuses 1
-unfolding isDigit number fractionAt pairAt yearAt yearPart fractionPart zonePart zoneSigned isPair placed partAt scanned readLayout judge bounded onCalendar okParts zoneIs clocked okClock isDayEnd ticksOf nextDay okDate every both datedOf dateOf total place
+unfolding isDigit number fractionAt pairAt fourZeros yearAt yearPart fractionPart zonePart zoneSigned isPair placed partAt scanned readLayout judge bounded onCalendar okParts zoneIs clocked okClock isDayEnd ticksOf nextDay okDate every both datedOf dateOf total place
 time-ends-late = refl
 
 -- Zone -00:00 is zone 0, and that is written Z.
 minus-zero : readLayout KV.Time (bytes "12:00:00-00:00") ≡ gives (VV.Time (record { year = 1972; month = 12; day = 31; micros = 43200000000; zone = At (East 0) }))
-unfolding isDigit number fractionAt pairAt yearAt yearPart fractionPart zonePart zoneSigned isPair placed partAt scanned readLayout judge bounded onCalendar okParts zoneIs clocked okClock isDayEnd ticksOf nextDay okDate every both datedOf dateOf total place
+unfolding isDigit number fractionAt pairAt fourZeros yearAt yearPart fractionPart zonePart zoneSigned isPair placed partAt scanned readLayout judge bounded onCalendar okParts zoneIs clocked okClock isDayEnd ticksOf nextDay okDate every both datedOf dateOf total place
 minus-zero = refl
 
 written-z : textOf KV.Time (record { year = 1972; month = 12; day = 31; micros = 43200000000; zone = At (East 0) }) ≡ bytes "12:00:00Z"
@@ -119,13 +92,13 @@ written-west = refl
 
 -- A reader stops at the first byte that no good text could have there.
 stops-at-fourth : partsOf whole KV.Date (bytes "0000-01-01") .at ≡ 3
-unfolding isDigit number pairAt yearAt yearPart zonePart isPair placed partAt scanned both
+unfolding isDigit number pairAt fourZeros yearAt yearPart zonePart isPair placed partAt scanned both every
 stops-at-fourth = refl
 
 stops-at-fifth : partsOf whole KV.Date (bytes "02000-01-01") .at ≡ 4
-unfolding isDigit number pairAt yearAt yearPart zonePart isPair placed partAt scanned both
+unfolding isDigit number pairAt fourZeros yearAt yearPart zonePart isPair placed partAt scanned both every
 stops-at-fifth = refl
 
 stops-at-month : partsOf whole KV.Date (bytes "2000-1-01") .at ≡ 6
-unfolding isDigit number pairAt yearAt yearPart zonePart isPair placed partAt scanned both
+unfolding isDigit number pairAt fourZeros yearAt yearPart zonePart isPair placed partAt scanned both every
 stops-at-month = refl

@@ -31,11 +31,12 @@ use Rattle.value.proofs.Good.{GoodDay, good-day, day-ok}
 use Rattle.value.proofs.KindParts.{kept-of-kind}
 use Rattle.layouts.specs.Reading.{maxHour, maxMinute, valued, placedOn, startOfDay, nextDay, okClock, isDayEnd, ticksOf, clocked, okParts, zoneIs, onCalendar}
 
--- an answer that gives nothing but valid values of a kind
+-- a value within the bounds, of a kind
 pub record Valid (k : Kind) (v : Value) : Type 0 where
   pub ok : okValue v ≡ true
   pub kind : kindOf v ≡ k
 
+-- an answer that gives nothing but valid values of a kind
 abbrev pub Fine : Kind → Answer Value → Type 0
 Fine k a = (v : Value) → a ≡ gives v → Valid k v
 

@@ -13,7 +13,7 @@ use Rattle.calendar.specs.Calendar.{dayOf, datedOf}
 use Rattle.calendar.specs.declared.Date.{Date}
 use Rattle.calendar.specs.declared.Dated.{Dated}
 use Rattle.calendar.specs.declared.Dated.the-variants.{On, Later}
-use Rattle.value.specs.Bounds.{maxYear, maxZone, parts, minuteTicks, hourTicks}
+use Rattle.value.specs.Bounds.{maxYear, maxZone, parts, hourMinutes, dayHours, minuteTicks, hourTicks}
 use Rattle.value.specs.Refusals.{badText, beyondBounds, longFraction}
 use Rattle.value.specs.Values.{okDate}
 use Rattle.value.specs.Kinds.{hasDate}
@@ -57,7 +57,7 @@ abbrev pub maxMinute : ℕ
 maxMinute = 59
 
 abbrev pub dayEnd : ℕ
-dayEnd = 24
+dayEnd = dayHours
 
 unfoldable pub okClock : ℕ → ℕ → ℕ → Bool
 okClock h m s = every (leb h maxHour ∷ leb m maxMinute ∷ leb s maxMinute ∷ [])
@@ -74,7 +74,7 @@ clocked k d h m s u z =
 
 -- zone hours to 13 with minutes to 59, or 14:00; -00:00 is zone 0
 unfoldable pub okParts : ℕ → ℕ → Bool
-okParts h m = every (leb m maxMinute ∷ leb (h * 60 + m) maxZone ∷ [])
+okParts h m = every (leb m maxMinute ∷ leb (h * hourMinutes + m) maxZone ∷ [])
 
 abbrev pub offsetIs : ℕ → ℕ → Offset
 offsetIs sign n = pick (eqb sign (code "-")) (pick (eqb n 0) (East 0) (West n)) (East n)
@@ -84,7 +84,7 @@ zoneIs sign n = pick (eqb sign 0) Absent (At (offsetIs sign n))
 
 unfoldable pub onCalendar : Kind → Date → ℕ → ℕ → ℕ → ℕ → ℕ → ℕ → ℕ → Answer Value
 onCalendar k d h m s u sign zh zm =
-    pick (okDate (d .year) (d .month) (d .day)) (pick (okParts zh zm) (clocked k d h m s u (zoneIs sign (zh * 60 + zm))) (refuses badText)) (refuses badText)
+    pick (okDate (d .year) (d .month) (d .day)) (pick (okParts zh zm) (clocked k d h m s u (zoneIs sign (zh * hourMinutes + zm))) (refuses badText)) (refuses badText)
 
 -- 2. More than six fraction digits: 3. 3. Year negative or above the greatest: 2.
 unfoldable pub bounded : Bool → Bool → ℕ → Answer Value → Answer Value

@@ -7,7 +7,7 @@ use Prim.Native.Char.{code}
 use lib.Dec.{eqb}
 use lib.ListN.{length}
 use Rattle.basis.specs.Choice.{pick}
-use Rattle.value.specs.Bounds.{parts, minuteTicks, hourTicks}
+use Rattle.value.specs.Bounds.{parts, minuteSeconds, hourMinutes, minuteTicks, hourTicks}
 use Rattle.value.specs.declared.Offset.{Offset}
 use Rattle.value.specs.declared.Offset.the-variants.{East, West}
 use Rattle.value.specs.declared.Zone.{Zone}
@@ -20,7 +20,7 @@ use Rattle.numerals.specs.declared.Text.{Text}
 use Rattle.scan.specs.Scanning.{layout, isPair, yearDigits}
 
 abbrev pub hhmm : ℕ → List ℕ
-hhmm n = digits 2 (n / 60) ++ (code ":" ∷ digits 2 (n % 60))
+hhmm n = digits 2 (n / hourMinutes) ++ (code ":" ∷ digits 2 (n % hourMinutes))
 
 abbrev pub offsetText : Offset → List ℕ
 offsetText (East n) = pick (eqb n 0) (code "Z" ∷ []) (code "+" ∷ hhmm n)
@@ -35,7 +35,7 @@ unfoldable pub pairOf : ℕ → DateTime → ℕ
 pairOf p d =
     pick (eqb p (code "M")) (d .month)
     (pick (eqb p (code "D")) (d .day)
-    (pick (eqb p (code "h")) (d .micros / hourTicks) (pick (eqb p (code "m")) (d .micros / minuteTicks % 60) (d .micros / parts % 60))))
+    (pick (eqb p (code "h")) (d .micros / hourTicks) (pick (eqb p (code "m")) (d .micros / minuteTicks % hourMinutes) (d .micros / parts % minuteSeconds))))
 
 unfoldable pub partText : ℕ → DateTime → List ℕ
 partText p d =

@@ -22,7 +22,9 @@ const MAX_HOUR: u8 = 23;
 const MAX_MINUTE: u8 = 59;
 
 // The hour of a day's end, which is the start of the next day.
-const DAY_END: u8 = 24;
+const DAY_END: u8 = Span::DAY_HOURS as u8;
+
+const HOUR_MINUTES: u16 = Span::HOUR_MINUTES as u16;
 
 fn refused(number: u8) -> Outcome
     ensures { λ r. ⌜ meaning r ≡ refuses number ⌝ }
@@ -76,7 +78,7 @@ fn zone_ok(h: u8, m: u8) -> bool
     if MAX_MINUTE < m {
         return false;
     }
-    h as u16 * 60 + m as u16 <= DateTime::MAX_ZONE
+    h as u16 * HOUR_MINUTES + m as u16 <= DateTime::MAX_ZONE
 }
 
 // The zone with a sign, 0 where there is none. West by no minutes is zone 0, which is east.
@@ -133,7 +135,7 @@ fn clock(kind: Kind, d: Date, t: Scan, zone: Zone) -> Outcome
     ensures { λ r. ⌜ meaning r ≡ the.clocked kind d (t .hour) (t .minute) (t .second) (t .part) zone ⌝ }
 {
     if clock_ok(t.hour, t.minute, t.second) {
-        let seconds = t.hour as u64 * 3600 + t.minute as u64 * 60 + t.second as u64;
+        let seconds = t.hour as u64 * Span::HOUR + t.minute as u64 * Span::MINUTE + t.second as u64;
         return valued(
             kind,
             DateTime {
@@ -160,7 +162,7 @@ fn on_calendar(kind: Kind, t: Scan) -> Outcome
     if !zone_ok(t.zh, t.zm) {
         return refused(Refusal::BAD_TEXT);
     }
-    let zone = zone_is(t.sign, t.zh as u16 * 60 + t.zm as u16);
+    let zone = zone_is(t.sign, t.zh as u16 * HOUR_MINUTES + t.zm as u16);
     let d = Date {
         year: t.year,
         month: t.month,

@@ -11,7 +11,7 @@ ghost use Rattle.layouts.specs.Writing.{textOf, Holds};
 mod judging; // judging.rt: document 01's checks of the parts that were found
 mod writing; // writing.rt: the parts of a record as text
 
-// What a text of a kind reads as. The durations have no layout: as such every text is refused with 1.
+// What a text of a kind reads as. The durations have no layout, so that for their kinds every text is refused with 1.
 pub fn read_layout(kind: Kind, s: &[u8]) -> Outcome
     ensures { λ r. ⌜ meaning r ≡ readLayout kind (now (s .entry)) ⌝ }
 {

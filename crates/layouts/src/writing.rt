@@ -12,6 +12,8 @@ ghost use lib.ListN.{length};
 ghost use Rattle.numerals.specs.Writing.{Added, longest};
 ghost use Rattle.layouts.specs.Writing.{offsetText, zoneText, pairOf, partText, textBy, width, widths, Holds};
 
+const HOUR_MINUTES: u16 = Span::HOUR_MINUTES as u16;
+
 fn with_offset(t: Text, o: Offset) -> Text
     requires { ⌜ t .len + 6 ≤ longest ⌝ }
     ensures { λ r. ⌜ Added t r (offsetText o) (length (offsetText o)) ⌝ }
@@ -21,12 +23,12 @@ fn with_offset(t: Text, o: Offset) -> Text
             if n == 0 {
                 return t.push(b'Z');
             }
-            let h = fixed(t.push(b'+'), (n / 60) as u64, 2);
-            fixed(h.push(b':'), (n % 60) as u64, 2)
+            let h = fixed(t.push(b'+'), (n / HOUR_MINUTES) as u64, 2);
+            fixed(h.push(b':'), (n % HOUR_MINUTES) as u64, 2)
         }
         Offset::West(n) => {
-            let h = fixed(t.push(b'-'), (n / 60) as u64, 2);
-            fixed(h.push(b':'), (n % 60) as u64, 2)
+            let h = fixed(t.push(b'-'), (n / HOUR_MINUTES) as u64, 2);
+            fixed(h.push(b':'), (n % HOUR_MINUTES) as u64, 2)
         }
     }
 }
@@ -52,12 +54,12 @@ fn pair_of(p: u8, d: DateTime) -> u64
     }
     let seconds = d.micros / Span::PARTS as u64;
     if p == b'h' {
-        return seconds / 3600;
+        return seconds / Span::HOUR;
     }
     if p == b'm' {
-        return seconds / 60 % 60;
+        return seconds / Span::MINUTE % Span::HOUR_MINUTES;
     }
-    seconds % 60
+    seconds % Span::MINUTE
 }
 
 fn part(t: Text, p: u8, d: DateTime) -> Text

@@ -13,7 +13,7 @@ use Rattle.numerals.specs.Reading.{at, run, fractionAt}
 use Rattle.scan.specs.declared.Scan.{Scan}
 use Rattle.scan.specs.declared.Pair.{Pair}
 use Rattle.scan.specs.declared.Year.{Year}
-use Rattle.scan.specs.Scanning.{found, whole, capped, pairAt, yearAt, yearPart, fractionPart, zonePart, zoneSigned, zoneHours, zoneMinutes, placed, partAt, partOf, isPair, scanned, layout, startOf, partsOf, withYear}
+use Rattle.scan.specs.Scanning.{found, whole, capped, fourZeros, pairAt, yearAt, yearPart, fractionPart, zonePart, zoneSigned, zoneHours, zoneMinutes, placed, partAt, partOf, isPair, scanned, layout, startOf, partsOf, withYear}
 
 abbrev pub cut : Scan → Scan
 cut t = found (t .negative) (capped (t .year)) (t .month) (t .day) (t .hour) (t .minute) (t .second) (t .part) (t .long) (t .sign) (t .zh) (t .zm) (t .at) (t .good)
@@ -23,9 +23,9 @@ cutYear y = record { value = capped (y .value); at = y .at; good = y .good }
 
 year-cut : (s : List ℕ) (i : ℕ) → yearAt capped s i ≡ cutYear (yearAt whole s i)
 unfolding yearAt
-year-cut s i = go (ltb (run s i .count) 4) (both (eqb (pairAt s i .value) 0) (eqb (pairAt s (i + 2) .value) 0)) (both (ltb 4 (run s i .count)) (eqb (at s i) 48)) refl refl refl
+year-cut s i = go (ltb (run s i .count) 4) (fourZeros s i) (both (ltb 4 (run s i .count)) (eqb (at s i) 48)) refl refl refl
   where
-    go : (a b c : Bool) → ltb (run s i .count) 4 ≡ a → both (eqb (pairAt s i .value) 0) (eqb (pairAt s (i + 2) .value) 0) ≡ b
+    go : (a b c : Bool) → ltb (run s i .count) 4 ≡ a → fourZeros s i ≡ b
         → both (ltb 4 (run s i .count)) (eqb (at s i) 48) ≡ c → yearAt capped s i ≡ cutYear (yearAt whole s i)
     go true b c e f g = rw e
     go false true c e f g = rw (e, f)

@@ -7,9 +7,9 @@ use Prim.Native.Nat.{ℕ, suc, _+_, _-_, _*_, _/_, _%_, min}
 use Prim.Native.Char.{code}
 use lib.Dec.{eqb, ltb}
 use lib.ListN.{length}
-use Rattle.basis.specs.Choice.{both, pick}
+use Rattle.basis.specs.Choice.{both, every, pick}
 use Rattle.basis.specs.Letters.{bytes}
-use Rattle.value.specs.Bounds.{maxYear, parts, minuteTicks, hourTicks}
+use Rattle.value.specs.Bounds.{maxYear, parts, minuteSeconds, hourMinutes, minuteTicks, hourTicks}
 use Rattle.value.specs.Kinds.{template}
 use Rattle.value.specs.declared.DateTime.{DateTime}
 use Rattle.value.specs.declared.Kind.{Kind}
@@ -29,8 +29,9 @@ layout KV.DateTime = bytes "Y-M-DTh:m:sfz"
 layout KV.DayTimeDuration = []
 layout KV.YearMonthDuration = []
 
--- The parts found so far, the place that is reached, and whether all went well; where not, the place is that of the first
--- byte at which no text of good shape could go on. The zone is its sign (0: there is none), hours and minutes.
+-- The parts found so far, the place that is reached, and whether every part up to there was found; where not, the place is
+-- that of the first byte at which no text of good shape could go on. The zone is its sign (0: there is none), hours and
+-- minutes.
 abbrev pub found : Bool → ℕ → ℕ → ℕ → ℕ → ℕ → ℕ → ℕ → Bool → ℕ → ℕ → ℕ → ℕ → Bool → Scan
 found n y mo d h mi se u l z zh zm i g =
     record { negative = n; year = y; month = mo; day = d; hour = h; minute = mi; second = se; part = u; long = l; sign = z; zh = zh; zm = zm; at = i; good = g }
@@ -38,7 +39,7 @@ found n y mo d h mi se u l z zh zm i g =
 -- before the first byte: the template's fields, for the parts that the kind has not, and no zone
 abbrev pub startOf : DateTime → Scan
 startOf d =
-    found false (d .year) (d .month) (d .day) (d .micros / hourTicks) (d .micros / minuteTicks % 60) (d .micros / parts % 60) (d .micros % parts) false 0 0 0 0 true
+    found false (d .year) (d .month) (d .day) (d .micros / hourTicks) (d .micros / minuteTicks % hourMinutes) (d .micros / parts % minuteSeconds) (d .micros % parts) false 0 0 0 0 true
 
 abbrev pub reached : Scan → ℕ → Bool → Scan
 reached t i g = found (t .negative) (t .year) (t .month) (t .day) (t .hour) (t .minute) (t .second) (t .part) (t .long) (t .sign) (t .zh) (t .zm) i g
@@ -108,8 +109,14 @@ abbrev pub yearDigits : ℕ
 yearDigits = 4
 
 -- its first four digits are all 0, or it has more and the first is 0
-abbrev pub fourZeros : List ℕ → ℕ → Bool
-fourZeros s i = both (eqb (pairAt s i .value) 0) (eqb (pairAt s (i + 2) .value) 0)
+unfoldable pub fourZeros : List ℕ → ℕ → Bool
+fourZeros s i =
+    every
+    (eqb (at s i) (code "0")
+    ∷ eqb (at s (i + 1)) (code "0")
+    ∷ eqb (at s (i + 2)) (code "0")
+    ∷ eqb (at s (i + 3)) (code "0")
+    ∷ [])
 
 abbrev pub leadingZero : List ℕ → ℕ → ℕ → Bool
 leadingZero s i n = both (ltb yearDigits n) (eqb (at s i) (code "0"))

@@ -7,8 +7,8 @@ use value::DateTime;
 use value::Kind;
 use value::Span;
 ghost use mathlib.Core.Path.{_≡_};
-ghost use mathlib.Core.Bool.{Bool, true, false};
-ghost use Prim.Native.Nat.{ℕ, suc, _+_, _-_, _*_, _≤_, _<_, min};
+ghost use mathlib.Core.Bool.{true, false};
+ghost use Prim.Native.Nat.{_+_, _-_, _≤_, _<_};
 ghost use lib.Dec.{eqb};
 ghost use lib.ListN.{length, getD};
 ghost use Rattle.basis.specs.Choice.{pick};
@@ -33,8 +33,9 @@ pub struct Year {
     pub good: bool,
 }
 
-// The parts found so far, the place that is reached, and whether all went well. Where not, the place is that of the
-// first byte at which no text of good shape could go on.
+// The parts found so far, the place that is reached, and whether every part up to there was found. Where not, the place
+// is that of the first byte at which no text of good shape could go on. Of a year no more is kept than one above the
+// greatest.
 pub struct Scan {
     pub negative: bool,
     pub year: u16,
@@ -116,17 +117,21 @@ fn year_at(s: &[u8], at: usize) -> Year
     }
 }
 
-// Whether the four digits from a place on are all 0.
+// Whether four bytes from a place on are all 0.
 fn zeros(s: &[u8], at: usize) -> bool
     requires { ⌜ at ≤ length (now s) ⌝ }
     ensures { λ r. ⌜ r ≡ fourZeros (now (s .entry)) at ⌝ }
 {
-    let a = pair_at(s, at);
-    if a.value != 0 {
+    if byte(s, at) != b'0' {
         return false;
     }
-    let b = pair_at(s, at + 2);
-    b.value == 0
+    if byte(s, at + 1) != b'0' {
+        return false;
+    }
+    if byte(s, at + 2) != b'0' {
+        return false;
+    }
+    byte(s, at + 3) == b'0'
 }
 
 // Whether a year of more than four digits begins with 0.
@@ -362,9 +367,9 @@ fn start(kind: Kind) -> Scan
         year: d.year,
         month: d.month,
         day: d.day,
-        hour: (d.micros / (3600 * parts)) as u8,
-        minute: (d.micros / (60 * parts) % 60) as u8,
-        second: (d.micros / parts % 60) as u8,
+        hour: (d.micros / (Span::HOUR * parts)) as u8,
+        minute: (d.micros / (Span::MINUTE * parts) % Span::HOUR_MINUTES) as u8,
+        second: (d.micros / parts % Span::MINUTE) as u8,
         part: (d.micros % parts) as u32,
         long: false,
         sign: 0,

@@ -11,7 +11,7 @@ use Rattle.value.specs.declared.Kind.the-variants as KV
 use Rattle.value.specs.declared.Value.{Value}
 use Rattle.value.specs.declared.Value.the-variants as VV
 
--- the record of a date, a time or a dateTime; durations have none, and all their kind's template for it
+-- the record of a date, a time or a dateTime; for durations, which have none, their kind's template
 abbrev pub momentOf : Value → DateTime
 momentOf (VV.Date d) = d
 momentOf (VV.Time d) = d

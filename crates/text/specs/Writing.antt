@@ -1,5 +1,4 @@
 -- Document 01, "Writing text" and refusals 16 and 15: the text of a value, and what a lent room holds after it was written.
-use mathlib.Core.Bool.{Bool, true, false}
 use mathlib.Core.List.{List, _++_}
 use Prim.Native.Nat.{ℕ}
 use lib.Dec.{leb}

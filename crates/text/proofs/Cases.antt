@@ -1,0 +1,41 @@
+-- Document 01, "Writing text" and refusal 15, by computation: the longest text has 32 bytes. A room of one byte less keeps
+-- every byte; one that just fits is filled; of a longer one the bytes after the text stay.
+use mathlib.Core.Path.{_≡_, refl}
+use mathlib.Core.List.{List, [], _∷_, _++_}
+use Prim.Native.Nat.{ℕ}
+use lib.ListN.{replicate}
+use Rattle.basis.specs.Choice.{both, every}
+use Rattle.basis.specs.Answer.{gives, refuses}
+use Rattle.basis.specs.Letters.{bytes}
+use Rattle.value.specs.Values.{okDate, okOffset, okZone, okDateTime}
+use Rattle.value.specs.Kinds.{okValue}
+use Rattle.value.specs.declared.Offset.the-variants.{East}
+use Rattle.value.specs.declared.Zone.the-variants.{At}
+use Rattle.value.specs.declared.Value.{Value}
+use Rattle.value.specs.declared.Value.the-variants.{DateTime}
+use Rattle.numerals.specs.Writing.{digits, stripped, fractionText}
+use Rattle.scan.specs.Scanning.{isPair}
+use Rattle.layouts.specs.Writing.{textBy, partText, pairOf}
+use Rattle.text.specs.Writing.{textOf, written, afterWrite}
+
+abbrev last : Value
+last = DateTime (record { year = 9999; month = 12; day = 31; micros = 86_399_999_999; zone = At (East 840) })
+
+abbrev text : List ℕ
+text = bytes "9999-12-31T23:59:59.999999+14:00"
+
+-- a room in which other bytes stand
+abbrev room : ℕ → List ℕ
+room n = replicate n 7
+
+one-byte-less : (written last 31 ≡ refuses 15) × (afterWrite last (room 31) ≡ room 31)
+unfolding written afterWrite textOf textBy partText pairOf isPair digits stripped fractionText okValue okDateTime okDate okZone okOffset both every
+one-byte-less = (refl, refl)
+
+just-fits : (written last 32 ≡ gives 32) × (afterWrite last (room 32) ≡ text)
+unfolding written afterWrite textOf textBy partText pairOf isPair digits stripped fractionText okValue okDateTime okDate okZone okOffset both every
+just-fits = (refl, refl)
+
+bytes-after-stay : (written last 34 ≡ gives 32) × (afterWrite last (room 34) ≡ text ++ room 2)
+unfolding written afterWrite textOf textBy partText pairOf isPair digits stripped fractionText okValue okDateTime okDate okZone okOffset both every
+bytes-after-stay = (refl, refl)

@@ -1,0 +1,117 @@
+-- The numbers that reading refuses with are 1, 2 and 3; those of writing are 16 and 15.
+use mathlib.Core.Path.{_≡_, refl}
+use mathlib.Core.Bool.{Bool, true, false}
+use mathlib.Core.List.{List, [], _∷_}
+use Prim.Native.Nat.{ℕ, _+_, _*_}
+use lib.Dec.{eqb, leb}
+use lib.ListN.{length}
+use Rattle.basis.specs.Choice.{pick}
+use Rattle.basis.specs.Answer.{Answer, gives, refuses}
+use Rattle.calendar.specs.declared.Date.{Date}
+use Rattle.calendar.specs.declared.Dated.{Dated}
+use Rattle.calendar.specs.declared.Dated.the-variants.{On, Later}
+use Rattle.calendar.specs.Calendar.{dayOf, datedOf}
+use Rattle.value.specs.Bounds.{maxYear}
+use Rattle.value.specs.Refusals.{badText, beyondBounds, longFraction, noRoom, outside}
+use Rattle.value.specs.Kinds.{hasDate, okValue}
+use Rattle.value.specs.Values.{okDate}
+use Rattle.value.specs.declared.Zone.{Zone}
+use Rattle.value.specs.declared.DateTime.{DateTime}
+use Rattle.value.specs.declared.Kind.{Kind}
+use Rattle.value.specs.declared.Kind.the-variants as KV
+use Rattle.value.specs.declared.Value.{Value}
+use Rattle.value.proofs.Numbers.{among, only, only-either, only-refused}
+use Rattle.scan.specs.declared.Scan.{Scan}
+use Rattle.scan.specs.Scanning.{whole, partsOf}
+use Rattle.layouts.specs.Reading as layouts
+use Rattle.durations.specs.Walks.{counted, readBy, shape, asValue}
+use Rattle.durations.specs.Forms.{Form, dayTime, yearMonth}
+use Rattle.durations.specs.declared.Shape.{Shape}
+use Rattle.durations.specs.declared.Amount.{Amount}
+use Rattle.text.specs.Reading.{readAs}
+use Rattle.text.specs.Writing.{textOf, written}
+
+abbrev pub readingNumbers : List ℕ
+readingNumbers = badText ∷ beyondBounds ∷ longFraction ∷ []
+
+abbrev pub writingNumbers : List ℕ
+writingNumbers = outside ∷ noRoom ∷ []
+
+abbrev Reads : {A : Type 0} → Answer A → Type 0
+Reads x = only readingNumbers x ≡ true
+
+either : {A : Type 0} (b : Bool) (x y : Answer A) → Reads x → Reads y → Reads (pick b x y)
+either b x y p q = only-either readingNumbers b x y p q
+
+-- dates, times and dateTimes
+valued-numbers : (k : Kind) (d : DateTime) → Reads (layouts.valued k d)
+valued-numbers KV.Date d = refl
+valued-numbers KV.Time d = refl
+valued-numbers KV.DateTime d = refl
+valued-numbers KV.DayTimeDuration d = refl
+valued-numbers KV.YearMonthDuration d = refl
+
+start-numbers : (k : Kind) (z : Zone) (d : Dated) → Reads (layouts.startOfDay k z d)
+start-numbers k z (On d) = valued-numbers k (layouts.placedOn d 0 z)
+start-numbers k z Later = refl
+
+next-numbers : (k : Kind) (d : Date) (z : Zone) → Reads (layouts.nextDay k d z)
+unfolding layouts.nextDay
+next-numbers k d z = either (hasDate k) _ _ (start-numbers k z (datedOf (dayOf d + 1) maxYear)) (valued-numbers k (layouts.placedOn d 0 z))
+
+clocked-numbers : (k : Kind) (d : Date) (h m s u : ℕ) (z : Zone) → Reads (layouts.clocked k d h m s u z)
+unfolding layouts.clocked
+clocked-numbers k d h m s u z =
+    either (layouts.okClock h m s) _ _ (valued-numbers k (layouts.placedOn d (layouts.ticksOf h m s u) z))
+    (either (layouts.isDayEnd h m s u) _ _ (next-numbers k d z) refl)
+
+calendar-numbers : (k : Kind) (d : Date) (h m s u sign zh zm : ℕ) → Reads (layouts.onCalendar k d h m s u sign zh zm)
+unfolding layouts.onCalendar
+calendar-numbers k d h m s u sign zh zm =
+    either (okDate (d .year) (d .month) (d .day)) _ _
+    (either (layouts.okParts zh zm) _ _ (clocked-numbers k d h m s u (layouts.zoneIs sign (zh * 60 + zm))) refl) refl
+
+bounded-numbers : (long negative : Bool) (year : ℕ) (rest : Answer Value) → Reads rest → Reads (layouts.bounded long negative year rest)
+unfolding layouts.bounded
+bounded-numbers long negative year rest h = either long _ _ refl (either negative _ _ refl (either (leb year maxYear) _ _ h refl))
+
+judge-numbers : (k : Kind) (n : ℕ) (t : Scan) → Reads (layouts.judge k n t)
+unfolding layouts.judge
+judge-numbers k n t =
+    either (t .good) _ _
+    (either (eqb (t .at) n) _ _ (bounded-numbers (t .long) (t .negative) (t .year) _
+    (calendar-numbers k (record { year = t .year; month = t .month; day = t .day }) (t .hour) (t .minute) (t .second) (t .part) (t .sign) (t .zh) (t .zm))) refl) refl
+
+-- durations
+counted-numbers : (unit most : ℕ) (t : Shape) → Reads (counted unit most t)
+unfolding counted
+counted-numbers unit most t = either (t .good) _ _ (either (t .long) _ _ refl (either (leb (t .sum * unit + t .ticks) most) _ _ refl refl)) refl
+
+value-numbers : (f : Amount → Value) (x : Answer Amount) → Reads x → Reads (asValue f x)
+value-numbers f (gives a) h = refl
+value-numbers f (refuses n) h = h
+
+duration-numbers : (f : Form) (s : List ℕ) → Reads (readBy f s)
+unfolding readBy
+duration-numbers f s = counted-numbers (f .unit) (f .most) (shape (f .before) (f .after) s)
+
+read-numbers : (k : Kind) (s : List ℕ) → Reads (readAs k s)
+unfolding readAs layouts.readLayout
+read-numbers KV.Date s = judge-numbers KV.Date (length s) (partsOf whole KV.Date s)
+read-numbers KV.Time s = judge-numbers KV.Time (length s) (partsOf whole KV.Time s)
+read-numbers KV.DateTime s = judge-numbers KV.DateTime (length s) (partsOf whole KV.DateTime s)
+read-numbers KV.DayTimeDuration s = value-numbers _ (readBy dayTime s) (duration-numbers dayTime s)
+read-numbers KV.YearMonthDuration s = value-numbers _ (readBy yearMonth s) (duration-numbers yearMonth s)
+
+-- a text that does not read is refused with 1, 2 or 3
+pub read-refuses : (k : Kind) (s : List ℕ) (n : ℕ) → readAs k s ≡ refuses n → among readingNumbers n ≡ true
+read-refuses k s n e = only-refused readingNumbers (readAs k s) n (read-numbers k s) e
+
+-- a value that is not written is refused with 16 or 15
+pub write-refuses : (v : Value) (room n : ℕ) → written v room ≡ refuses n → among writingNumbers n ≡ true
+unfolding written
+write-refuses v room n e =
+    only-refused writingNumbers (written v room) n
+    (only-either writingNumbers (okValue v) (pick (leb (length (textOf v)) room) (gives (length (textOf v))) (refuses noRoom)) (refuses outside)
+    (only-either writingNumbers (leb (length (textOf v)) room) (gives (length (textOf v))) (refuses noRoom) refl refl) refl)
+    e
