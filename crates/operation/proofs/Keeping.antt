@@ -1,8 +1,8 @@
--- Adjustment of a value that has a zone: a dateTime keeps its instant, a time its instant modulo 24 hours, and a time is
--- never refused for its result.
+-- Adjustment of a value that has a zone: a dateTime keeps its instant, a time its instant modulo 24 hours, and a date becomes
+-- the date in the new zone at the instant at which it started.
 use mathlib.Core.Path.{_≡_, refl, ap, sym, _∙_}
 use mathlib.Core.Bool.{true}
-use Prim.Native.Nat.{ℕ, _+_, _-_, _*_, _%_, _≤_}
+use Prim.Native.Nat.{ℕ, _+_, _-_, _*_, _%_, _≤_, _<_}
 use native.Mathlib.Omega.{arith}
 use Rattle.basis.specs.Choice.{pick, both}
 use Rattle.basis.specs.Answer.{gives, refuses}
@@ -22,7 +22,7 @@ use Rattle.value.specs.declared.Kind.{Kind}
 use Rattle.value.specs.declared.Kind.the-variants as KV
 use Rattle.value.specs.declared.Value.{Value}
 use Rattle.value.specs.declared.Value.the-variants as VV
-use Rattle.value.proofs.Good.{east-to, west-to}
+use Rattle.value.proofs.Good.{timed, east-to, west-to}
 use Rattle.value.proofs.Locals.{local-of-placed}
 use Rattle.shifting.specs.Operands.{valueOf}
 use Rattle.shifting.specs.Results.{atTicks}
@@ -31,6 +31,7 @@ use Rattle.shifting.proofs.Given.{given-test, given-rest}
 use Rattle.shifting.proofs.Undo.{placed-gives, given-in-years}
 use Rattle.operation.specs.Adjustment.{isZone, zoneOf, localAt, adjustedFrom, adjustedTo, momentTo, operandTo, adjustOf}
 use Rattle.operation.proofs.Zones.{zone-ok, own-zone, instant-reaches}
+use Rattle.operation.proofs.Validity.{adjust-within}
 
 -- the instant of a local time is that from which the local time was taken
 instant-back : (i : ℕ) (z : Offset) → okOffset z ≡ true → dayTicks ≤ i → instantAt (localAt i z) z ≡ i
@@ -116,3 +117,34 @@ adjust-keeps-time o d e t w z h =
           ∙ ap (λ (s : ℕ). s % dayTicks) (sym (own-instant o d w z)),
       n,
     )
+
+-- the start of a local time's day
+start-of-day : (x : DateTime) → localOf (kept KV.Date x) + x .micros ≡ localOf x
+unfolding localOf
+start-of-day x = omega arith
+
+module _ (l i s e w : ℕ) (he : e ≤ maxZone) (hw : w ≤ maxZone) (hi : dayTicks ≤ i) (hs : dayTicks ≤ s) (hl : l ≡ i + e * minuteTicks - w * minuteTicks) (m : s + l % dayTicks ≡ l) where
+  within-day : (s + w * minuteTicks - e * minuteTicks ≤ i) × (i < s + w * minuteTicks - e * minuteTicks + dayTicks)
+  within-day = (omega arith, omega arith)
+
+pub adjust-keeps-day : (o : Offset) (d e : DateTime) (t : D.DayTime) (w : Offset) → d .zone ≡ At w
+    → adjustOf (VV.Date d) (VV.DayTime t) ≡ gives (VV.Date e)
+    → (instantOf o e ≤ instantOf o d) × (instantOf o d < instantOf o e + dayTicks) × (e .zone ≡ At (zoneOf t))
+unfolding adjustOf operandTo momentTo
+adjust-keeps-day o d e t w z h =
+    let a = adjusted-by KV.Date d t w (VV.Date e) z h in
+    let g : okDateTime d ≡ true = moment-ok KV.Date d (a .own-ok) in
+    let i : ℕ = instantAt (localOf d) w in
+    let l : ℕ = localAt i (zoneOf t) in
+    let y = given-in-years KV.Date l (At (zoneOf t)) (VV.Date e) (a .placed) in
+    let f : gives (VV.Date (kept KV.Date (atLocal l (At (zoneOf t))))) ≡ gives (VV.Date e) = sym (placed-gives KV.Date l (At (zoneOf t)) y) ∙ a .placed in
+    let x : kept KV.Date (atLocal l (At (zoneOf t))) ≡ e = cc in
+    let r = instant-reaches d w g (own-zone d w g z) in
+    let n : e .zone ≡ At (zoneOf t) = ap (λ (s : DateTime). s .zone) (sym x) in
+    let k : okDateTime (kept KV.Date (atLocal l (At (zoneOf t)))) ≡ true = ap okDateTime x ∙ moment-ok KV.Date e (adjust-within (VV.Date d) (VV.DayTime t) (VV.Date e) h) in
+    let q = timed (kept KV.Date (atLocal l (At (zoneOf t)))) k .local-from in
+    let m : localOf (kept KV.Date (atLocal l (At (zoneOf t)))) + l % dayTicks ≡ l = start-of-day (atLocal l (At (zoneOf t))) ∙ local-of-placed l (At (zoneOf t)) in
+    let b = within-day l i (localOf (kept KV.Date (atLocal l (At (zoneOf t))))) (east (zoneOf t)) (west (zoneOf t)) (east-to (zoneOf t) (a .zone-good)) (west-to (zoneOf t) (a .zone-good)) (r .from) q refl m in
+    let c : instantOf o e ≡ instantAt (localOf (kept KV.Date (atLocal l (At (zoneOf t))))) (zoneOf t) = own-instant o e (zoneOf t) n ∙ ap (λ (s : DateTime). instantAt (localOf s) (zoneOf t)) (sym x) in
+    let u : instantOf o d ≡ i = own-instant o d w z in
+    (omega (arith, b .0), omega (arith, b .1), n)

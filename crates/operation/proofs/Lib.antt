@@ -5,5 +5,7 @@ pub mod Validity
 pub mod CastLaws
 pub mod Keeping
 pub mod OrderLaws
+pub mod Differences
 pub mod TimeLaws
+pub mod Numbers
 pub mod Cases

@@ -11,21 +11,18 @@ use value::Refusal;
 use value::Span;
 use value::Value;
 use value::Zone;
-use value::spans;
 use value::ticks;
 ghost use mathlib.Core.Path.{_≡_};
-ghost use mathlib.Core.Bool.{true, false};
-ghost use Prim.Native.Nat.{ℕ, _*_, _<_, _≤_, _^_};
-ghost use Rattle.value.specs.Bounds.{parts, maxZone};
+ghost use mathlib.Core.Bool.{true};
+ghost use Prim.Native.Nat.{_*_, _<_, _≤_, _^_};
+ghost use Rattle.value.specs.Bounds.{parts, minuteSeconds, maxZone};
 ghost use Rattle.value.specs.Values.{okOffset, okDateTime, okDayTime};
 ghost use Rattle.value.specs.Kinds.{okValue, meaning};
 ghost use Rattle.value.specs.Ticks.{spanOf, ticksOf};
 ghost use Rattle.shifting.specs.Operands.{operandOf};
 ghost use Rattle.operation.specs.Adjustment as the;
 
-const MINUTE: u64 = 60;
-
-const MINUTE_TICKS: u64 = MINUTE * Span::PARTS as u64;
+const MINUTE_TICKS: u64 = Span::MINUTE * Span::PARTS as u64;
 
 fn is_zone(z: DayTime) -> bool
     ensures { λ r. ⌜ r ≡ the.isZone z ⌝ }
@@ -49,18 +46,18 @@ fn zone_of(z: DayTime) -> Offset
 
 // The local time of an instant.
 fn local_at(t: Span, o: Offset) -> Span
-    requires { ⌜ (t .part < parts) × (maxZone * 60 ≤ t .seconds) × (t .seconds < 2 ^ 63) × (okOffset o ≡ true) ⌝ }
+    requires { ⌜ (t .part < parts) × (maxZone * minuteSeconds ≤ t .seconds) × (t .seconds < 2 ^ 63) × (okOffset o ≡ true) ⌝ }
     ensures { λ r. ⌜ r ≡ spanOf (the.localAt (ticksOf t) o) ⌝ }
 {
     let seconds = t.seconds;
     let part = t.part;
     match o {
         Offset::East(m) => Span {
-            seconds: seconds + m as u64 * MINUTE,
+            seconds: seconds + m as u64 * Span::MINUTE,
             part,
         },
         Offset::West(m) => Span {
-            seconds: seconds - m as u64 * MINUTE,
+            seconds: seconds - m as u64 * Span::MINUTE,
             part,
         },
     }

@@ -5,6 +5,8 @@ pub mod Bounded
 pub mod Steps
 pub mod Lengths
 pub mod Given
+pub mod Numbers
 pub mod Valid
 pub mod Undo
+pub mod Still
 pub mod Reach

@@ -1,5 +1,5 @@
--- Document 01, "Operations": the rules speak of a date, time or dateTime, of a dayTimeDuration and of a
--- yearMonthDuration. An operand is a value as one of these three; of the first three kinds it has the kind and the record.
+-- Document 01, "Operations": the rules speak of a date, time or dateTime, of a dayTimeDuration, and of a
+-- yearMonthDuration. An operand is a value as one of these; a date, time or dateTime has its kind beside its record.
 use mathlib.Core.Bool.{Bool}
 use Prim.Native.Nat.{ℕ}
 use lib.Dec.{eqb}
@@ -20,7 +20,8 @@ operandOf (VV.DateTime d) = Moment KV.DateTime d
 operandOf (VV.DayTime t) = DayTime t
 operandOf (VV.YearMonth m) = YearMonth m
 
--- the date, time or dateTime with a record, by the parts that its kind has
+-- the date, time or dateTime with a record, by the parts that its kind has. (The two duration kinds have no such value; they
+-- are never asked.)
 abbrev pub valueOf : Kind → DateTime → Value
 valueOf k d = pick (hasDate k) (pick (hasTime k) (VV.DateTime d) (VV.Date d)) (VV.Time d)
 

@@ -1,5 +1,5 @@
--- Document 01, "Operations": a date, time or dateTime plus a duration. A duration is p - q, of which one at least is 0;
--- minus it is q - p.
+-- Document 01, "Operations": a date, time or dateTime plus a duration. A duration is the number p - q; its opposite, for
+-- minus, is q - p.
 use Prim.Native.Nat.{ℕ, _+_, _-_, _*_, _/_, _%_, min}
 use lib.Dec.{leb}
 use Rattle.basis.specs.Choice.{pick, both}

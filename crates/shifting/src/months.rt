@@ -8,14 +8,14 @@ use value::Refusal;
 use value::YearMonth;
 use value::kinds;
 ghost use mathlib.Core.Path.{_≡_};
-ghost use mathlib.Core.Bool.{true, false};
-ghost use Prim.Native.Nat.{ℕ, _+_, _-_, _*_, _<_, _≤_, min};
+ghost use mathlib.Core.Bool.{true};
+ghost use Prim.Native.Nat.{_≤_, min};
 ghost use Rattle.value.specs.Bounds.{maxYearMonth};
 ghost use Rattle.value.specs.Values.{okDateTime};
 ghost use Rattle.value.specs.Kinds.{meaning};
 ghost use Rattle.shifting.specs.Shifts as the;
 
-const MONTHS: u32 = 12;
+const MONTHS: u32 = calendar::MONTH_COUNT as u32;
 
 fn lesser(a: u8, b: u8) -> u8
     ensures { λ r. ⌜ r ≡ min a b ⌝ }

@@ -5,11 +5,10 @@ use value::Kind;
 use value::Value;
 use value::kinds;
 ghost use mathlib.Core.Path.{_≡_};
-ghost use Prim.Native.Nat.{ℕ, min};
 ghost use Rattle.value.specs.Durations as halves;
 ghost use Rattle.shifting.specs.Operands as the;
 
-// The one place that knows how many kinds of values there are.
+// Dates, times and dateTimes are one from here on, with their kind beside them.
 pub fn operand(v: Value) -> Operand
     ensures { λ r. ⌜ r ≡ the.operandOf v ⌝ }
 {

@@ -1,0 +1,127 @@
+-- Order and difference agree: of two values that are compared, the first is less exactly where the first minus the second
+-- is negative, and they are equal exactly where it is zero.
+use mathlib.Core.Path.{_≡_, refl, ap, sym, _∙_}
+use mathlib.Core.Bool.{Bool, true, false}
+use Prim.Native.Nat.{ℕ, _+_}
+use native.Mathlib.Omega.{arith}
+use lib.Dec.{eqb, leb, ltb}
+use borrow.Author.Tests.{ltb-true, ltb-false, eq-eqb, ne-eqb, eqb-true}
+use Rattle.basis.specs.Choice.{pick, both}
+use Rattle.basis.specs.Answer.{gives, refuses}
+use Rattle.value.specs.Refusals.{outside, wrongKind, beyondResult}
+use Rattle.value.specs.Durations.{plus, minus, apart, lessTicks, lessMonths}
+use Rattle.value.specs.Values.{okDayTime, okYearMonth}
+use Rattle.value.specs.Kinds.{kindOf, okValue}
+use Rattle.value.specs.Ticks.{instantOf}
+use Rattle.value.specs.declared.Offset.{Offset}
+use Rattle.value.specs.declared.DateTime.{DateTime}
+use Rattle.value.specs.declared.DayTime as D
+use Rattle.value.specs.declared.YearMonth as Y
+use Rattle.value.specs.declared.Kind.{Kind}
+use Rattle.value.specs.declared.Value.{Value}
+use Rattle.value.specs.declared.Value.the-variants as VV
+use Rattle.shifting.specs.Operands.{operandOf, kindNumber, sameKind}
+use Rattle.shifting.specs.Results.{inTicks, inMonths}
+use Rattle.shifting.specs.declared.Operand.{Operand}
+use Rattle.shifting.specs.declared.Operand.the-variants.{Moment, DayTime, YearMonth}
+use Rattle.shifting.proofs.Given.{given-rest, gives-same}
+use Rattle.arithmetic.specs.Sums.{opposite, oppositeMonths, sumOf, lessMoment, differenceIn, minusIn}
+use Rattle.arithmetic.proofs.Opposites.{plus-opposite, minus-opposite}
+use Rattle.operation.specs.Order.{Order, less, equal, greater, up, down, order, operandOrder, orderIn}
+use Rattle.operation.proofs.OrderLaws.{Comparable, ordered, comparable}
+
+-- how a duration stands to zero, by its sign and magnitude; the other values have neither
+abbrev signOrder : Bool → ℕ → Order
+signOrder negative n = pick negative less (pick (eqb n 0) equal greater)
+
+abbrev pub toZero : Value → Order
+toZero (VV.Date d) = equal
+toZero (VV.Time d) = equal
+toZero (VV.DateTime d) = equal
+toZero (VV.DayTime t) = signOrder (t .negative) (t .micros)
+toZero (VV.YearMonth m) = signOrder (m .negative) (m .months)
+
+-- p - q stands to zero as p stands to q
+sign-is-order : (p q : ℕ) → signOrder (ltb p q) (apart p q) ≡ order p q
+sign-is-order p q = go (ltb p q) (ltb q p) refl refl
+  where
+    go : (a b : Bool) → ltb p q ≡ a → ltb q p ≡ b → signOrder a (apart p q) ≡ pick a less (pick b greater equal)
+    go true b h k = refl
+    go false true h k =
+        let l = ltb-true q p k in
+        ap (λ (c : Bool). pick c equal greater) (ne-eqb (apart p q) 0 (λ e. omega arith))
+    go false false h k =
+        let l = ltb-false p q h in
+        let m = ltb-false q p k in
+        ap (λ (c : Bool). pick c equal greater) (eq-eqb (apart p q) 0 (omega arith))
+
+ticks-order : (p q : ℕ) (v : Value) → inTicks p q ≡ gives v → toZero v ≡ order p q
+unfolding inTicks
+ticks-order p q v e =
+    let s = gives-same (VV.DayTime (lessTicks p q)) v (given-rest (okDayTime (lessTicks p q)) (gives (VV.DayTime (lessTicks p q))) beyondResult v e) in
+    ap toZero (sym s) ∙ sign-is-order p q
+
+months-order : (p q : ℕ) (v : Value) → inMonths p q ≡ gives v → toZero v ≡ order p q
+unfolding inMonths
+months-order p q v e =
+    let s = gives-same (VV.YearMonth (lessMonths p q)) v (given-rest (okYearMonth (lessMonths p q)) (gives (VV.YearMonth (lessMonths p q))) beyondResult v e) in
+    ap toZero (sym s) ∙ sign-is-order p q
+
+-- the sides of a difference are those of the comparison
+swapped : (p q r s : ℕ) → order (p + s) (q + r) ≡ order (p + s) (r + q)
+swapped p q r s = let e : q + r ≡ r + q = omega arith in ap (order (p + s)) e
+
+plain : (p q : ℕ) → order p q ≡ order (p + 0) (q + 0)
+plain p q =
+    let a : p ≡ p + 0 = omega arith in
+    let b : q ≡ q + 0 = omega arith in
+    λ i. order (a i) (b i)
+
+abbrev isMoment : Operand → Bool
+isMoment (Moment k d) = true
+isMoment (DayTime t) = false
+isMoment (YearMonth m) = false
+
+moment-by-kind : (a : Value) → isMoment (operandOf a) ≡ leb (kindNumber (kindOf a)) 2
+moment-by-kind (VV.Date d) = refl
+moment-by-kind (VV.Time d) = refl
+moment-by-kind (VV.DateTime d) = refl
+moment-by-kind (VV.DayTime t) = refl
+moment-by-kind (VV.YearMonth m) = refl
+
+module _ (o : Offset) where
+  operand-sign : (x y : Operand) (v : Value) → isMoment x ≡ isMoment y → differenceIn o x y ≡ gives v → toZero v ≡ operandOrder o x y
+  unfolding differenceIn lessMoment sumOf up down
+  operand-sign (Moment j d) (Moment k e) v h g =
+      ticks-order (instantOf o d) (instantOf o e) v (given-rest (sameKind j k) (inTicks (instantOf o d) (instantOf o e)) wrongKind v g)
+      ∙ plain (instantOf o d) (instantOf o e)
+  operand-sign (Moment j d) (DayTime s) v h g = cc
+  operand-sign (Moment j d) (YearMonth n) v h g = cc
+  operand-sign (DayTime t) (Moment k e) v h g = cc
+  operand-sign (DayTime t) (DayTime s) v h g =
+      let p = plus-opposite (s .negative) (s .micros) in
+      let q = minus-opposite (s .negative) (s .micros) in
+      let f : inTicks (plus (t .negative) (t .micros) + minus (s .negative) (s .micros)) (minus (t .negative) (t .micros) + plus (s .negative) (s .micros)) ≡ gives v
+      = sym (λ i. inTicks (plus (t .negative) (t .micros) + p i) (minus (t .negative) (t .micros) + q i)) ∙ g in
+      ticks-order _ _ v f
+      ∙ swapped (plus (t .negative) (t .micros)) (minus (t .negative) (t .micros)) (plus (s .negative) (s .micros)) (minus (s .negative) (s .micros))
+  operand-sign (DayTime t) (YearMonth n) v h g = cc
+  operand-sign (YearMonth m) (Moment k e) v h g = cc
+  operand-sign (YearMonth m) (DayTime s) v h g = cc
+  operand-sign (YearMonth m) (YearMonth n) v h g =
+      let p = plus-opposite (n .negative) (n .months) in
+      let q = minus-opposite (n .negative) (n .months) in
+      let f : inMonths (plus (m .negative) (m .months) + minus (n .negative) (n .months)) (minus (m .negative) (m .months) + plus (n .negative) (n .months)) ≡ gives v
+      = sym (λ i. inMonths (plus (m .negative) (m .months) + p i) (minus (m .negative) (m .months) + q i)) ∙ g in
+      months-order _ _ v f
+      ∙ swapped (plus (m .negative) (m .months)) (minus (m .negative) (m .months)) (plus (n .negative) (n .months)) (minus (n .negative) (n .months))
+
+  -- what the comparison answers is how the difference stands to zero
+  pub order-by-difference : (a b v : Value) (r : Order) → orderIn o a b ≡ gives r → minusIn o a b ≡ gives v → toZero v ≡ r
+  unfolding minusIn
+  order-by-difference a b v r e f =
+      let c = comparable o a b r e in
+      let k : kindNumber (kindOf a) ≡ kindNumber (kindOf b) = eqb-true (kindNumber (kindOf a)) (kindNumber (kindOf b)) (c .same) in
+      let m : isMoment (operandOf a) ≡ isMoment (operandOf b) = moment-by-kind a ∙ ap (λ (n : ℕ). leb n 2) k ∙ sym (moment-by-kind b) in
+      let g = given-rest (both (okValue a) (okValue b)) (differenceIn o (operandOf a) (operandOf b)) outside v f in
+      operand-sign (operandOf a) (operandOf b) v m g ∙ gives-same _ _ (sym (ordered o a b c) ∙ e)

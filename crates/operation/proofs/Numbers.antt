@@ -1,0 +1,87 @@
+-- The numbers that each call refuses with: comparing, casting and removing a zone 16 and 9; adjustment 16, 9, 5 and 4.
+-- (Those of plus, minus and times are in crate `arithmetic`.)
+use mathlib.Core.Path.{_≡_, refl}
+use mathlib.Core.Bool.{Bool, true, false}
+use mathlib.Core.List.{List, [], _∷_}
+use Prim.Native.Nat.{ℕ}
+use Rattle.basis.specs.Choice.{pick, both}
+use Rattle.basis.specs.Answer.{Answer, gives, refuses}
+use Rattle.value.specs.Refusals.{outside, wrongKind, badZone, beyondResult}
+use Rattle.value.specs.Kinds.{kindOf, okValue}
+use Rattle.value.specs.Ticks.{localOf, instantAt}
+use Rattle.value.specs.declared.Offset.{Offset}
+use Rattle.value.specs.declared.Zone.{Zone}
+use Rattle.value.specs.declared.Zone.the-variants.{Absent, At}
+use Rattle.value.specs.declared.DateTime.{DateTime}
+use Rattle.value.specs.declared.Kind.{Kind}
+use Rattle.value.specs.declared.Value.{Value}
+use Rattle.value.proofs.Numbers.{among, only, only-either, only-refused}
+use Rattle.shifting.specs.Operands.{operandOf, sameKind}
+use Rattle.shifting.specs.declared.Operand.{Operand}
+use Rattle.shifting.specs.declared.Operand.the-variants.{Moment, DayTime, YearMonth}
+use Rattle.shifting.proofs.Numbers.{placed-numbers}
+use Rattle.operation.specs.Order.{operandOrder, orderIn}
+use Rattle.operation.specs.Casts.{castsTo, castTo, castOf}
+use Rattle.operation.specs.Adjustment.{isZone, zoneOf, localAt, adjustedFrom, momentTo, operandTo, adjustOf, withoutZone, unzoneOf}
+
+abbrev pub kindNumbers : List ℕ
+kindNumbers = outside ∷ wrongKind ∷ []
+
+abbrev pub adjustNumbers : List ℕ
+adjustNumbers = outside ∷ wrongKind ∷ badZone ∷ beyondResult ∷ []
+
+pub compare-refuses : (o : Offset) (a b : Value) (n : ℕ) → orderIn o a b ≡ refuses n → among kindNumbers n ≡ true
+unfolding orderIn
+compare-refuses o a b n e =
+    only-refused kindNumbers (orderIn o a b) n
+    (only-either kindNumbers (both (okValue a) (okValue b))
+    (pick (sameKind (kindOf a) (kindOf b)) (gives (operandOrder o (operandOf a) (operandOf b))) (refuses wrongKind)) (refuses outside)
+    (only-either kindNumbers (sameKind (kindOf a) (kindOf b)) (gives (operandOrder o (operandOf a) (operandOf b))) (refuses wrongKind) refl refl) refl)
+    e
+
+pub cast-refuses : (a : Value) (k : Kind) (n : ℕ) → castOf a k ≡ refuses n → among kindNumbers n ≡ true
+unfolding castOf
+cast-refuses a k n e =
+    only-refused kindNumbers (castOf a k) n
+    (only-either kindNumbers (okValue a) (pick (castsTo (kindOf a) k) (gives (castTo k (operandOf a))) (refuses wrongKind)) (refuses outside)
+    (only-either kindNumbers (castsTo (kindOf a) k) (gives (castTo k (operandOf a))) (refuses wrongKind) refl refl) refl)
+    e
+
+without-numbers : (x : Operand) → only kindNumbers (withoutZone x) ≡ true
+unfolding withoutZone
+without-numbers (Moment k d) = refl
+without-numbers (DayTime t) = refl
+without-numbers (YearMonth m) = refl
+
+pub unzone-refuses : (a : Value) (n : ℕ) → unzoneOf a ≡ refuses n → among kindNumbers n ≡ true
+unfolding unzoneOf
+unzone-refuses a n e =
+    only-refused kindNumbers (unzoneOf a) n
+    (only-either kindNumbers (okValue a) (withoutZone (operandOf a)) (refuses outside) (without-numbers (operandOf a)) refl)
+    e
+
+adjusted-numbers : (k : Kind) (d : DateTime) (x : Zone) (z : Offset) → only adjustNumbers (adjustedFrom k d x z) ≡ true
+unfolding adjustedFrom
+adjusted-numbers k d Absent z = refl
+adjusted-numbers k d (At w) z = placed-numbers adjustNumbers refl k (localAt (instantAt (localOf d) w) z) (At z)
+
+moment-numbers : (k : Kind) (d : DateTime) (y : Operand) → only adjustNumbers (momentTo k d y) ≡ true
+unfolding momentTo
+moment-numbers k d (Moment j e) = refl
+moment-numbers k d (DayTime t) =
+    only-either adjustNumbers (isZone t) (adjustedFrom k d (d .zone) (zoneOf t)) (refuses badZone) (adjusted-numbers k d (d .zone) (zoneOf t)) refl
+moment-numbers k d (YearMonth m) = refl
+
+operand-numbers : (x y : Operand) → only adjustNumbers (operandTo x y) ≡ true
+unfolding operandTo
+operand-numbers (Moment k d) y = moment-numbers k d y
+operand-numbers (DayTime t) y = refl
+operand-numbers (YearMonth m) y = refl
+
+pub adjust-refuses : (a z : Value) (n : ℕ) → adjustOf a z ≡ refuses n → among adjustNumbers n ≡ true
+unfolding adjustOf
+adjust-refuses a z n e =
+    only-refused adjustNumbers (adjustOf a z) n
+    (only-either adjustNumbers (both (okValue a) (okValue z)) (operandTo (operandOf a) (operandOf z)) (refuses outside)
+    (operand-numbers (operandOf a) (operandOf z)) refl)
+    e
