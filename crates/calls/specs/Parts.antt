@@ -19,7 +19,7 @@ use Rattle.calls.specs.Replies.{numberText, numberWidth}
 abbrev pub space : ℕ
 space = 32
 
--- room enough for the texts below: the names, and as many numbers
+-- no text of a date, a clock or a zone below is longer than this: its names, and its numbers with their width
 abbrev pub dateRoom : ℕ
 dateRoom = 17 + 3 * numberWidth
 

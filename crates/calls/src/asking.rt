@@ -10,7 +10,7 @@ use words::Named;
 use words::runs::same;
 use words::symbols::named;
 ghost use mathlib.Core.Path.{_≡_};
-ghost use Prim.Native.Nat.{_+_, _≤_, _<_, min};
+ghost use Prim.Native.Nat.{_≤_, _<_, min};
 ghost use lib.ListN.{length};
 ghost use Rattle.numerals.specs.Reading.{run};
 ghost use Rattle.calls.specs.Asked as the;

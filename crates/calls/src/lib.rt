@@ -43,7 +43,7 @@ pub enum Form {
 // An input has at most so many bytes.
 pub const MAX_INPUT: usize = 65_536;
 
-// Every reply is shorter.
+// No answer's text is longer.
 pub const REPLY: usize = 192;
 
 // The text of an answer, and zeros after it.
@@ -61,12 +61,12 @@ fn one_call(line: &[u8], o: One, k: Kind) -> Reply
     }
 }
 
-fn two_call(line: &[u8], o: Two, k: Kind, l: Kind) -> Reply
-    ensures { λ r. ⌜ r ≡ replyOf (the.textBy (now (line .entry)) (F.OfTwo o k l)) ⌝ }
+fn two_call(line: &[u8], o: Two, left: Kind, right: Kind) -> Reply
+    ensures { λ r. ⌜ r ≡ replyOf (the.textBy (now (line .entry)) (F.OfTwo o left right)) ⌝ }
 {
-    match text::read(k, field(line, 3)) {
+    match text::read(left, field(line, 3)) {
         Outcome::Refused(r) => calling::refused(r),
-        Outcome::Is(a) => match text::read(l, field(line, 5)) {
+        Outcome::Is(a) => match text::read(right, field(line, 5)) {
             Outcome::Refused(r) => calling::refused(r),
             Outcome::Is(b) => calling::two_said(o, a, b),
         },

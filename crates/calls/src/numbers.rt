@@ -5,7 +5,7 @@ use crate::building::with_text;
 use numerals::Text;
 ghost use mathlib.Core.Path.{_≡_};
 ghost use mathlib.Core.List.{_++_};
-ghost use Prim.Native.Nat.{_+_, _≤_, _<_};
+ghost use Prim.Native.Nat.{_+_, _≤_};
 ghost use lib.ListN.{length};
 ghost use lib.IntN.{natAbs};
 ghost use Rattle.basis.specs.Choice.{pick};
