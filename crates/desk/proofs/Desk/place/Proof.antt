@@ -4,7 +4,7 @@ use mathlib.Core.Path.{_≡_, refl, sym, ap, _∙_}
 use Prim.Native.Nat.{ℕ, _+_, _-_, _*_, _%_, _≤_, _<_}
 use Rattle.desk.proofs.Scans.{first-hit, first-miss, first-end}
 use Rattle.desk.specs.Scan.{first}
-use Rattle.desk.specs.Seats.{placeOf, hasTicket}
+use Rattle.desk.specs.Seats.{seatAt, placeOf, hasTicket}
 use Rattle.basis.specs.Choice.{both}
 use borrow.Author.Tests.{eq-eqb, ne-eqb}
 use mathlib.Core.Logic.{⊎-elim}
@@ -39,7 +39,8 @@ returns : tie.Need-returns Inv-loop μ-loop
 unfolding both
 returns c =
     let b = c .before .before .before in
-    let e : hasTicket (b .before .args .t1) (b .before .args .ticket) (b .loop .i) ≡ true = rw (c .before .if1 .taken) (eq-eqb _ _ (c .if2 .taken)) in
+    let q : seatAt (b .before .args .t1) (b .loop .i) .ticket ≡ b .before .args .ticket = omega arith in
+    let e : hasTicket (b .before .args .t1) (b .before .args .ticket) (b .loop .i) ≡ true = rw (c .before .if1 .taken) (eq-eqb _ _ q) in
     (sym (b .loop .inv .1 ∙ first-hit _ _ _ (c .before .before .loop-test .taken) e), b .loop .inv .0)
 
 add-i : tie.Need-add-i Inv-loop μ-loop
