@@ -18,6 +18,14 @@ pub beq-false : (b : Bool) → Bool·beq b false ≡ true → b ≡ false
 beq-false true h = sym h
 beq-false false h = refl
 
+pub beq-other : (b : Bool) → Bool·beq b false ≡ false → b ≡ true
+beq-other true h = refl
+beq-other false h = sym h
+
+pub beq-neither : (b : Bool) → Bool·beq b true ≡ false → b ≡ false
+beq-neither true h = h
+beq-neither false h = refl
+
 -- ---- first, along a loop that counts j up to e
 hit-at : (p : ℕ → Bool) (i n k : ℕ) → n ≡ suc k → p i ≡ true → first p i n ≡ i
 unfolding first
@@ -68,6 +76,30 @@ first-ge p i (suc n) = go (p i) (first-ge p (suc i) n)
     go : (b : Bool) → suc i ≤ first p (suc i) n → i ≤ pick b i (first p (suc i) n)
     go true k = omega arith
     go false k = omega arith
+
+-- nothing before it passes
+pub first-before : (p : ℕ → Bool) (i n j : ℕ) → i ≤ j → j < first p i n → p j ≡ false
+first-before p i n j l m = go (p j) refl
+  where
+    go : (b : Bool) → p j ≡ b → p j ≡ false
+    go false e = e
+    go true e = absurd (omega (arith, first-le p i n j l e))
+
+-- what passes, with nothing before it that does, is what is found
+pub first-is : (p : ℕ → Bool) (i n j : ℕ) → i ≤ j → j < i + n → p j ≡ true → ((m : ℕ) → i ≤ m → m < j → p m ≡ false) → first p i n ≡ j
+first-is p i n j l m h b =
+    let le = first-le p i n j l h in
+    let lt : first p i n < i + n = omega arith in
+    ⊎-elim (λ e. e) (λ s. absurd (true≢false (sym (first-found p i n lt) ∙ b (first p i n) (first-ge p i n) s))) (eq-or-lt-of-le le)
+
+-- where none passes
+pub first-none : (p : ℕ → Bool) (i n : ℕ) → ((j : ℕ) → i ≤ j → j < i + n → p j ≡ false) → first p i n ≡ i + n
+unfolding first
+first-none p i zero b = omega arith
+first-none p i (suc n) b =
+    let e : first p (suc i) n ≡ suc i + n = first-none p (suc i) n (λ j l m. b j (omega arith) (omega arith)) in
+    let q : first p (suc i) n ≡ i + suc n = omega (arith, e) in
+    rw (b i (omega arith) (omega arith)) q
 
 -- ---- all
 pub all-more : (p : ℕ → Bool) (i : ℕ) → all p i ≡ true → p i ≡ true → all p (i + 1) ≡ true

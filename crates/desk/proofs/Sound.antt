@@ -33,14 +33,16 @@ pub record Sound (d : Desk) : Type 0 where
   pub apart : (i j : ℕ) → i < seatCount → j < seatCount → seatAt d i .held ≡ true → seatAt d j .held ≡ true
       → seatAt d i .ticket ≡ seatAt d j .ticket → i ≡ j
 
-module _ (d : Desk) (z : length (d .seats) ≡ seatCount) (h : soundOf d ≡ true) where
-  own-place : (i : ℕ) → i < seatCount → seatAt d i .held ≡ true → placeOf d (seatAt d i .ticket) ≡ i
+module _ (d : Desk) (h : soundOf d ≡ true) where
+  -- a held seat of a sound desk is the first with its ticket
+  pub own-place : (i : ℕ) → i < seatCount → seatAt d i .held ≡ true → placeOf d (seatAt d i .ticket) ≡ i
   unfolding placeSound
   own-place i l e =
       eqb-true _ _
       (both-left (eqb (placeOf d (seatAt d i .ticket)) i) (seatSound (d .issued) (d .«timetable_length») (seatAt d i))
       (rw e at (sound-place d h i l)))
 
+module _ (d : Desk) (z : length (d .seats) ≡ seatCount) (h : soundOf d ≡ true) where
   pub sound-in : Sound d
   sound-in =
       record {
@@ -48,7 +50,7 @@ module _ (d : Desk) (z : length (d .seats) ≡ seatCount) (h : soundOf d ≡ tru
         lastIn = sound-last d h;
         short = sound-length d h;
         seat = sound-seat d h;
-        apart = λ i j li lj hi hj e. sym (own-place i li hi) ∙ ap (placeOf d) e ∙ own-place j lj hj;
+        apart = λ i j li lj hi hj e. sym (own-place d h i li hi) ∙ ap (placeOf d) e ∙ own-place d h j lj hj;
       }
 
 -- the first held place with a ticket is a held place with that ticket

@@ -7,3 +7,4 @@ pub mod Seats
 pub mod Soundness
 pub mod Serving
 pub mod Desk
+pub mod InWords
