@@ -26,7 +26,7 @@ pub mapped-length : {X Y : Type 0} (f : X → Y) (l : List X) (n : ℕ) → leng
 mapped-length f l n p = sym (length-map l f) ∙ p
 
 module _ (t : List ℕ) (d : Desk) (size : ℕ) where
-  some-written : leb (length (turnLine (turnOf t d .answer))) size ≡ true → 1 ≤ length (taken t d size .text)
+  pub some-written : leb (length (turnLine (turnOf t d .answer))) size ≡ true → 1 ≤ length (taken t d size .text)
   some-written e =
       let rest : Taken = pick (isIdle (turnOf t d .answer)) (record { desk = turnOf t d .desk; text = []; idle = true })
       (taken t (turnOf t d .desk) (size - length (turnLine (turnOf t d .answer)))) in

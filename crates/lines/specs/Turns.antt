@@ -56,7 +56,7 @@ atMost (suc n) t d left =
 abbrev pub taken : List ℕ → Desk → ℕ → Taken
 taken t d size = atMost size t d size
 
--- what the code that takes them hands back, and the room before and after: the lines, and after them what it had
+-- what the code that takes them hands back; the room starts with the lines and keeps its other bytes
 pub record Ran (r : Run) (k : Taken) (before after : List ℕ) : Type 0 where
   pub desk : r .desk ≡ k .desk
   pub count : r .written .count ≡ length (k .text)
@@ -75,7 +75,7 @@ turnsOf t d size =
     (refused d wrongTimetable))
     (refused d notSound)
 
--- the room afterwards: the lines, and after them what it had; a refusal leaves it as it was
+-- the room afterwards: it starts with the lines and keeps its other bytes; a refusal leaves it as it was
 unfoldable pub roomAfter : List ℕ → Desk → List ℕ → List ℕ
 roomAfter t d room =
     pick (soundOf d)
@@ -101,15 +101,26 @@ unfoldable pub linesOfTurns : ℕ → List ℕ → Desk → List ℕ
 linesOfTurns zero t d = []
 linesOfTurns (suc n) t d = turnLine (turnOf t d .answer) ++ linesOfTurns n t (turnOf t d .desk)
 
--- k is n single turns: their lines fit, and where the last was not Idle the next line would not
-pub record SingleTurns (k : Taken) (t : List ℕ) (d : Desk) (size n : ℕ) : Type 0 where
-  pub desk : k .desk ≡ deskAfter n t d
-  pub text : k .text ≡ linesOfTurns n t d
-  pub fits : length (linesOfTurns n t d) ≤ size
-  pub stops : k .idle ≡ false → size < length (linesOfTurns n t d) + length (turnLine (turnOf t (deskAfter n t d) .answer))
+-- the answer of the turn after n others
+abbrev pub answerAfter : ℕ → List ℕ → Desk → Answer Turned
+answerAfter n t d = turnOf t (deskAfter n t d) .answer
 
-abbrev pub ManyAreSingle : Type 0
-ManyAreSingle = (t : List ℕ) (d : Desk) (size : ℕ) → (n : ℕ) × SingleTurns (taken t d size) t d size n
+-- Where something was written, what a caller sees is m single turns and one more, the last: the desk is that after them, and
+-- the room starts with their lines and keeps its other bytes. No turn before the last was Idle, `idle` says whether the last
+-- was, and where it was not, the next line would not have fitted.
+pub record SingleTurns (t : List ℕ) (d : Desk) (before : List ℕ) (w : Written) (m : ℕ) : Type 0 where
+  pub desk : turnsOf t d (length before) .desk ≡ deskAfter (suc m) t d
+  pub count : w .count ≡ length (linesOfTurns (suc m) t d)
+  pub fits : w .count ≤ length before
+  pub room : roomAfter t d before ≡ linesOfTurns (suc m) t d ++ drop (w .count) before
+  pub earlier : (j : ℕ) → j < m → isIdle (answerAfter j t d) ≡ false
+  pub last : w .idle ≡ isIdle (answerAfter m t d)
+  pub stops : w .idle ≡ false → length before < w .count + length (turnLine (answerAfter (suc m) t d))
+
+abbrev pub TurnsAreSingle : Type 0
+TurnsAreSingle =
+    (t : List ℕ) (d : Desk) (before : List ℕ) (w : Written) → turnsOf t d (length before) .answer ≡ gives w
+    → (m : ℕ) × SingleTurns t d before w m
 
 -- a refusal leaves desk and room as they were
 abbrev pub RefusedTurnsAlterNothing : Type 0
