@@ -4,5 +4,6 @@ pub mod Fair
 pub mod Aside
 pub mod LineForLine
 pub mod AnyTime
+pub mod InTime
 pub mod Lone
 pub mod Lasts

@@ -1,4 +1,4 @@
--- Demand 3, clause by clause:
+-- Demand 3 in full, clause by clause. Document 01 refers to it by its number; promise 3 of the README is its short form.
 --
 --   "Take a query the desk accepted. Suppose each later open, close or turn is given the desk as the one before handed it
 --   back, every turn the same timetable of L lines, of the length the desk was made for, and nobody closes the query's
@@ -6,7 +6,7 @@
 --   would get with the desk to itself, line for line, only the ticket number aside, however many others open or close
 --   queries meanwhile."
 --
--- The theorems are `demand3`, `demand3-lines`, `demand3-any-time` and `lone-query` (proofs/).
+-- The theorems are `demand3`, `demand3-lines`, `demand3-any-time`, `demand3-in-time` and `lone-query` (proofs/).
 use mathlib.Core.Path.{_≡_}
 use mathlib.Core.Bool.{false}
 use mathlib.Core.List.{List, [], _∷_, _++_, map}
@@ -107,6 +107,12 @@ abbrev pub Demand3AnyTime : Type 0
 Demand3AnyTime =
     (t c : List ℕ) (d : Desk) (k : ℕ) (es : List Event) → Query t c d k → Unclosed k es
     → (rest : List Turned) × (gets t c d k es ++ rest ≡ expected k t c)
+
+-- ---- each answer in its time: at the 16 x nth turn after acceptance at least n of its L + 1 answers are there
+abbrev pub Demand3InTime : Type 0
+Demand3InTime =
+    (t c : List ℕ) (d : Desk) (k n : ℕ) (es : List Event) → Query t c d k → Unclosed k es → n ≤ lineCount t + 1 → seatCount * n ≤ turnCount es
+    → n ≤ length (gets t c d k es)
 
 -- ---- a lone query is served at every turn: empty seats are passed over
 abbrev pub LoneQuery : Type 0
