@@ -14,7 +14,6 @@ use Rattle.desk.specs.Answers.{After, Turned, idle}
 use Rattle.desk.specs.Seats.{freeSeat, seatFor, seatAt, firstFrom, placeOf}
 use Rattle.desk.specs.Soundness.{soundOf}
 use Rattle.desk.specs.Serving.{Step, serveOf}
-use Rattle.desk.specs.declared.Seat.{Seat}
 use Rattle.desk.specs.declared.Desk.{Desk}
 
 -- the desk as it was, and a refusal

@@ -2,7 +2,7 @@
 -- held tickets are nonzero, different and not above the last issued; each held condition passes Open's checks; each held
 -- offset is at most the length; each held seat's hits and unreadable lines together are at most its offset."
 use mathlib.Core.Bool.{Bool, true}
-use mathlib.Core.List.{List, [], _∷_}
+use mathlib.Core.List.{[], _∷_}
 use Prim.Native.Nat.{ℕ, _+_}
 use lib.Dec.{ltb, leb, eqb}
 use Rattle.basis.specs.Choice.{pick, both, every}

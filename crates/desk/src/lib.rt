@@ -4,7 +4,7 @@ use condition::Checked;
 use value::Refusal;
 ghost use mathlib.Core.Path.{_≡_};
 ghost use mathlib.Core.Bool.{true, false};
-ghost use Prim.Native.Nat.{ℕ, _+_, _≤_, _<_};
+ghost use Prim.Native.Nat.{_+_, _≤_, _<_};
 ghost use lib.ListN.{length};
 ghost use Rattle.desk.specs.Bounds.{seatCount};
 ghost use Rattle.desk.specs.Seats.{firstFrom, placeOf};
@@ -15,7 +15,7 @@ ghost use Rattle.desk.specs.Answers.{openMeaning, closeMeaning, turnMean
 pub mod bounds; // bounds.rt: each constant is the number of the definitions
 mod seats; // seats.rt: one seat by itself
 
-// A seat. Where it is not held, every field is zero.
+// A seat. A fresh desk, close and Done leave a free seat all zeros; of a free seat in a desk that is handed in nothing is asked.
 pub struct Seat {
     pub held: bool,
     pub ticket: u32,

@@ -10,7 +10,7 @@ use value::Refusal;
 ghost use mathlib.Core.Path.{_≡_};
 ghost use mathlib.Core.Bool.{true};
 ghost use mathlib.Core.List.{_++_};
-ghost use Prim.Native.Nat.{ℕ, _-_, _^_, _≤_, _<_};
+ghost use Prim.Native.Nat.{ℕ, _-_, _≤_, _<_};
 ghost use lib.ListN.{length, replicate};
 ghost use Rattle.basis.specs.Answer.{gives};
 ghost use Rattle.desk.specs.Bounds.{conditionRoom, maxTimetable};

@@ -1,5 +1,5 @@
--- What lasts over any run of events, refused ones too: a sound desk stays sound, no ticket is issued twice, and another
--- query's opening, closing or answers alter no seat of this one.
+-- What lasts over any run of events, refused ones too: a sound desk stays sound, and no ticket is issued twice. And of each
+-- single call: another query's opening, closing or answer does not alter the seat of this one.
 use mathlib.Core.Path.{_≡_}
 use mathlib.Core.Bool.{true}
 use mathlib.Core.List.{List}

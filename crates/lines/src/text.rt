@@ -2,9 +2,8 @@
 use desk::OpenAnswer;
 use desk::TurnAnswer;
 use numerals::Text;
-ghost use mathlib.Core.Path.{_≡_};
 ghost use mathlib.Core.List.{[], _∷_, _++_};
-ghost use Prim.Native.Nat.{ℕ, _+_, _≤_, _<_};
+ghost use Prim.Native.Nat.{_+_, _≤_, _<_};
 ghost use lib.ListN.{length};
 ghost use Rattle.timetable.specs.Fields.{tab};
 ghost use Rattle.timetable.specs.Lines.{newline};
@@ -86,7 +85,8 @@ pub fn open_line(answer: OpenAnswer) -> Text
     }
 }
 
-// The longest is that of an unreadable line, with 32 bytes.
+// The longest has 32 bytes: an unreadable line with a number of three digits. A line's result has a number of one digit, and no
+// line of a desk is longer than 30.
 pub fn turn_line(answer: TurnAnswer) -> Text
     requires { ⌜ Within (turnMeaning answer) ⌝ }
     ensures { λ r. ⌜ Holds r (turnLine (turnMeaning answer)) ⌝ }
