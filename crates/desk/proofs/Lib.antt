@@ -1,12 +1,2 @@
 pub mod Scans
-pub mod Padding
-pub mod Conditions
 pub mod Soundness
-pub mod Serving
-pub mod Answers
-pub mod Sound
-pub mod Steps
-pub mod NewDesk
-pub mod OwnNumbers
-pub mod InWords
-pub mod Lasting

@@ -1,7 +1,9 @@
 -- Document 01, "Timetable, seats and turns" and "Refusal numbers": what the calls answer. A call hands the next desk back
--- beside its answer. For each answer enum there is one definition that gives document 01's number, or the values.
+-- beside its answer. For each answer enum there is one definition that gives document 01's number, or the values; that of a
+-- turn is `turnMeaning` of the crate `seat`.
 use Prim.Native.Nat.{ℕ}
 use Rattle.basis.specs.Answer.{Answer, gives, refuses}
+use Rattle.seat.specs.Answers.{Turned, turnMeaning}
 use Rattle.desk.specs.declared.Desk.{Desk}
 use Rattle.desk.specs.declared.FreshAnswer.{FreshAnswer}
 use Rattle.desk.specs.declared.FreshAnswer.the-variants as FV
@@ -9,8 +11,6 @@ use Rattle.desk.specs.declared.OpenAnswer.{OpenAnswer}
 use Rattle.desk.specs.declared.OpenAnswer.the-variants as OV
 use Rattle.desk.specs.declared.CloseAnswer.{CloseAnswer}
 use Rattle.desk.specs.declared.CloseAnswer.the-variants as CV
-use Rattle.desk.specs.declared.TurnAnswer.{TurnAnswer}
-use Rattle.desk.specs.declared.TurnAnswer.the-variants as TV
 use Rattle.desk.specs.declared.AfterFresh.{AfterFresh}
 use Rattle.desk.specs.declared.AfterOpen.{AfterOpen}
 use Rattle.desk.specs.declared.AfterClose.{AfterClose}
@@ -20,23 +20,6 @@ use Rattle.desk.specs.declared.AfterTurn.{AfterTurn}
 pub record After (A : Type 0) : Type 0 where
   pub desk : Desk
   pub answer : Answer A
-
--- what a turn gives, the ticket first: "Done with the ticket, its hits and its unreadable lines", "Hit, Miss or
--- Unreadable (with a number), each with ticket and line offset", Idle
-pub data Turned : Type 0 where
-  idle : Turned
-  hitAt : ℕ → ℕ → Turned
-  missAt : ℕ → ℕ → Turned
-  unreadableAt : ℕ → ℕ → ℕ → Turned
-  doneWith : ℕ → ℕ → ℕ → Turned
-
--- the ticket that an answer names; 0, which is no ticket, where it names none
-abbrev pub ticketOf : Turned → ℕ
-ticketOf idle = 0
-ticketOf (hitAt k o) = k
-ticketOf (missAt k o) = k
-ticketOf (unreadableAt k o n) = k
-ticketOf (doneWith k h u) = k
 
 -- ---- what the enums say
 
@@ -54,14 +37,6 @@ openMeaning (OV.Refused r) = refuses (r .number)
 abbrev pub closeMeaning : CloseAnswer → Answer (Unit {0})
 closeMeaning CV.Freed = gives tt
 closeMeaning (CV.Refused r) = refuses (r .number)
-
-abbrev pub turnMeaning : TurnAnswer → Answer Turned
-turnMeaning TV.Idle = gives idle
-turnMeaning (TV.Hit a) = gives (hitAt (a .ticket) (a .offset))
-turnMeaning (TV.Miss a) = gives (missAt (a .ticket) (a .offset))
-turnMeaning (TV.Unreadable a r) = gives (unreadableAt (a .ticket) (a .offset) (r .number))
-turnMeaning (TV.Done c) = gives (doneWith (c .ticket) (c .hits) (c .unreadable))
-turnMeaning (TV.Refused r) = refuses (r .number)
 
 -- ---- what is handed back, desk and answer
 abbrev pub afterFresh : AfterFresh → After (Unit {0})

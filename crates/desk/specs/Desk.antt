@@ -8,12 +8,15 @@ use lib.ListN.{length, set, replicate}
 use Rattle.basis.specs.Choice.{pick}
 use Rattle.basis.specs.Answer.{Answer, gives, refuses}
 use Rattle.value.specs.Refusals.{noSeat, wrongTimetable, notSound, noTicket, noMoreTickets}
-use Rattle.desk.specs.Bounds.{seatCount, maxTimetable, lastTicket}
-use Rattle.desk.specs.Query.{checkOf}
-use Rattle.desk.specs.Answers.{After, Turned, idle}
-use Rattle.desk.specs.Seats.{freeSeat, seatFor, seatAt, firstFrom, placeOf}
+use Rattle.seat.specs.Bounds.{maxTimetable}
+use Rattle.seat.specs.Query.{checkOf}
+use Rattle.seat.specs.Answers.{Turned, idle}
+use Rattle.seat.specs.Seat.{freeSeat, seatFor}
+use Rattle.seat.specs.Serving.{Step, serveOf}
+use Rattle.desk.specs.Bounds.{seatCount, lastTicket}
+use Rattle.desk.specs.Answers.{After}
+use Rattle.desk.specs.Seats.{seatAt, firstFrom, placeOf}
 use Rattle.desk.specs.Soundness.{soundOf}
-use Rattle.desk.specs.Serving.{Step, serveOf}
 use Rattle.desk.specs.declared.Desk.{Desk}
 
 -- the desk as it was, and a refusal

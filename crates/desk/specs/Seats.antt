@@ -1,50 +1,20 @@
--- Document 01, "Timetable, seats and turns": the seats, and which one is the first after another, going round.
-use mathlib.Core.Bool.{Bool, true, false, Bool·beq}
-use mathlib.Core.List.{List, [], _++_}
-use Prim.Native.Nat.{ℕ, _-_, _%_}
+-- Document 01, "Timetable, seats and turns": the sixteen seats, and which one is the first after another, going round.
+use mathlib.Core.Bool.{Bool, false, Bool·beq}
+use mathlib.Core.List.{[]}
+use Prim.Native.Nat.{ℕ, _%_}
 use lib.Dec.{eqb}
-use lib.ListN.{length, take, getD, replicate}
+use lib.ListN.{getD}
 use Rattle.basis.specs.Choice.{both}
-use Rattle.desk.specs.Bounds.{seatCount, conditionRoom}
+use Rattle.seat.specs.declared.Seat.{Seat}
+use Rattle.desk.specs.Bounds.{seatCount}
 use Rattle.desk.specs.Scan.{first}
-use Rattle.desk.specs.declared.Seat.{Seat}
 use Rattle.desk.specs.declared.Desk.{Desk}
-
--- a free seat of a fresh desk: all zeros
-abbrev pub freeSeat : Seat
-freeSeat =
-    record {
-      held = false;
-      ticket = 0;
-      offset = 0;
-      hits = 0;
-      unreadable = 0;
-      «condition_length» = 0;
-      condition = replicate conditionRoom 0;
-    }
-
--- a seat just taken: at offset 0 with both counts 0, zeros after its condition
-abbrev pub seatFor : ℕ → List ℕ → Seat
-seatFor ticket text =
-    record {
-      held = true;
-      ticket = ticket;
-      offset = 0;
-      hits = 0;
-      unreadable = 0;
-      «condition_length» = length text;
-      condition = text ++ replicate (conditionRoom - length text) 0;
-    }
 
 -- the seat at a place; past the last place nothing is held
 abbrev pub seatAt : Desk → ℕ → Seat
 seatAt d i =
     getD (d .seats) i
     (record { held = false; ticket = 0; offset = 0; hits = 0; unreadable = 0; «condition_length» = 0; condition = [] })
-
--- the condition in a seat
-abbrev pub conditionOf : Seat → List ℕ
-conditionOf s = take (s .«condition_length») (s .condition)
 
 -- whether the seat at a place, counted round, is held, or free
 abbrev pub heldIs : Desk → Bool → ℕ → Bool

@@ -1,30 +1,18 @@
 -- Document 01, "Timetable, seats and turns": "A desk is sound when: last served is under 16; the length is at most 65,536;
 -- held tickets are nonzero, different and not above the last issued; each held condition passes Open's checks; each held
--- offset is at most the length; each held seat's hits and unreadable lines together are at most its offset."
+-- offset is at most the length; each held seat's hits and unreadable lines together are at most its offset." What is asked
+-- of one seat alone is `seatSound` of the crate `seat`.
 use mathlib.Core.Bool.{Bool, true}
 use mathlib.Core.List.{[], _∷_}
-use Prim.Native.Nat.{ℕ, _+_}
+use Prim.Native.Nat.{ℕ}
 use lib.Dec.{ltb, leb, eqb}
 use Rattle.basis.specs.Choice.{pick, both, every}
-use Rattle.desk.specs.Bounds.{seatCount, conditionRoom, maxTimetable}
-use Rattle.desk.specs.Query.{accepted}
+use Rattle.seat.specs.Bounds.{maxTimetable}
+use Rattle.seat.specs.Soundness.{seatSound}
+use Rattle.desk.specs.Bounds.{seatCount}
 use Rattle.desk.specs.Scan.{all}
-use Rattle.desk.specs.Seats.{seatAt, conditionOf, placeOf}
-use Rattle.desk.specs.declared.Seat.{Seat}
+use Rattle.desk.specs.Seats.{seatAt, placeOf}
 use Rattle.desk.specs.declared.Desk.{Desk}
-
--- a held seat by itself, where so many tickets are issued, over a timetable of a length. A stored condition length beyond
--- the seat's room is none that passes Open's checks
-unfoldable pub seatSound : ℕ → ℕ → Seat → Bool
-seatSound issued long s =
-    every
-    (leb 1 (s .ticket)
-    ∷ leb (s .ticket) issued
-    ∷ leb (s .«condition_length») conditionRoom
-    ∷ accepted (conditionOf s)
-    ∷ leb (s .offset) long
-    ∷ leb (s .hits + s .unreadable) (s .offset)
-    ∷ [])
 
 -- the seat at a place: where it is held, no held seat before it has its ticket, and it is sound by itself
 unfoldable pub placeSound : Desk → ℕ → Bool

@@ -1,19 +1,13 @@
 // The bounds of the desk, as constants of the records and as numbers of the definitions, are the same.
 use crate::Desk;
-use crate::Seat;
 ghost use mathlib.Core.Path.{_≡_};
-ghost use Rattle.desk.specs.Bounds.{seatCount, conditionRoom, maxTimetable, lastTicket};
+ghost use Rattle.seat.specs.Bounds.{maxTimetable};
+ghost use Rattle.desk.specs.Bounds.{seatCount, lastTicket};
 
 pub fn seats() -> usize
     ensures { λ r. ⌜ r ≡ seatCount ⌝ }
 {
     Desk::SEATS
-}
-
-pub fn condition_room() -> usize
-    ensures { λ r. ⌜ r ≡ conditionRoom ⌝ }
-{
-    Seat::ROOM
 }
 
 pub fn max_timetable() -> usize

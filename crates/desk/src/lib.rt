@@ -1,6 +1,9 @@
 // The desk: sixteen seats, open, close and turn (document 01, "Timetable, seats and turns"). Every call takes the desk by
-// value and hands the next one back beside its answer; a refused call hands back the desk it got.
+// value and hands the next one back beside its answer; a refused call hands back the desk it got. One seat by itself is the
+// crate `seat`.
 use condition::Checked;
+use seat::Seat;
+use seat::TurnAnswer;
 use value::Refusal;
 ghost use mathlib.Core.Path.{_≡_};
 ghost use mathlib.Core.Bool.{true, false};
@@ -10,40 +13,15 @@ ghost use Rattle.desk.specs.Bounds.{seatCount};
 ghost use Rattle.desk.specs.Seats.{firstFrom, placeOf};
 ghost use Rattle.desk.specs.Soundness.{placeSound, soundOf};
 ghost use Rattle.desk.specs.Desk.{freshOf, openOf, closeOf, turnOf, nextOf};
-ghost use Rattle.desk.specs.Answers.{openMeaning, closeMeaning, turnMeaning, afterFresh, afterOpen, afterClose, afterTurn};
+ghost use Rattle.desk.specs.Answers.{afterFresh, afterOpen, afterClose, afterTurn};
 
 pub mod bounds; // bounds.rt: each constant is the number of the definitions
-mod seats; // seats.rt: one seat by itself
-
-// A seat. A fresh desk, close and Done leave a free seat all zeros; of a free seat in a desk that is handed in nothing is asked.
-pub struct Seat {
-    pub held: bool,
-    pub ticket: u32,
-    pub offset: usize,
-    pub hits: usize,
-    pub unreadable: usize,
-    pub condition_length: usize,
-    pub condition: [u8; Seat::ROOM],
-}
 
 pub struct Desk {
     pub seats: [Seat; Desk::SEATS],
     pub last_served: usize,
     pub timetable_length: usize,
     pub issued: u32,
-}
-
-// Whose answer it is, and at which line.
-pub struct At {
-    pub ticket: u32,
-    pub offset: usize,
-}
-
-// The two counts of a query that is done.
-pub struct Totals {
-    pub ticket: u32,
-    pub hits: usize,
-    pub unreadable: usize,
 }
 
 pub enum FreshAnswer {
@@ -58,15 +36,6 @@ pub enum OpenAnswer {
 
 pub enum CloseAnswer {
     Freed,
-    Refused(Refusal),
-}
-
-pub enum TurnAnswer {
-    Idle,
-    Hit(At),
-    Miss(At),
-    Unreadable(At, Refusal),
-    Done(Totals),
     Refused(Refusal),
 }
 
@@ -90,22 +59,11 @@ pub struct AfterTurn {
     pub answer: TurnAnswer,
 }
 
-// A seat after a turn of its own, and the answer.
-pub struct Served {
-    pub seat: Seat,
-    pub answer: TurnAnswer,
-}
-
-impl Seat {
-    // The longest condition has so many bytes.
-    pub const ROOM: usize = 240;
-}
-
 // The desk for a timetable of so many bytes. Refused, it is no desk: every call on it is refused as not sound.
 pub fn fresh(timetable_length: usize) -> AfterFresh
     ensures { λ r. ⌜ afterFresh r ≡ freshOf «timetable_length» ⌝ }
 {
-    let seat = seats::free();
+    let seat = seat::free();
     if Desk::MAX_TIMETABLE < timetable_length {
         return AfterFresh {
             desk: Desk {
@@ -181,7 +139,7 @@ impl Desk {
             if self.place(s.ticket) != i {
                 return false;
             }
-            seats::sound(s, self.issued, self.timetable_length)
+            seat::sound(s, self.issued, self.timetable_length)
         } else {
             true
         }
@@ -226,7 +184,7 @@ impl Desk {
         }
         let ticket = self.issued + 1;
         let mut next = self;
-        next.seats[i] = seats::taken(ticket, text);
+        next.seats[i] = seat::taken(ticket, text);
         next.issued = ticket;
         AfterOpen {
             desk: next,
@@ -265,7 +223,7 @@ impl Desk {
             };
         }
         let mut next = self;
-        next.seats[i] = seats::free();
+        next.seats[i] = seat::free();
         AfterClose {
             desk: next,
             answer: CloseAnswer::Freed,
@@ -308,7 +266,7 @@ impl Desk {
             };
         }
         let i = j % Desk::SEATS;
-        let served = seats::served(self.seats[i], t);
+        let served = seat::served(self.seats[i], t);
         let seat = served.seat;
         let answer = served.answer;
         let mut next = self;
@@ -316,31 +274,4 @@ impl Desk {
         next.last_served = i;
         AfterTurn { desk: next, answer }
     }
-}
-
-// Opens a condition on a desk that is updated where it stands.
-pub fn open_in(desk: &mut Desk, text: &[u8]) -> OpenAnswer
-    ensures { λ r. ⌜ (now (desk .exit) ≡ openOf (now (text .entry)) (now (desk .entry)) .desk) × (openMeaning r ≡ openOf (now (text .entry)) (now (desk .entry)) .answer) ⌝ }
-{
-    let after = desk.open(text);
-    *desk = after.desk;
-    after.answer
-}
-
-// Closes a ticket on a desk that is updated where it stands.
-pub fn close_in(desk: &mut Desk, ticket: u32) -> CloseAnswer
-    ensures { λ r. ⌜ (now (desk .exit) ≡ closeOf ticket (now (desk .entry)) .desk) × (closeMeaning r ≡ closeOf ticket (now (desk .entry)) .answer) ⌝ }
-{
-    let after = desk.close(ticket);
-    *desk = after.desk;
-    after.answer
-}
-
-// Takes a turn of a desk that is updated where it stands.
-pub fn turn_in(desk: &mut Desk, t: &[u8]) -> TurnAnswer
-    ensures { λ r. ⌜ (now (desk .exit) ≡ turnOf (now (t .entry)) (now (desk .entry)) .desk) × (turnMeaning r ≡ turnOf (now (t .entry)) (now (desk .entry)) .answer) ⌝ }
-{
-    let after = desk.turn(t);
-    *desk = after.desk;
-    after.answer
 }

@@ -14,20 +14,22 @@ use Rattle.basis.specs.Choice.{pick}
 use Rattle.basis.specs.Answer.{Answer, gives, refuses}
 use Rattle.timetable.specs.Lines.{Line, placedLines}
 use Rattle.timetable.proofs.Offsets.{line-or-end, next-further}
-use Rattle.desk.specs.Bounds.{seatCount, maxTimetable, lastTicket}
-use Rattle.desk.specs.Query.{checkOf}
-use Rattle.desk.specs.Answers.{After, Turned, idle, hitAt, missAt, unreadableAt, doneWith, ticketOf}
+use Rattle.seat.specs.Bounds.{maxTimetable}
+use Rattle.seat.specs.Query.{checkOf}
+use Rattle.seat.specs.Answers.{Turned, idle, hitAt, missAt, unreadableAt, doneWith, ticketOf}
+use Rattle.seat.specs.Serving.{serveOf}
+use Rattle.seat.specs.declared.Seat.{Seat}
+use Rattle.seat.proofs.Soundness.{Servable, servable}
+use Rattle.desk.specs.Bounds.{seatCount, lastTicket}
+use Rattle.desk.specs.Answers.{After}
 use Rattle.desk.specs.Seats.{seatAt, firstFrom}
 use Rattle.desk.specs.Soundness.{soundOf}
-use Rattle.desk.specs.Serving.{serveOf}
 use Rattle.desk.specs.Desk.{freshDesk, freshOf, openOf, turnOf}
 use Rattle.desk.specs.declared.Desk.{Desk}
-use Rattle.desk.specs.declared.Seat.{Seat}
-use Rattle.desk.proofs.NewDesk.{fresh-sound}
-use Rattle.desk.proofs.Soundness.{Servable, servable}
-use Rattle.desk.proofs.Sound.{Sound, sound-in, sound-out}
-use Rattle.desk.proofs.Steps.{on-held, on-offset, off-free, served-answer, open-cases, old-ticket, Turns, turn-cases, turn-length, turn-issued}
-use Rattle.desk.proofs.Lasting.{open-lasts, turn-lasts}
+use Rattle.desk_laws.proofs.NewDesk.{fresh-sound}
+use Rattle.desk_laws.proofs.Sound.{Sound, sound-in, sound-out}
+use Rattle.desk_laws.proofs.Steps.{on-held, on-offset, off-free, served-answer, open-cases, old-ticket, Turns, turn-cases, turn-length, turn-issued}
+use Rattle.desk_laws.proofs.Lasting.{open-lasts, turn-lasts}
 use Rattle.lines.specs.Text.{turnLine}
 use Rattle.lines.specs.Turns.{isIdle, Taken, none, onto, atMost, taken, turnsOf}
 use Rattle.lines.specs.declared.Written.{Written}

@@ -17,13 +17,14 @@ use Rattle.timetable.proofs.Offsets.{line-or-end}
 use Rattle.numerals.specs.Writing.{decimal}
 use Rattle.condition.proofs.Readable.{Readable, accepted-readable}
 use Rattle.results.proofs.Numbers.{atLine}
-use Rattle.desk.specs.Bounds.{maxTimetable, lastTicket}
-use Rattle.desk.specs.Query.{Result, hit, miss, unreadable}
-use Rattle.desk.specs.Seats.{conditionOf}
-use Rattle.desk.specs.Serving.{serveOf, judgedAs, resultOf}
-use Rattle.desk.specs.declared.Seat.{Seat}
-use Rattle.desk.proofs.Soundness.{Servable}
-use Rattle.desk.proofs.Serving.{serve-line, serve-done}
+use Rattle.seat.specs.Bounds.{maxTimetable}
+use Rattle.seat.specs.Query.{Result, hit, miss, unreadable}
+use Rattle.seat.specs.Seat.{conditionOf}
+use Rattle.seat.specs.Serving.{serveOf, judgedAs, resultOf}
+use Rattle.seat.specs.declared.Seat.{Seat}
+use Rattle.seat.proofs.Soundness.{Servable}
+use Rattle.seat.proofs.Serving.{serve-line, serve-done}
+use Rattle.desk.specs.Bounds.{lastTicket}
 use Rattle.lines.specs.Text.{numbers, lineWith, turnLine}
 use Rattle.lines.proofs.Digits.{ten-digits, five-digits}
 use Rattle.desk_host.specs.Program.{roomSize}

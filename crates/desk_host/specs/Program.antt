@@ -8,8 +8,9 @@ use lib.ListN.{length}
 use Rattle.basis.specs.Choice.{pick}
 use Rattle.basis.specs.Answer.{Answer, gives, refuses}
 use Rattle.timetable.specs.Lines.{Line, placedLines}
-use Rattle.desk.specs.Bounds.{seatCount, maxTimetable}
-use Rattle.desk.specs.Answers.{idle}
+use Rattle.seat.specs.Bounds.{maxTimetable}
+use Rattle.seat.specs.Answers.{idle}
+use Rattle.desk.specs.Bounds.{seatCount}
 use Rattle.desk.specs.Desk.{freshOf, openOf, turnOf}
 use Rattle.desk.specs.declared.Desk.{Desk}
 use Rattle.lines.specs.Turns.{turnsOf}

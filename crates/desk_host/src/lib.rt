@@ -1,6 +1,6 @@
 // The desk program (document 01, "The desk program"): it reads the timetable and the conditions, opens the conditions in order,
 // and takes turns until Idle. It keeps one desk for its whole life, in one variable of `live`, and has it updated where
-// it stands: its loops go through `desk::open_in` and `lines::turns_in`.
+// it stands: its loops go through `desk_in_place::open_in` and `lines::turns_in`.
 use desk::Desk;
 use desk::OpenAnswer;
 use libc::STDIN_FILENO;
@@ -79,7 +79,7 @@ fn open_at_in(desk: &mut Desk, input: &[u8], at: usize) -> usize
 {
     let line = line_reader::read_line(input, at);
     let condition = cut(input, at, line.end);
-    let answer = desk::open_in(desk, condition);
+    let answer = desk_in_place::open_in(desk, condition);
     tell_open(answer);
     line.next
 }

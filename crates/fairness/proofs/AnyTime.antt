@@ -9,7 +9,7 @@ use lib.Dec.{eqb}
 use lib.ListN.{replicate}
 use Rattle.basis.specs.Choice.{pick}
 use Rattle.basis.specs.Answer.{Answer, gives, refuses}
-use Rattle.desk.specs.Answers.{Turned, ticketOf}
+use Rattle.seat.specs.Answers.{Turned, ticketOf}
 use Rattle.desk.specs.Desk.{openOf, closeOf, turnOf}
 use Rattle.desk.specs.declared.Desk.{Desk}
 use Rattle.fairness.specs.Runs.{Event, opens, closes, turns, afterAll, mine, answersOf, turnCount, Unclosed}

@@ -10,18 +10,18 @@ use lib.Dec.{ltb, leb}
 use lib.ListN.{length, replicate}
 use Rattle.basis.specs.Choice.{pick}
 use Rattle.timetable.specs.Lines.{lineCount, nextLine}
-use Rattle.desk.specs.Bounds.{maxTimetable}
-use Rattle.desk.specs.Query.{accepted, Result, hit, miss, unreadable}
-use Rattle.desk.specs.Answers.{Turned, doneWith}
-use Rattle.desk.specs.Seats.{freeSeat, seatFor}
+use Rattle.seat.specs.Bounds.{maxTimetable}
+use Rattle.seat.specs.Query.{accepted, Result, hit, miss, unreadable}
+use Rattle.seat.specs.Answers.{Turned, doneWith}
+use Rattle.seat.specs.Seat.{freeSeat, seatFor}
+use Rattle.seat.specs.Serving.{Step, judgedAs, resultOf, serveOf}
+use Rattle.seat.specs.declared.Seat.{Seat}
+use Rattle.seat.proofs.Conditions.{accepted-checked}
 use Rattle.desk.specs.Soundness.{soundOf}
-use Rattle.desk.specs.Serving.{Step, judgedAs, resultOf, serveOf}
 use Rattle.desk.specs.Desk.{freshDesk, freshOf, openOf}
 use Rattle.desk.specs.declared.Desk.{Desk}
-use Rattle.desk.specs.declared.Seat.{Seat}
-use Rattle.desk.proofs.Conditions.{accepted-checked}
-use Rattle.desk.proofs.NewDesk.{fresh-sound, fresh-free}
-use Rattle.desk.proofs.Steps.{Seated}
+use Rattle.desk_laws.proofs.NewDesk.{fresh-sound, fresh-free}
+use Rattle.desk_laws.proofs.Steps.{Seated}
 use Rattle.fairness.specs.Runs.{Event, turns, answersOf, turnCount, Unclosed}
 use Rattle.fairness.specs.Demand3.{Query, Run, turnsFor, gets, alone, ticketAside, Demand3}
 use Rattle.fairness.proofs.Fair.{serves, seated-by, before-sound, accepted-gets}

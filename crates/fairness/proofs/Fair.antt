@@ -11,15 +11,17 @@ use lib.ListN.{length, drop}
 use Rattle.basis.specs.Answer.{gives, refuses}
 use Rattle.timetable.specs.Lines.{lineCount}
 use Rattle.timetable.proofs.Offsets.{count-next, count-end}
+use Rattle.seat.specs.Answers.{Turned}
+use Rattle.seat.specs.Seat.{seatFor}
+use Rattle.seat.specs.Serving.{serveOf}
+use Rattle.seat.specs.declared.Seat.{Seat}
 use Rattle.desk.specs.Bounds.{seatCount}
-use Rattle.desk.specs.Answers.{After, Turned}
-use Rattle.desk.specs.Seats.{seatFor, seatAt, firstFrom}
-use Rattle.desk.specs.Serving.{serveOf}
+use Rattle.desk.specs.Answers.{After}
+use Rattle.desk.specs.Seats.{seatAt, firstFrom}
 use Rattle.desk.specs.Desk.{openOf, closeOf, turnOf}
 use Rattle.desk.specs.declared.Desk.{Desk}
-use Rattle.desk.specs.declared.Seat.{Seat}
-use Rattle.desk.proofs.Sound.{Sound, sound-in, at-same}
-use Rattle.desk.proofs.Steps.{Seated, open-cases, opened-sound, on-offset, served-answer}
+use Rattle.desk_laws.proofs.Sound.{Sound, sound-in, at-same}
+use Rattle.desk_laws.proofs.Steps.{Seated, open-cases, opened-sound, on-offset, served-answer}
 use Rattle.fairness.specs.Runs.{Event, opens, closes, turns, mine, answersOf, turnCount, Unclosed}
 use Rattle.fairness.specs.Demand3.{Query, turnsFor}
 use Rattle.fairness.proofs.Round.{dist, there}

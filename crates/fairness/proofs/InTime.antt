@@ -8,13 +8,14 @@ use Prim.Native.Nat.{ℕ, zero, suc, _+_, _*_, _%_, _≤_, _<_}
 use native.Mathlib.Nat.{eq-or-lt-of-le}
 use native.Mathlib.Omega.{arith}
 use lib.ListN.{length}
+use Rattle.seat.specs.Seat.{seatFor}
+use Rattle.seat.specs.Serving.{serveOf}
+use Rattle.seat.specs.declared.Seat.{Seat}
 use Rattle.desk.specs.Bounds.{seatCount}
-use Rattle.desk.specs.Seats.{seatFor, firstFrom}
-use Rattle.desk.specs.Serving.{serveOf}
+use Rattle.desk.specs.Seats.{firstFrom}
 use Rattle.desk.specs.Desk.{openOf, closeOf, turnOf}
 use Rattle.desk.specs.declared.Desk.{Desk}
-use Rattle.desk.specs.declared.Seat.{Seat}
-use Rattle.desk.proofs.Steps.{served-answer}
+use Rattle.desk_laws.proofs.Steps.{served-answer}
 use Rattle.fairness.specs.Runs.{Event, opens, closes, turns, mine, answersOf, turnCount, Unclosed}
 use Rattle.fairness.specs.Demand3.{Demand3InTime}
 use Rattle.fairness.proofs.Round.{dist, there}

@@ -7,15 +7,17 @@ use Prim.Native.Nat.{ℕ, _+_, _≤_, _<_}
 use native.Mathlib.Omega.{arith}
 use lib.ListN.{length}
 use Rattle.basis.specs.Answer.{gives, refuses}
+use Rattle.seat.specs.Answers.{Turned}
+use Rattle.seat.specs.Seat.{freeSeat, seatFor}
 use Rattle.desk.specs.Bounds.{seatCount}
-use Rattle.desk.specs.Answers.{After, Turned}
-use Rattle.desk.specs.Seats.{freeSeat, seatFor, seatAt, firstFrom, placeOf}
+use Rattle.desk.specs.Answers.{After}
+use Rattle.desk.specs.Seats.{seatAt, firstFrom, placeOf}
 use Rattle.desk.specs.Soundness.{soundOf}
 use Rattle.desk.specs.Desk.{openOf, closeOf, turnOf}
 use Rattle.desk.specs.declared.Desk.{Desk}
-use Rattle.desk.proofs.Sound.{Sound, sound-in, sound-out}
-use Rattle.desk.proofs.Steps.{Seated, open-cases, close-cases, turn-issued}
-use Rattle.desk.proofs.Lasting.{open-lasts, close-lasts, turn-lasts, open-alters-no-held, close-alters-no-other, turn-alters-no-other}
+use Rattle.desk_laws.proofs.Sound.{Sound, sound-in, sound-out}
+use Rattle.desk_laws.proofs.Steps.{Seated, open-cases, close-cases, turn-issued}
+use Rattle.desk_laws.proofs.Lasting.{open-lasts, close-lasts, turn-lasts, open-alters-no-held, close-alters-no-other, turn-alters-no-other}
 use Rattle.fairness.specs.Runs.{Event, opens, closes, turns, after, afterAll}
 use Rattle.fairness.specs.Lasting.{SoundLasts, TicketsOnce, Untouched, OthersUntouched}
 

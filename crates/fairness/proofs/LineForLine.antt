@@ -10,13 +10,13 @@ use lib.ListN.{length, drop}
 use lib.Seq.{take-append-seam}
 use Rattle.timetable.specs.Lines.{Line, lineCount, linesFrom, placedLines, lineAt, nextLine}
 use Rattle.timetable.proofs.Offsets.{line-or-end, line-offset, lines-next, lines-end, count-next, count-end}
-use Rattle.desk.specs.Query.{Result, hit, miss, unreadable, resultAt}
-use Rattle.desk.specs.Answers.{Turned, doneWith}
-use Rattle.desk.specs.Seats.{seatFor, conditionOf}
-use Rattle.desk.specs.Serving.{judgedAs, resultOf, serveOf}
+use Rattle.seat.specs.Query.{Result, hit, miss, unreadable, resultAt}
+use Rattle.seat.specs.Answers.{Turned, doneWith}
+use Rattle.seat.specs.Seat.{seatFor, conditionOf}
+use Rattle.seat.specs.Serving.{judgedAs, resultOf, serveOf}
+use Rattle.seat.specs.declared.Seat.{Seat}
+use Rattle.seat.proofs.Serving.{serve-line, serve-done}
 use Rattle.desk.specs.declared.Desk.{Desk}
-use Rattle.desk.specs.declared.Seat.{Seat}
-use Rattle.desk.proofs.Serving.{serve-line, serve-done}
 use Rattle.fairness.specs.Runs.{Event}
 use Rattle.fairness.specs.Demand3.{Query, Run, gets, answerFor, lineAnswers, hitIn, unreadableIn, howMany, expected, Demand3Lines}
 use Rattle.fairness.proofs.Fair.{serves, left, seated-by, accepted-gets}

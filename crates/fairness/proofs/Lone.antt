@@ -9,15 +9,16 @@ use native.Mathlib.Nat.{eq-or-lt-of-le}
 use native.Mathlib.Omega.{arith}
 use lib.ListN.{length, take, replicate}
 use Rattle.timetable.specs.Lines.{lineCount}
+use Rattle.seat.specs.Answers.{Turned}
+use Rattle.seat.specs.Seat.{seatFor}
+use Rattle.seat.specs.Serving.{serveOf}
+use Rattle.seat.specs.declared.Seat.{Seat}
 use Rattle.desk.specs.Bounds.{seatCount}
-use Rattle.desk.specs.Answers.{Turned}
-use Rattle.desk.specs.Seats.{seatFor, seatAt, firstFrom}
-use Rattle.desk.specs.Serving.{serveOf}
+use Rattle.desk.specs.Seats.{seatAt, firstFrom}
 use Rattle.desk.specs.Desk.{openOf, turnOf}
 use Rattle.desk.specs.declared.Desk.{Desk}
-use Rattle.desk.specs.declared.Seat.{Seat}
-use Rattle.desk.proofs.Sound.{at-other}
-use Rattle.desk.proofs.Steps.{Seated, served-answer}
+use Rattle.desk_laws.proofs.Sound.{at-other}
+use Rattle.desk_laws.proofs.Steps.{Seated, served-answer}
 use Rattle.fairness.specs.Runs.{Event, turns, mine, answersOf}
 use Rattle.fairness.specs.Demand3.{Query, expected, LoneQuery}
 use Rattle.fairness.proofs.Tracks.{Track, is-mine, within, works, it-track, it-gone, it-answer, it-others}

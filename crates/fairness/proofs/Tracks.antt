@@ -9,17 +9,19 @@ use native.Mathlib.Omega.{arith}
 use borrow.Author.Tests.{eq-eqb, ne-eqb}
 use lib.ListN.{length}
 use Rattle.basis.specs.Answer.{Answer, gives, refuses}
+use Rattle.seat.specs.Answers.{Turned, ticketOf}
+use Rattle.seat.specs.Seat.{freeSeat, seatFor}
+use Rattle.seat.specs.Serving.{serveOf}
+use Rattle.seat.specs.declared.Seat.{Seat}
+use Rattle.seat.proofs.Soundness.{servable}
 use Rattle.desk.specs.Bounds.{seatCount}
-use Rattle.desk.specs.Answers.{After, Turned, ticketOf}
-use Rattle.desk.specs.Seats.{freeSeat, seatFor, seatAt, heldIs, firstFrom, placeOf}
-use Rattle.desk.specs.Serving.{serveOf}
+use Rattle.desk.specs.Answers.{After}
+use Rattle.desk.specs.Seats.{seatAt, heldIs, firstFrom, placeOf}
 use Rattle.desk.specs.Desk.{openOf, closeOf, turnOf, afterStep}
 use Rattle.desk.specs.declared.Desk.{Desk}
-use Rattle.desk.specs.declared.Seat.{Seat}
 use Rattle.desk.proofs.Scans.{first-le}
-use Rattle.desk.proofs.Soundness.{servable}
-use Rattle.desk.proofs.Sound.{Sound, place-found, replaced, at-same, at-other, which}
-use Rattle.desk.proofs.Steps.{Seated, open-cases, was-free, opened-sound, old-ticket, close-cases, closed-sound, Turns, turns-if, turn-cases, turned-sound, on-held, on-ticket, off-free, served-ticket, served-answer}
+use Rattle.desk_laws.proofs.Sound.{Sound, place-found, replaced, at-same, at-other, which}
+use Rattle.desk_laws.proofs.Steps.{Seated, open-cases, was-free, opened-sound, old-ticket, close-cases, closed-sound, Turns, turns-if, turn-cases, turned-sound, on-held, on-ticket, off-free, served-ticket, served-answer}
 use Rattle.fairness.specs.Runs.{mine}
 use Rattle.fairness.proofs.Round.{dist, there, nearer, not-there}
 

@@ -14,9 +14,9 @@ use Prim.Native.Nat.{ℕ, _+_, _*_, _≤_, _<_}
 use lib.ListN.{length, take, replicate}
 use Rattle.basis.specs.Answer.{gives}
 use Rattle.timetable.specs.Lines.{Line, lineCount, placedLines}
+use Rattle.seat.specs.Query.{Result, hit, miss, unreadable, resultAt}
+use Rattle.seat.specs.Answers.{Turned, idle, hitAt, missAt, unreadableAt, doneWith}
 use Rattle.desk.specs.Bounds.{seatCount}
-use Rattle.desk.specs.Query.{Result, hit, miss, unreadable, resultAt}
-use Rattle.desk.specs.Answers.{Turned, idle, hitAt, missAt, unreadableAt, doneWith}
 use Rattle.desk.specs.Seats.{seatAt}
 use Rattle.desk.specs.Desk.{freshOf, openOf}
 use Rattle.desk.specs.declared.Desk.{Desk}

@@ -6,8 +6,8 @@ use mathlib.Core.List.{List}
 use Prim.Native.Nat.{ℕ, _<_}
 use lib.ListN.{length}
 use Rattle.basis.specs.Answer.{gives}
+use Rattle.seat.specs.Answers.{Turned, ticketOf}
 use Rattle.desk.specs.Bounds.{seatCount}
-use Rattle.desk.specs.Answers.{Turned, ticketOf}
 use Rattle.desk.specs.Seats.{seatAt}
 use Rattle.desk.specs.Soundness.{soundOf}
 use Rattle.desk.specs.Desk.{openOf, closeOf, turnOf}

@@ -9,13 +9,14 @@ use lib.Dec.{eqb}
 use lib.ListN.{length}
 use Rattle.basis.specs.Answer.{Answer, refuses}
 use Rattle.value.specs.Refusals.{wrongTimetable, notSound}
+use Rattle.seat.specs.Answers.{Turned, turnMeaning}
 use Rattle.desk.specs.Bounds.{seatCount}
-use Rattle.desk.specs.Answers.{After, Turned, turnMeaning, afterTurn}
+use Rattle.desk.specs.Answers.{After, afterTurn}
 use Rattle.desk.specs.Soundness.{soundOf}
 use Rattle.desk.specs.Desk.{refused, turnOf}
 use Rattle.desk.specs.declared.Desk.{Desk}
 use Rattle.desk.specs.declared.AfterTurn.{AfterTurn}
-use Rattle.desk.proofs.Sound.{sound-in}
+use Rattle.desk_laws.proofs.Sound.{sound-in}
 use Rattle.lines.specs.Text.{Within}
 use Rattle.lines.proofs.Bounded.{next-within}
 

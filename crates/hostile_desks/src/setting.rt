@@ -1,7 +1,6 @@
 // Events that set a number or a condition. Each hands back the desk after it.
 use crate::telling::tell_no_event;
 use desk::Desk;
-use desk::Seat;
 use hostile::fields::after_tab;
 use hostile::names::DeskNumber;
 use hostile::names::SeatNumber;
@@ -10,6 +9,7 @@ use hostile::names::seat_name;
 use hostile::numbers::GREATEST;
 use hostile::numbers::read;
 use libc::STDOUT_FILENO;
+use seat::Seat;
 use timetable::fields::field;
 use timetable::fields::has_field;
 use words::runs::same;

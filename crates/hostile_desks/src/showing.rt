@@ -1,13 +1,13 @@
 // The desk as it stands.
 use crate::telling::tell_number;
 use desk::Desk;
-use desk::Seat;
 use hostile::shown::hex;
 use hostile::shown::kept;
 use libc::STDOUT_FILENO;
+use seat::Seat;
 ghost use Prim.Native.Nat.{_≤_};
 ghost use lib.ListN.{length};
-ghost use Rattle.desk.specs.Bounds.{conditionRoom};
+ghost use Rattle.seat.specs.Bounds.{conditionRoom};
 
 // Whether all numbers of a seat are zero, and it is not held.
 fn blank(s: Seat) -> bool {

@@ -2,7 +2,6 @@
 use desk::CloseAnswer;
 use desk::FreshAnswer;
 use desk::OpenAnswer;
-use desk::TurnAnswer;
 use libc::STDOUT_FILENO;
 use lines::TurnsAnswer;
 use lines::Written;
@@ -10,10 +9,11 @@ use lines::text::open_line;
 use lines::text::refused_line;
 use lines::text::turn_line;
 use numerals::Text;
+use seat::TurnAnswer;
 use value::Refusal;
 ghost use Prim.Native.Nat.{_≤_};
 ghost use Rattle.numerals.specs.Writing.{longest};
-ghost use Rattle.desk.specs.Answers.{turnMeaning};
+ghost use Rattle.seat.specs.Answers.{turnMeaning};
 ghost use Rattle.lines.specs.Text.{Within};
 
 fn write_text(text: Text)

@@ -12,19 +12,21 @@ use Rattle.timetable.specs.Lines.{nextLine}
 use Rattle.timetable.proofs.Offsets.{line-or-end}
 use Rattle.numerals.specs.Writing.{textIn, longest}
 use Rattle.numerals.specs.declared.Text.{Text}
-use Rattle.desk.specs.Bounds.{seatCount, maxTimetable}
-use Rattle.desk.specs.Query.{Result, hit, miss, unreadable}
-use Rattle.desk.specs.Answers.{After, Turned, turnMeaning, afterTurn}
+use Rattle.seat.specs.Bounds.{maxTimetable}
+use Rattle.seat.specs.Query.{Result, hit, miss, unreadable}
+use Rattle.seat.specs.Answers.{Turned, turnMeaning}
+use Rattle.seat.specs.Serving.{judgedAs, resultOf, serveOf}
+use Rattle.seat.specs.declared.Seat.{Seat}
+use Rattle.seat.proofs.Soundness.{Servable, servable}
+use Rattle.seat.proofs.Serving.{serve-line, serve-done}
+use Rattle.desk.specs.Bounds.{seatCount}
+use Rattle.desk.specs.Answers.{After, afterTurn}
 use Rattle.desk.specs.Seats.{seatAt, firstFrom}
-use Rattle.desk.specs.Serving.{judgedAs, resultOf, serveOf}
 use Rattle.desk.specs.Desk.{turnOf, nextOf}
 use Rattle.desk.specs.declared.Desk.{Desk}
-use Rattle.desk.specs.declared.Seat.{Seat}
 use Rattle.desk.specs.declared.AfterTurn.{AfterTurn}
-use Rattle.desk.proofs.Soundness.{Servable, servable}
-use Rattle.desk.proofs.Serving.{serve-line, serve-done}
-use Rattle.desk.proofs.Sound.{Sound}
-use Rattle.desk.proofs.Steps.{turn-cases, turn-next}
+use Rattle.desk_laws.proofs.Sound.{Sound}
+use Rattle.desk_laws.proofs.Steps.{turn-cases, turn-next}
 use Rattle.lines.specs.Text.{Holds, Within}
 
 judged-within : (next : ℕ) (s : Seat) (v : Result) → s .offset ≤ maxTimetable → Within (gives (judgedAs next s v .answer))

@@ -4,7 +4,8 @@ use native.Mathlib.Omega.{arith}
 use lib.ListN.{length}
 use Rattle.numerals.specs.Writing.{decimal}
 use Rattle.numerals.proofs.Decimals.{decimal-le}
-use Rattle.desk.specs.Bounds.{maxTimetable, lastTicket}
+use Rattle.seat.specs.Bounds.{maxTimetable}
+use Rattle.desk.specs.Bounds.{lastTicket}
 
 pub ten-digits : (n : ℕ) → n ≤ lastTicket → length (decimal n) ≤ 10
 ten-digits n h = decimal-le 10 n (omega arith) (omega arith)

@@ -8,12 +8,12 @@ use borrow.Author.Tests.{le-leb, lt-leb}
 use lib.ListN.{length, take, drop, length-append, length-drop}
 use lib.Seq.{take-at, drop-at, length-take-le, drop-drop, take-append-seam}
 use Rattle.basis.specs.Answer.{Answer, gives, refuses}
-use Rattle.desk.specs.Bounds.{maxTimetable}
-use Rattle.desk.specs.Answers.{Turned, idle, hitAt, missAt, unreadableAt, doneWith}
+use Rattle.seat.specs.Bounds.{maxTimetable}
+use Rattle.seat.specs.Answers.{Turned, idle, hitAt, missAt, unreadableAt, doneWith}
 use Rattle.desk.specs.Desk.{turnOf}
 use Rattle.desk.specs.declared.Desk.{Desk}
-use Rattle.desk.proofs.Sound.{Sound}
-use Rattle.desk.proofs.Lasting.{turn-lasts}
+use Rattle.desk_laws.proofs.Sound.{Sound}
+use Rattle.desk_laws.proofs.Lasting.{turn-lasts}
 use Rattle.lines.specs.Text.{turnLine}
 use Rattle.lines.specs.Turns.{isIdle, Taken, none, onto, taken, Ran}
 use Rattle.lines.specs.declared.Run.{Run}

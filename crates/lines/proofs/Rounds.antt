@@ -8,13 +8,14 @@ use native.Mathlib.Omega.{arith}
 use lib.ListN.{length, take, drop}
 use Rattle.numerals.specs.Writing.{textIn}
 use Rattle.numerals.specs.declared.Text.{Text}
-use Rattle.desk.specs.Answers.{turnMeaning, afterTurn}
+use Rattle.seat.specs.Answers.{turnMeaning}
+use Rattle.desk.specs.Answers.{afterTurn}
 use Rattle.desk.specs.Desk.{turnOf, nextOf}
 use Rattle.desk.specs.declared.Desk.{Desk}
 use Rattle.desk.specs.declared.AfterTurn.{AfterTurn}
-use Rattle.desk.proofs.Sound.{Sound}
-use Rattle.desk.proofs.Steps.{turn-length}
-use Rattle.desk.proofs.Lasting.{turn-lasts}
+use Rattle.desk_laws.proofs.Sound.{Sound}
+use Rattle.desk_laws.proofs.Steps.{turn-length}
+use Rattle.desk_laws.proofs.Lasting.{turn-lasts}
 use Rattle.lines.specs.Text.{turnLine, Holds}
 use Rattle.lines.specs.Turns.{isIdle, taken, Ran}
 use Rattle.lines.proofs.Counting.{line-some}

@@ -13,7 +13,7 @@ use Rattle.desk.specs.Soundness.{soundOf}
 use Rattle.value.specs.Refusals.{wrongTimetable, notSound, noRoom}
 use Rattle.desk.specs.Desk.{refused, noDesk, turnOf}
 use Rattle.desk.specs.declared.Desk.{Desk}
-use Rattle.desk.proofs.NewDesk.{no-desk-sound}
+use Rattle.desk_laws.proofs.NewDesk.{no-desk-sound}
 use Rattle.lines.specs.Text.{turnLine}
 use Rattle.lines.specs.Turns.{isIdle, Taken, none, onto, taken, wrote, turnsOf, roomAfter, deskAfter, linesOfTurns, answerAfter, SingleTurns, TurnsAreSingle, RefusedTurnsAlterNothing}
 use Rattle.lines.specs.declared.Written.{Written}

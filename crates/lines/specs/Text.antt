@@ -10,8 +10,8 @@ use Rattle.timetable.specs.Fields.{tab}
 use Rattle.timetable.specs.Lines.{newline}
 use Rattle.numerals.specs.Writing.{decimal, textIn}
 use Rattle.numerals.specs.declared.Text.{Text}
-use Rattle.desk.specs.Bounds.{maxTimetable}
-use Rattle.desk.specs.Answers.{Turned, idle, hitAt, missAt, unreadableAt, doneWith}
+use Rattle.seat.specs.Bounds.{maxTimetable}
+use Rattle.seat.specs.Answers.{Turned, idle, hitAt, missAt, unreadableAt, doneWith}
 
 -- numbers in decimal without leading zeros, a tab before each
 unfoldable pub numbers : List ℕ → List ℕ

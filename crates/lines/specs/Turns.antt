@@ -9,7 +9,8 @@ use lib.ListN.{length, drop}
 use Rattle.basis.specs.Choice.{pick}
 use Rattle.basis.specs.Answer.{Answer, gives, refuses}
 use Rattle.value.specs.Refusals.{wrongTimetable, notSound, noRoom}
-use Rattle.desk.specs.Answers.{After, Turned, idle, hitAt, missAt, unreadableAt, doneWith}
+use Rattle.seat.specs.Answers.{Turned, idle, hitAt, missAt, unreadableAt, doneWith}
+use Rattle.desk.specs.Answers.{After}
 use Rattle.desk.specs.Soundness.{soundOf}
 use Rattle.desk.specs.Desk.{refused, turnOf}
 use Rattle.desk.specs.declared.Desk.{Desk}

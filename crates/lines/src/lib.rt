@@ -1,7 +1,7 @@
 // The lines that the desk program writes, and many turns at once, written into lent room.
 use desk::Desk;
-use desk::TurnAnswer;
 use numerals::Text;
+use seat::TurnAnswer;
 use value::Refusal;
 ghost use mathlib.Core.Path.{_≡_};
 ghost use mathlib.Core.Bool.{true, false};
@@ -9,7 +9,7 @@ ghost use mathlib.Core.List.{_++_};
 ghost use Prim.Native.Nat.{_+_, _≤_, _<_};
 ghost use lib.ListN.{length, take, drop};
 ghost use Rattle.numerals.specs.Writing.{textIn, longest};
-ghost use Rattle.desk.specs.Answers.{turnMeaning};
+ghost use Rattle.seat.specs.Answers.{turnMeaning};
 ghost use Rattle.desk.specs.Soundness.{soundOf};
 ghost use Rattle.lines.specs.Turns.{isIdle, taken, Ran, turnsOf, roomAfter, turnsMeaning, afterTurns};
 

@@ -1,7 +1,7 @@
 // The text of the lines: a word, numbers in decimal with a tab before each, and byte 10.
 use desk::OpenAnswer;
-use desk::TurnAnswer;
 use numerals::Text;
+use seat::TurnAnswer;
 ghost use mathlib.Core.List.{[], _∷_, _++_};
 ghost use Prim.Native.Nat.{_+_, _≤_, _<_};
 ghost use lib.ListN.{length};
@@ -9,8 +9,9 @@ ghost use Rattle.timetable.specs.Fields.{tab};
 ghost use Rattle.timetable.specs.Lines.{newline};
 ghost use Rattle.numerals.specs.Writing.{Added, longest};
 ghost use Rattle.numerals.specs.Writing as its;
-ghost use Rattle.desk.specs.Bounds.{maxTimetable};
-ghost use Rattle.desk.specs.Answers.{openMeaning, turnMeaning};
+ghost use Rattle.seat.specs.Bounds.{maxTimetable};
+ghost use Rattle.seat.specs.Answers.{turnMeaning};
+ghost use Rattle.desk.specs.Answers.{openMeaning};
 ghost use Rattle.lines.specs.Text.{refusedLine, openLine, turnLine, Holds, Within};
 
 const TAB: u8 = 9;

@@ -61,10 +61,10 @@ use Rattle.words.proofs.runs.cut as cut
 use Rattle.words.proofs.runs.cut.Symbol as cut-def
 use Rattle.words.proofs.runs.cut.Symbol.{name as #cut}
 use Rattle.words.proofs.runs.cut.Met as cut-thm
-use Rattle.desk.proofs.open_in as opens
-use Rattle.desk.proofs.open_in.Symbol as opens-def
-use Rattle.desk.proofs.open_in.Symbol.{name as #open-in}
-use Rattle.desk.proofs.open_in.Met as opens-thm
+use Rattle.desk_in_place.proofs.open_in as opens
+use Rattle.desk_in_place.proofs.open_in.Symbol as opens-def
+use Rattle.desk_in_place.proofs.open_in.Symbol.{name as #open-in}
+use Rattle.desk_in_place.proofs.open_in.Met as opens-thm
 use Rattle.desk_host.proofs.tell_open as tell
 use Rattle.desk_host.proofs.tell_open.Symbol as tell-def
 use Rattle.desk_host.proofs.tell_open.Symbol.{name as #tell-open}
@@ -284,5 +284,5 @@ open-at-in-spec 𝓤 H 𝓜 𝓖 𝓡 =
     (open-at-in-meets 𝓤 H (𝓖 .A) (givenOf 𝓤 H 𝓜 𝓖) (𝓜 .mem) (𝓡 .run) (tablesOf 𝓤 H 𝓜 (tables 𝓤 H 𝓜 𝓡 code.env))
     (cited 𝓤 H (Read 𝓤 H (𝓖 .A) (𝓜 .mem) (𝓡 .run)) 𝓜 𝓡 code.env #read-line read-def.routine code.calls-line-reader·read-line (read-thm.met 𝓤 H 𝓜 𝓖 𝓡))
     (cited 𝓤 H (Cut 𝓤 H (𝓖 .A) (𝓜 .mem) (𝓡 .run)) 𝓜 𝓡 code.env #cut cut-def.routine code.calls-words·runs·cut (cut-thm.met 𝓤 H 𝓜 𝓖 𝓡))
-    (cited 𝓤 H (Opens 𝓤 H (𝓖 .A) (𝓜 .mem) (𝓡 .run)) 𝓜 𝓡 code.env #open-in opens-def.routine code.calls-desk·open-in (opens-thm.met 𝓤 H 𝓜 𝓖 𝓡))
+    (cited 𝓤 H (Opens 𝓤 H (𝓖 .A) (𝓜 .mem) (𝓡 .run)) 𝓜 𝓡 code.env #open-in opens-def.routine code.calls-desk-in-place·open-in (opens-thm.met 𝓤 H 𝓜 𝓖 𝓡))
     (cited 𝓤 H (Tell 𝓤 H (𝓖 .A) (𝓜 .mem) (𝓡 .run)) 𝓜 𝓡 code.env #tell-open tell-def.routine code.calls-desk-host·tell-open (tell-thm.met 𝓤 H 𝓜 𝓖 𝓡)))

@@ -1,6 +1,6 @@
 use mathlib.Core.Path.{_≡_, sym, ap}
-use Rattle.desk.specs.Answers.{turnMeaning}
-use Rattle.desk.specs.declared.TurnAnswer.{TurnAnswer}
+use Rattle.seat.specs.Answers.{turnMeaning}
+use Rattle.seat.specs.declared.TurnAnswer.{TurnAnswer}
 use Rattle.lines.specs.Turns.{isIdle}
 use borrow.Author.Needs.{needs}
 use Rattle.lines.proofs.is_idle.Statement.{statement}

@@ -6,7 +6,7 @@ use lib.ListN.{length}
 use borrow.Author.Needs.{needs}
 use Rattle.numerals.specs.Writing.{longest}
 use Rattle.desk.specs.Bounds.{seatCount}
-use Rattle.desk.proofs.Sound.{sound-in, sound-out}
+use Rattle.desk_laws.proofs.Sound.{sound-in, sound-out}
 use Rattle.lines.proofs.Bounded.{next-within, holds-fits}
 use Rattle.lines.proofs.Going.{going-starts}
 use Rattle.lines.proofs.Rounds.{Loop, ran-full, ran-out, has-byte, goes-on, ran-idle, put-size}

@@ -12,7 +12,7 @@ use Rattle.desk.proofs.Desk.close.Reads as reads
 use Rattle.desk.proofs.Desk.close.Lts as lts
 use Rattle.desk.proofs.Desk.place.Reads as place-reads
 use Rattle.desk.proofs.Desk.sound.Reads as sound-reads
-use Rattle.desk.proofs.seats.free.Reads as free-reads
+use Rattle.seat.proofs.free.Reads as free-reads
 
 sound-requires : tie.Need-sound-requires
 sound-requires c κs = search needs

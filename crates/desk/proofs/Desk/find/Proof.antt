@@ -1,9 +1,9 @@
 use native.Mathlib.Omega.{arith}
 use mathlib.Core.Path.{_≡_, refl, sym, ap, _∙_}
 use Prim.Native.Nat.{ℕ, _+_, _-_, _*_, _%_, _≤_, _<_}
-use Rattle.desk.proofs.Scans.{first-hit, first-miss, first-end}
 use Rattle.desk.specs.Scan.{first}
 use Rattle.desk.specs.Seats.{firstFrom, heldIs}
+use Rattle.desk.proofs.Scans.{first-hit, first-miss, first-end}
 use Rattle.desk.proofs.Desk.find.Statement.{statement}
 use Rattle.desk.proofs.Desk.find.Tie as tie
 use Rattle.desk.proofs.Desk.find.Reads as reads

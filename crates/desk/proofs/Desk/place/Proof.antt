@@ -1,10 +1,10 @@
-use Rattle.desk.specs.Bounds.{seatCount, maxTimetable}
+use Rattle.desk.specs.Bounds.{seatCount}
 use native.Mathlib.Omega.{arith}
 use mathlib.Core.Path.{_≡_, refl, sym, ap, _∙_}
 use Prim.Native.Nat.{ℕ, _+_, _-_, _*_, _%_, _≤_, _<_}
-use Rattle.desk.proofs.Scans.{first-hit, first-miss, first-end}
 use Rattle.desk.specs.Scan.{first}
 use Rattle.desk.specs.Seats.{seatAt, placeOf, hasTicket}
+use Rattle.desk.proofs.Scans.{first-hit, first-miss, first-end}
 use Rattle.basis.specs.Choice.{both}
 use borrow.Author.Tests.{eq-eqb, ne-eqb}
 use mathlib.Core.Logic.{⊎-elim}

@@ -1,4 +1,4 @@
-use Rattle.desk.specs.Bounds.{seatCount, maxTimetable}
+use Rattle.desk.specs.Bounds.{seatCount}
 use Rattle.basis.specs.Choice.{both, every}
 use borrow.Author.Tests.{lt-ltb, le-ltb, le-leb, lt-leb, eq-eqb, ne-eqb, not-true, not-false}
 use native.Mathlib.Omega.{arith}
@@ -11,7 +11,7 @@ use Rattle.desk.proofs.Desk.place_sound.Tie as tie
 use Rattle.desk.proofs.Desk.place_sound.Reads as reads
 use Rattle.desk.proofs.Desk.place_sound.Lts as lts
 use Rattle.desk.proofs.Desk.place.Reads as place-reads
-use Rattle.desk.proofs.seats.sound.Reads as sound-reads
+use Rattle.seat.proofs.sound.Reads as sound-reads
 
 mul-s : tie.Need-mul-s
 mul-s c = search needs

@@ -1,4 +1,5 @@
-use Rattle.desk.specs.Bounds.{seatCount, maxTimetable}
+use Rattle.seat.specs.Bounds.{maxTimetable}
+use Rattle.desk.specs.Bounds.{seatCount}
 use borrow.Author.Tests.{lt-ltb, le-ltb, le-leb, lt-leb, eq-eqb, ne-eqb, not-true, not-false}
 use native.Mathlib.Omega.{arith}
 use borrow.Author.Needs.{needs}

@@ -1,7 +1,7 @@
 use mathlib.Core.Path.{_≡_, sym}
 use native.Mathlib.Omega.{arith}
 use lib.ListN.{length, length-take}
-use Rattle.desk.specs.Bounds.{conditionRoom}
+use Rattle.seat.specs.Bounds.{conditionRoom}
 use lib.Seq.{length-take-le}
 use borrow.Author.Needs.{needs}
 use Rattle.hostile_desks.proofs.showing.show_seat.Statement.{statement}

@@ -1,0 +1,164 @@
+-- Soundness as a list of facts, both ways, and that it lasts where a seat is replaced by a good one.
+use mathlib.Core.Path.{_≡_, refl, sym, ap, _∙_}
+use mathlib.Core.Bool.{Bool, true, false}
+use mathlib.Core.List.{List, [], _∷_}
+use mathlib.Core.Logic.{⊎-elim, _⊎_, inl, inr}
+use Prim.Native.Nat.{ℕ, _+_, _≤_, _<_}
+use native.Mathlib.Decide.{ℕ-discrete}
+use native.Mathlib.Omega.{arith}
+use borrow.Author.Tests.{lt-ltb, le-leb, eq-eqb, leb-true, eqb-true}
+use lib.Dec.{eqb}
+use lib.ListN.{length, getD, set, length-set}
+use lib.Seq.{getD-set-same, getD-set-other}
+use Rattle.basis.specs.Choice.{pick, both, every}
+use Rattle.basis.proofs.Tests.{both-left, both-right}
+use Rattle.timetable.specs.Lines.{nextLine}
+use Rattle.timetable.proofs.Offsets.{next-within, next-further}
+use Rattle.seat.specs.Bounds.{maxTimetable}
+use Rattle.seat.specs.Query.{Result, hit, miss, unreadable}
+use Rattle.seat.specs.Soundness.{seatSound}
+use Rattle.seat.specs.Serving.{judgedAs}
+use Rattle.seat.specs.declared.Seat.{Seat}
+use Rattle.seat.proofs.Soundness.{every-at}
+use Rattle.desk.specs.Bounds.{seatCount}
+use Rattle.desk.specs.Scan.{first, all}
+use Rattle.desk.specs.Seats.{seatAt, hasTicket, placeOf}
+use Rattle.desk.specs.Soundness.{placeSound, soundOf}
+use Rattle.desk.specs.declared.Desk.{Desk}
+use Rattle.desk.proofs.Scans.{all-make, first-le, first-found}
+use Rattle.desk.proofs.Soundness.{sound-last, sound-length, sound-place, sound-seat}
+
+pub record Sound (d : Desk) : Type 0 where
+  pub size : length (d .seats) ≡ seatCount
+  pub lastIn : d .«last_served» < seatCount
+  pub short : d .«timetable_length» ≤ maxTimetable
+  pub seat : (i : ℕ) → i < seatCount → seatAt d i .held ≡ true → seatSound (d .issued) (d .«timetable_length») (seatAt d i) ≡ true
+  pub apart : (i j : ℕ) → i < seatCount → j < seatCount → seatAt d i .held ≡ true → seatAt d j .held ≡ true
+      → seatAt d i .ticket ≡ seatAt d j .ticket → i ≡ j
+
+module _ (d : Desk) (h : soundOf d ≡ true) where
+  -- a held seat of a sound desk is the first with its ticket
+  pub own-place : (i : ℕ) → i < seatCount → seatAt d i .held ≡ true → placeOf d (seatAt d i .ticket) ≡ i
+  unfolding placeSound
+  own-place i l e =
+      eqb-true _ _
+      (both-left (eqb (placeOf d (seatAt d i .ticket)) i) (seatSound (d .issued) (d .«timetable_length») (seatAt d i))
+      (rw e at (sound-place d h i l)))
+
+module _ (d : Desk) (z : length (d .seats) ≡ seatCount) (h : soundOf d ≡ true) where
+  pub sound-in : Sound d
+  sound-in =
+      record {
+        size = z;
+        lastIn = sound-last d h;
+        short = sound-length d h;
+        seat = sound-seat d h;
+        apart = λ i j li lj hi hj e. sym (own-place d h i li hi) ∙ ap (placeOf d) e ∙ own-place d h j lj hj;
+      }
+
+-- the first held place with a ticket is a held place with that ticket
+pub place-found : (d : Desk) (k : ℕ) → placeOf d k < seatCount → (seatAt d (placeOf d k) .held ≡ true) × (seatAt d (placeOf d k) .ticket ≡ k)
+place-found d k l =
+    let i = placeOf d k in
+    let m : first (hasTicket d k) 0 seatCount < 0 + seatCount = l in
+    let a = first-found (hasTicket d k) 0 seatCount m in
+    (both-left (seatAt d i .held) (eqb (seatAt d i .ticket) k) a, eqb-true _ _ (both-right (seatAt d i .held) (eqb (seatAt d i .ticket) k) a))
+
+module _ (d : Desk) (s : Sound d) where
+  place-is : (i : ℕ) → i < seatCount → seatAt d i .held ≡ true → placeOf d (seatAt d i .ticket) ≡ i
+  unfolding both
+  place-is i l e =
+      let k = seatAt d i .ticket in
+      let here : hasTicket d k i ≡ true = rw e (eq-eqb k k refl) in
+      let le : placeOf d k ≤ i = first-le (hasTicket d k) 0 seatCount i (omega arith) here in
+      let lt : placeOf d k < seatCount = omega arith in
+      let f = place-found d k lt in
+      s .apart (placeOf d k) i lt l (f .0) e (f .1)
+
+  place-ok : (i : ℕ) → i < seatCount → placeSound d i ≡ true
+  unfolding placeSound both
+  place-ok i l = go (seatAt d i .held) refl
+    where
+      go : (b : Bool) → seatAt d i .held ≡ b
+          → pick (seatAt d i .held) (both (eqb (placeOf d (seatAt d i .ticket)) i) (seatSound (d .issued) (d .«timetable_length») (seatAt d i))) true ≡ true
+      go true e = rw (e, eq-eqb _ _ (place-is i l e), s .seat i l e)
+      go false e = rw e
+
+  pub sound-out : soundOf d ≡ true
+  unfolding soundOf every both
+  sound-out = simp (lt-ltb _ _ (s .lastIn), le-leb _ _ (s .short), all-make (placeSound d) seatCount place-ok)
+
+-- ---- a seat is replaced
+-- more tickets issued
+pub seat-mono : (k k′ n : ℕ) (s : Seat) → k ≤ k′ → seatSound k n s ≡ true → seatSound k′ n s ≡ true
+unfolding seatSound both
+seat-mono k k′ n s l h =
+    let t = every-at _ 0 h in
+    let q : s .ticket ≤ k = leb-true _ _ (every-at _ 1 h) in
+    let m : s .ticket ≤ k′ = omega arith in
+    let r = every-at _ 2 h in
+    let g = every-at _ 3 h in
+    let w = every-at _ 4 h in
+    let c = every-at _ 5 h in
+    unfold every in simp (t, le-leb _ _ m, r, g, w, c)
+
+abbrev pub replaced : Desk → ℕ → Seat → ℕ → ℕ → Desk
+replaced d i s last issued =
+    record { seats = set (d .seats) i s; «last_served» = last; «timetable_length» = d .«timetable_length»; issued = issued }
+
+module _ (d : Desk) (o : Sound d) (i : ℕ) (li : i < seatCount) (s : Seat) (last issued : ℕ) where
+  pub at-same : seatAt (replaced d i s last issued) i ≡ s
+  at-same = getD-set-same (d .seats) i s _ (omega (arith, o .size))
+
+  pub at-other : (j : ℕ) → (j ≡ i → ⊥) → seatAt (replaced d i s last issued) j ≡ seatAt d j
+  at-other j ne = getD-set-other (d .seats) i j s _ ne
+
+  -- a place has the new seat, or what it had
+  pub which : (j : ℕ) → ((j ≡ i) × (seatAt (replaced d i s last issued) j ≡ s)) ⊎ ((j ≡ i → ⊥) × (seatAt (replaced d i s last issued) j ≡ seatAt d j))
+  which j = elim (ℕ-discrete j i) [ yes q ↦ inl (q, ap (seatAt (replaced d i s last issued)) q ∙ at-same) | no n ↦ inr (n, at-other j n) ]
+
+  module _
+      (ll : last < seatCount)
+      (lk : d .issued ≤ issued)
+      (good : s .held ≡ true → seatSound issued (d .«timetable_length») s ≡ true)
+      (new : (j : ℕ) → j < seatCount → (j ≡ i → ⊥) → seatAt d j .held ≡ true → s .held ≡ true → seatAt d j .ticket ≡ s .ticket → ⊥)
+    where
+      pub replaced-sound : Sound (replaced d i s last issued)
+      replaced-sound =
+          record {
+            size = length-set (d .seats) i s ∙ o .size;
+            lastIn = ll;
+            short = o .short;
+            seat = λ j lj hj.
+                ⊎-elim (λ w. rw (w .1) (good (rw (w .1) at hj))) (λ w. rw (w .1) (seat-mono _ _ _ _ lk (o .seat j lj (rw (w .1) at hj)))) (which j);
+            apart = λ j k lj l hj hk t.
+                ⊎-elim
+                (λ w.
+                ⊎-elim (λ v. w .0 ∙ sym (v .0))
+                (λ v. absurd (new k l (v .0) (rw (v .1) at hk) (rw (w .1) at hj) (sym (rw (w .1, v .1) at t))))
+                (which k))
+                (λ w.
+                ⊎-elim (λ v. absurd (new j lj (w .0) (rw (w .1) at hj) (rw (v .1) at hk) (rw (w .1, v .1) at t)))
+                (λ v. o .apart j k lj l (rw (w .1) at hj) (rw (v .1) at hk) (rw (w .1, v .1) at t))
+                (which k))
+                (which j);
+          }
+
+-- ---- a seat that is served stays sound
+pub judged-sound : (t : List ℕ) (k : ℕ) (s : Seat) (v : Result) → s .offset < length t → seatSound k (length t) s ≡ true
+    → seatSound k (length t) (judgedAs (nextLine t (s .offset)) s v .seat) ≡ true
+unfolding seatSound both
+judged-sound t k s v l h =
+    let a = every-at _ 0 h in
+    let b = every-at _ 1 h in
+    let r = every-at _ 2 h in
+    let g = every-at _ 3 h in
+    let c : s .hits + s .unreadable ≤ s .offset = leb-true _ _ (every-at _ 5 h) in
+    let w = next-within t (s .offset) (omega arith) in
+    let f = next-further t (s .offset) l in
+    unfold every in
+    elim v [
+      | hit ↦ (let m : s .hits + 1 + s .unreadable ≤ nextLine t (s .offset) = omega arith in simp (a, b, r, g, le-leb _ _ w, le-leb _ _ m))
+      | miss ↦ (let m : s .hits + s .unreadable ≤ nextLine t (s .offset) = omega arith in simp (a, b, r, g, le-leb _ _ w, le-leb _ _ m))
+      | unreadable x ↦ (let m : s .hits + (s .unreadable + 1) ≤ nextLine t (s .offset) = omega arith in simp (a, b, r, g, le-leb _ _ w, le-leb _ _ m))
+    ]

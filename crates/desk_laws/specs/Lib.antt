@@ -1,0 +1,2 @@
+-- The desk's calls in document 01's own words.
+pub mod InWords

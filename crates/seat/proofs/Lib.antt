@@ -1,0 +1,4 @@
+pub mod Padding
+pub mod Conditions
+pub mod Soundness
+pub mod Serving

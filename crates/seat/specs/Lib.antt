@@ -1,0 +1,7 @@
+-- The definitions that a seat's contracts cite.
+pub mod Query
+pub mod Bounds
+pub mod Answers
+pub mod Seat
+pub mod Soundness
+pub mod Serving

@@ -1,0 +1,56 @@
+-- Document 01, "Timetable, seats and turns": what a turn does to the seat that it serves. "Offset at the timetable's end:
+-- Done with the ticket, its hits and its unreadable lines; the seat is freed; else its next line: Hit, Miss or Unreadable
+-- (with a number), each with ticket and line offset."
+use mathlib.Core.Path.{_≡_}
+use mathlib.Core.List.{List}
+use Prim.Native.Nat.{ℕ, _+_}
+use lib.Dec.{ltb}
+use lib.ListN.{length}
+use Rattle.basis.specs.Choice.{pick}
+use Rattle.basis.specs.Answer.{gives}
+use Rattle.timetable.specs.Lines.{nextLine, lineAt}
+use Rattle.seat.specs.Query.{Result, hit, miss, unreadable, resultAt}
+use Rattle.seat.specs.Answers.{Turned, turnMeaning, hitAt, missAt, unreadableAt, doneWith}
+use Rattle.seat.specs.Seat.{freeSeat, conditionOf}
+use Rattle.seat.specs.declared.Seat.{Seat}
+use Rattle.seat.specs.declared.AfterServing.{AfterServing}
+
+-- a seat after a turn of its own, and the answer
+pub record Step : Type 0 where
+  pub seat : Seat
+  pub answer : Turned
+
+-- what a call hands back is such a step
+pub record Steps (r : AfterServing) (x : Step) : Type 0 where
+  pub seat : r .seat ≡ x .seat
+  pub answer : turnMeaning (r .answer) ≡ gives (x .answer)
+
+-- the seat with another offset and other counts
+abbrev pub movedTo : Seat → ℕ → ℕ → ℕ → Seat
+movedTo s offset hits bad =
+    record {
+      held = s .held;
+      ticket = s .ticket;
+      offset = offset;
+      hits = hits;
+      unreadable = bad;
+      «condition_length» = s .«condition_length»;
+      condition = s .condition;
+    }
+
+-- after a line with a result, the next line being at an offset
+abbrev pub judgedAs : ℕ → Seat → Result → Step
+judgedAs next s hit = record { seat = movedTo s next (s .hits + 1) (s .unreadable); answer = hitAt (s .ticket) (s .offset) }
+judgedAs next s miss = record { seat = movedTo s next (s .hits) (s .unreadable); answer = missAt (s .ticket) (s .offset) }
+judgedAs next s (unreadable n) =
+    record { seat = movedTo s next (s .hits) (s .unreadable + 1); answer = unreadableAt (s .ticket) (s .offset) n }
+
+-- the result of the seat's condition at its next line
+abbrev pub resultOf : List ℕ → Seat → Result
+resultOf t s = resultAt (conditionOf s) (lineAt t (s .offset) .text)
+
+unfoldable pub serveOf : List ℕ → Seat → Step
+serveOf t s =
+    pick (ltb (s .offset) (length t))
+    (judgedAs (nextLine t (s .offset)) s (resultOf t s))
+    (record { seat = freeSeat; answer = doneWith (s .ticket) (s .hits) (s .unreadable) })
