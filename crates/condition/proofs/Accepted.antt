@@ -50,11 +50,11 @@ lengths-hold s a true e = refl
 lengths-hold s a false e = no-refusal badCondition e
 
 -- "Length 1 to 240 bytes."
-pub accepted-length : (s : List ℕ) → accepted s ≡ true → (1 ≤ length s) × (length s ≤ 240)
+pub accepted-length : (s : List ℕ) → accepted s ≡ true → (minLength ≤ length s) × (length s ≤ maxLength)
 unfolding checkOf
 accepted-length s h =
     let e = lengths-hold s _ (both (leb minLength (length s)) (leb (length s) maxLength)) (accepted-gives s h) in
-    (leb-true 1 (length s) (both-left _ _ e), leb-true (length s) 240 (both-right (leb minLength (length s)) _ e))
+    (leb-true minLength (length s) (both-left _ _ e), leb-true (length s) maxLength (both-right (leb minLength (length s)) _ e))
 
 -- an accepted text states a tree that is a truth value and has no bad literal
 pub record Stated (s : List ℕ) (p : Parsed Tree) : Type 0 where

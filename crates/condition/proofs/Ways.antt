@@ -27,7 +27,7 @@ use Rattle.reading.specs.Readers.{givenIn, partOf, readOf}
 use Rattle.reading.specs.declared.Read.{Read}
 use Rattle.reading.specs.declared.Read.the-variants.{Bad, Got}
 use Rattle.reading.proofs.Wholes.{no-part}
-use Rattle.condition.specs.Condition.{checkOf, byKinds, byTree, checked, accepted, Result, hit, miss, unreadable, shown, ofTree, ifAccepted, resultAt, resultOf, judged}
+use Rattle.condition.specs.Condition.{minLength, maxLength, checkOf, byKinds, byTree, checked, accepted, Result, hit, miss, unreadable, shown, ofTree, ifAccepted, resultAt, resultOf, judged}
 use Rattle.condition.specs.Carried.{literals, resulting}
 use Rattle.condition.specs.declared.Checked.{Checked}
 use Rattle.condition.specs.declared.Checked.the-variants as C
@@ -46,23 +46,23 @@ shown-live (gives (truth x)) = refl
 shown-live (refuses n) = refl
 
 module _ (s : List ℕ) (a : Answer (Unit {0})) where
-  pub check-short : length s < 1 → a ≡ refuses badCondition → a ≡ checkOf s
+  pub check-short : length s < minLength → a ≡ refuses badCondition → a ≡ checkOf s
   unfolding checkOf both
-  check-short h e = rw (lt-leb 1 (length s) h) e
+  check-short h e = rw (lt-leb minLength (length s) h) e
 
-  module _ (h : 1 ≤ length s) where
-    pub check-long : 240 < length s → a ≡ refuses badCondition → a ≡ checkOf s
+  module _ (h : minLength ≤ length s) where
+    pub check-long : maxLength < length s → a ≡ refuses badCondition → a ≡ checkOf s
     unfolding checkOf both
-    check-long k e = rw (le-leb 1 (length s) h, lt-leb (length s) 240 k) e
+    check-long k e = rw (le-leb minLength (length s) h, lt-leb (length s) maxLength k) e
 
-    module _ (k : length s ≤ 240) {t : Bool} (d : t ≡ deep s) where
+    module _ (k : length s ≤ maxLength) {t : Bool} (d : t ≡ deep s) where
       pub check-deep : t ≡ true → a ≡ refuses tooDeep → a ≡ checkOf s
       unfolding checkOf both
-      check-deep f e = rw (le-leb 1 (length s) h, le-leb (length s) 240 k, ← d, f) e
+      check-deep f e = rw (le-leb minLength (length s) h, le-leb (length s) maxLength k, ← d, f) e
 
       by-tree : t ≡ false → a ≡ byTree s (parse s) → a ≡ checkOf s
       unfolding checkOf both
-      by-tree f e = rw (le-leb 1 (length s) h, le-leb (length s) 240 k, ← d, f) e
+      by-tree f e = rw (le-leb minLength (length s) h, le-leb (length s) maxLength k, ← d, f) e
 
       module _ (f : t ≡ false) (g : Read) (q : g ≡ readOf s s Check (parse s)) where
         tree-bad : (p : Parsed Tree) → Bad ≡ readOf s s Check p → a ≡ refuses badCondition → a ≡ byTree s p

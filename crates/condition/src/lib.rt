@@ -30,7 +30,7 @@ pub enum Judged {
 // The least and the greatest length of a condition's text.
 const MIN_LENGTH: usize = 1;
 
-const MAX_LENGTH: usize = 240;
+pub const MAX_LENGTH: usize = 240;
 
 fn refused(number: u8) -> Checked
     ensures { λ r. ⌜ checked r ≡ refuses number ⌝ }

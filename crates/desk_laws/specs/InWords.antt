@@ -1,7 +1,7 @@
--- Document 01, "Timetable, seats and turns" and "Refusal numbers", in its own words. The definitions of the calls (Desk.antt)
--- look for a seat by its place; here is said of the sixteen seats which one that is, and of each number of the table that
--- it is given exactly when the table says. The theorems are `fresh-in-words`, `open-in-words`, `close-in-words`,
--- `turn-in-words` and `refused-alters-nothing` (proofs/).
+-- Document 01, "Timetable, seats and turns" and "Refusal numbers", in its own words. The definitions of the calls (crate
+-- `desk`, Desk.antt) look for a seat by its place; here is said of the sixteen seats which one that is, and of each number
+-- of the table that it is given exactly when the table says. The theorems are `fresh-in-words`, `open-in-words`,
+-- `close-in-words`, `turn-in-words` and `refused-alters-nothing` (proofs/InWords.antt).
 use mathlib.Core.Path.{_≡_}
 use mathlib.Core.Bool.{true, false}
 use mathlib.Core.List.{List}

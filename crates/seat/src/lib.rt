@@ -27,8 +27,8 @@ pub struct Seat {
 }
 
 impl Seat {
-    // The longest condition has so many bytes.
-    pub const ROOM: usize = 240;
+    // A seat has room for the longest condition.
+    pub const ROOM: usize = condition::MAX_LENGTH;
 }
 
 // Whose answer it is, and at which line.
