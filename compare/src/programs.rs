@@ -2,7 +2,7 @@
 
 use crate::conditions::accept;
 use crate::conditions::evaluation::holds;
-use crate::desk::{Desk, Turn};
+use crate::desk::{Desk, Turn, MOST_TIMETABLE_BYTES};
 use crate::lines::{fields, lines};
 use crate::values::operations::{add, adjust, cast, compare, components, multiply, subtract, unzone};
 use crate::values::reading::{number, read};
@@ -13,6 +13,7 @@ use std::cmp::Ordering;
 
 pub const MOST_CALLS_BYTES: usize = 65_536;
 pub const MOST_CONDITIONS_BYTES: usize = 4_096;
+pub const MOST_CASES_BYTES: usize = 4_096;
 
 /// The calculator: an answer for each line of calls.
 pub fn calculator(input: &[u8]) -> String {
@@ -142,6 +143,19 @@ pub fn desk(timetable: &[u8], input: &[u8]) -> String {
             return output;
         }
     }
+}
+
+/// Runs of the desk program: each line names a timetable and a file of conditions, and `start_of` hands out the first bytes of
+/// the file of a name.
+pub fn desk_runs(cases: &[u8], start_of: impl Fn(&[u8], usize) -> Vec<u8>) -> Vec<u8> {
+    let mut output = Vec::new();
+    for line in lines(&cases[..cases.len().min(MOST_CASES_BYTES)]) {
+        let names = fields(line);
+        let timetable = start_of(names[0], MOST_TIMETABLE_BYTES + 1);
+        let conditions = start_of(names.get(1).unwrap_or(&b"".as_slice()), MOST_CONDITIONS_BYTES + 1);
+        output.extend([b"case\t".as_slice(), line, b"\n", desk(&timetable, &conditions).as_bytes()].concat());
+    }
+    output
 }
 
 /// The line that tells a turn's answer.

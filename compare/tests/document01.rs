@@ -266,3 +266,24 @@ fn the_program_at_its_bounds() {
     let lines = programs::desk(b"\n\n2000-01-01", condition.as_bytes());
     assert_eq!(lines, "open\t1\nunreadable\t1\t0\t1\nunreadable\t1\t1\t1\nhit\t1\t2\ndone\t1\t1\t2\nidle\n");
 }
+
+#[test]
+fn runs_of_the_program() {
+    let start_of = |name: &[u8], most: usize| match name {
+        b"day" => b"2000-01-01".to_vec(),
+        b"any" => b"xs:date($1) eq xs:date($1)\n".to_vec(),
+        b"long" => vec![b' '; most],
+        _ => Vec::new(),
+    };
+    let cases = [
+        ("day\tany", "open\t1\nhit\t1\t0\ndone\t1\t1\t0\nidle\n"),
+        ("day", "idle\n"),
+        ("", "idle\n"),
+        ("none\tany\tmore", "open\t1\ndone\t1\t0\t0\nidle\n"),
+        ("long\tlong", "refused\t11\n"),
+        ("day\tlong", "refused\t7\n"),
+    ];
+    let list: String = cases.iter().map(|(line, _)| format!("{line}\n")).collect();
+    let expected: String = cases.iter().map(|(line, output)| format!("case\t{line}\n{output}")).collect();
+    assert_eq!(String::from_utf8(programs::desk_runs(list.as_bytes(), start_of)).unwrap(), expected);
+}

@@ -126,11 +126,11 @@ fn live(t: &[u8], input: &[u8]) -> Desk
     desk
 }
 
-// The bytes of the timetable, at the start of the buffer; none where the file cannot be opened or read.
-fn read_timetable(buffer: &mut [u8]) -> usize
+// The bytes of a file, at the start of the buffer; none where it cannot be opened or read.
+fn read_file(name: &[u8], buffer: &mut [u8]) -> usize
     ensures { λ r. ⌜ Counts r (now (buffer .exit)) ⌝ }
 {
-    let file = os::open_read(b"timetable.tsv");
+    let file = os::open_read(name);
     if file < 0 {
         return 0;
     }
@@ -139,19 +139,25 @@ fn read_timetable(buffer: &mut [u8]) -> usize
     got
 }
 
-// The whole program: one byte more than is allowed is asked for, so that a text too long is seen.
-pub fn run() {
+// The program over the timetable of a name and the conditions that a descriptor hands out, to its end: one byte more than is
+// allowed is asked for, so that a text too long is seen. A descriptor that cannot be read hands out no conditions.
+pub fn run_over(name: &[u8], conditions: i32) {
     let mut timetable = [0; Desk::MAX_TIMETABLE + 1];
-    let long = read_timetable(&mut timetable);
+    let long = read_file(name, &mut timetable);
     if Desk::MAX_TIMETABLE < long {
         tell_refused(Refusal::WRONG_TIMETABLE);
         return;
     }
     let mut input = [0; MAX_INPUT + 1];
-    let given = io::read_full(STDIN_FILENO, &mut input);
+    let given = io::read_full(conditions, &mut input);
     if MAX_INPUT < given {
         tell_refused(Refusal::BAD_CONDITION);
         return;
     }
     live(&timetable[..long], &input[..given]);
+}
+
+// The whole program.
+pub fn run() {
+    run_over(b"timetable.tsv", STDIN_FILENO);
 }
