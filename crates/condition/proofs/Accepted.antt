@@ -12,8 +12,8 @@ use Rattle.basis.specs.Answer.{Answer, gives, refuses}
 use Rattle.basis.proofs.Tests.{both-left, both-right}
 use Rattle.value.specs.Refusals.{badCondition, tooDeep}
 use Rattle.words.specs.Depth.{deep}
-use Rattle.results.specs.declared.Sort.{Sort}
-use Rattle.results.specs.declared.Sort.the-variants as S
+use Rattle.sorts.specs.declared.Sort.{Sort}
+use Rattle.sorts.specs.declared.Sort.the-variants as S
 use Rattle.reading.specs.Grammar.{Parsed, none, got}
 use Rattle.reading.specs.Trees.{Tree, parse, sortOf, first, firstBad}
 use Rattle.condition.specs.Condition.{checkOf, byKinds, byTree, passes, accepted, minLength, maxLength}

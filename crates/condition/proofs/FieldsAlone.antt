@@ -4,7 +4,7 @@ use mathlib.Core.List.{List}
 use Prim.Native.Nat.{ℕ}
 use Rattle.value.specs.declared.Kind.{Kind}
 use Rattle.timetable.specs.Fields.{fieldsOf, hasField, fieldAt}
-use Rattle.results.specs.Data.{valued, readField, onto, joined, castDatum, timesDatum}
+use Rattle.givens.specs.Data.{valued, readField, onto, joined, castDatum, timesDatum}
 use Rattle.reading.specs.Grammar.{Parsed, none, got}
 use Rattle.reading.specs.Trees.{Tree, leaf, one, two, literal, field, cast, times, parse, eval}
 use Rattle.condition.specs.Condition.{shown, ofTree, resultAt}

@@ -13,8 +13,8 @@ use Rattle.text.specs.Reading.{readAs}
 use Rattle.words.specs.Runs.{between}
 use Rattle.words.specs.Depth.{deep}
 use Rattle.results.specs.Numbers.{ofText}
-use Rattle.results.specs.declared.Sort.{Sort}
-use Rattle.results.specs.declared.Sort.the-variants as S
+use Rattle.sorts.specs.declared.Sort.{Sort}
+use Rattle.sorts.specs.declared.Sort.the-variants as S
 use Rattle.results.proofs.Numbers.{Only, read-only}
 use Rattle.reading.specs.Grammar.{Parsed, none, got}
 use Rattle.reading.specs.Trees.{Tree, leaf, one, two, literal, field, parse, sortOf, fits, first, firstBad}

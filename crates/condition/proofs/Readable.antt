@@ -26,10 +26,10 @@ use Rattle.operation.proofs.Validity.{cast-within}
 use Rattle.words.specs.Runs.{between}
 use Rattle.words.specs.declared.Op.{Op}
 use Rattle.words.specs.declared.Op.the-variants as O
-use Rattle.results.specs.Sorts.{comparedKinds, addedKinds, lessKinds, kindsOf, joins, sortTwo, sortCast, sortTimes}
-use Rattle.results.specs.Data.{Datum, value, truth, valued, readField, tested, ofValues, applied, settles, onto, joined, castDatum, timesDatum}
-use Rattle.results.specs.declared.Sort.{Sort}
-use Rattle.results.specs.declared.Sort.the-variants as S
+use Rattle.sorts.specs.Sorts.{comparedKinds, addedKinds, lessKinds, kindsOf, joins, sortTwo, sortCast, sortTimes}
+use Rattle.givens.specs.Data.{Datum, value, truth, valued, readField, tested, ofValues, applied, settles, onto, joined, castDatum, timesDatum}
+use Rattle.sorts.specs.declared.Sort.{Sort}
+use Rattle.sorts.specs.declared.Sort.the-variants as S
 use Rattle.results.specs.Numbers.{atLine}
 use Rattle.results.proofs.Numbers.{Only, read-only, text-at-line}
 use Rattle.results.proofs.Settled.{Fits, FitsSort, plus-settled, minus-settled, order-settled, times-settled, cast-settled}

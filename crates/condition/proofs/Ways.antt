@@ -11,16 +11,16 @@ use Rattle.basis.specs.Answer.{Answer, gives, refuses}
 use Rattle.value.specs.Refusals.{badCondition, tooDeep, wrongKind}
 use Rattle.value.specs.declared.Refusal.{Refusal}
 use Rattle.words.specs.Depth.{deep}
-use Rattle.results.specs.Data.{Datum, value, truth}
-use Rattle.results.specs.Givens.{givenOf, badOf}
-use Rattle.results.specs.declared.Sort.{Sort}
-use Rattle.results.specs.declared.Sort.the-variants as S
-use Rattle.results.specs.declared.Given.{Given}
-use Rattle.results.specs.declared.Given.the-variants as G
+use Rattle.givens.specs.Data.{Datum, value, truth}
+use Rattle.givens.specs.Givens.{givenOf, badOf}
+use Rattle.sorts.specs.declared.Sort.{Sort}
+use Rattle.sorts.specs.declared.Sort.the-variants as S
+use Rattle.givens.specs.declared.Given.{Given}
+use Rattle.givens.specs.declared.Given.the-variants as G
 use Rattle.value.specs.declared.Kind.{Kind}
 use Rattle.value.specs.declared.Value.{Value}
 use Rattle.results.specs.declared.Part.{Part}
-use Rattle.results.specs.declared.Mode.the-variants.{Check, Live}
+use Rattle.givens.specs.declared.Mode.the-variants.{Check, Live}
 use Rattle.reading.specs.Grammar.{Parsed, none, got}
 use Rattle.reading.specs.Trees.{Tree, parse, sortOf, first, firstBad, eval}
 use Rattle.reading.specs.Readers.{givenIn, partOf, readOf}

@@ -9,9 +9,9 @@ use Rattle.basis.specs.Choice.{pick, both}
 use Rattle.basis.specs.Answer.{Answer, gives, refuses}
 use Rattle.value.specs.Refusals.{badCondition, tooDeep, wrongKind}
 use Rattle.words.specs.Depth.{deep}
-use Rattle.results.specs.Data.{Datum, value, truth}
-use Rattle.results.specs.declared.Sort.{Sort}
-use Rattle.results.specs.declared.Sort.the-variants as S
+use Rattle.givens.specs.Data.{Datum, value, truth}
+use Rattle.sorts.specs.declared.Sort.{Sort}
+use Rattle.sorts.specs.declared.Sort.the-variants as S
 use Rattle.reading.specs.Grammar.{Parsed, none, got}
 use Rattle.reading.specs.Trees.{Tree, parse, sortOf, first, firstBad, eval}
 use Rattle.condition.specs.declared.Checked.{Checked}

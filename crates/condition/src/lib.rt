@@ -1,9 +1,9 @@
 // Conditions: which texts are accepted, and the result of a condition at a line (document 01, "Conditions").
+use givens::Given;
+use givens::Mode;
 use reading::Read;
-use results::Given;
-use results::Mode;
 use results::Part;
-use results::Sort;
+use sorts::Sort;
 use value::Refusal;
 use words::depth::too_deep;
 ghost use mathlib.Core.Path.{_≡_};

@@ -11,14 +11,15 @@ use Rattle.value.specs.declared.Value.{Value}
 use Rattle.words.specs.declared.Op.{Op}
 use Rattle.text.specs.Reading.{readAs}
 use Rattle.words.specs.Runs.{between}
-use Rattle.results.specs.Data.{Datum, value, truth, valued, readField, applied, settles, settled, onto, joined, castDatum, timesDatum}
-use Rattle.results.specs.Givens.{givenOf, badOf, textIn, fieldIn, literalPart, fieldPart, castGiven, timesGiven, rightGiven, refusedGiven, twoGiven, rightMode, afterGiven, castPart, timesPart, twoPart, afterPart}
-use Rattle.results.specs.declared.Sort.{Sort}
-use Rattle.results.specs.declared.Given.{Given}
-use Rattle.results.specs.declared.Given.the-variants as G
+use Rattle.givens.specs.Data.{Datum, value, truth, valued, readField, applied, settles, settled, onto, joined, castDatum, timesDatum}
+use Rattle.givens.specs.Givens.{givenOf, badOf, textIn, fieldIn, castGiven, timesGiven, rightGiven, refusedGiven, twoGiven, rightMode, afterGiven}
+use Rattle.results.specs.Parts.{literalPart, fieldPart, castPart, timesPart, twoPart, afterPart}
+use Rattle.sorts.specs.declared.Sort.{Sort}
+use Rattle.givens.specs.declared.Given.{Given}
+use Rattle.givens.specs.declared.Given.the-variants as G
 use Rattle.results.specs.declared.Part.{Part}
-use Rattle.results.specs.declared.Mode.{Mode}
-use Rattle.results.specs.declared.Mode.the-variants.{Check, Live, Dead}
+use Rattle.givens.specs.declared.Mode.{Mode}
+use Rattle.givens.specs.declared.Mode.the-variants.{Check, Live, Dead}
 use Rattle.reading.specs.Trees.{Tree, leaf, one, two, literal, field, cast, times, sortOf, fits, first, firstBad, eval}
 use Rattle.reading.specs.Readers.{parts, givenIn, partOf}
 use Rattle.reading.proofs.Folds.{Meets}

@@ -18,7 +18,7 @@ use Rattle.words.specs.declared.Start.the-variants as S
 use Rattle.words.specs.declared.Multiplier.{Multiplier}
 use Rattle.words.specs.declared.Multiplier.the-variants as T
 use Rattle.results.specs.declared.Part.{Part}
-use Rattle.results.specs.declared.Mode.{Mode}
+use Rattle.givens.specs.declared.Mode.{Mode}
 use Rattle.reading.specs.Grammar.{Parsed, none, got}
 use Rattle.reading.specs.Readers.{told, parts, inside, clauseRead, testRead, sumRead, termRead, factorRead}
 use Rattle.reading.specs.declared.Read.{Read}

@@ -6,9 +6,9 @@ use Prim.Native.Nat.{ℕ, zero, suc, _-_}
 use native.Mathlib.Omega.{arith}
 use Rattle.value.specs.declared.Kind.{Kind}
 use Rattle.words.specs.Symbols.{orAt, andAt, comparisonAt, signAt, startAt, heldAt, multiplierAt, closingAt}
-use Rattle.results.specs.Givens.{literalPart, fieldPart, castPart, timesPart, twoPart, afterPart}
+use Rattle.results.specs.Parts.{literalPart, fieldPart, castPart, timesPart, twoPart, afterPart}
 use Rattle.results.specs.declared.Part.{Part}
-use Rattle.results.specs.declared.Mode.{Mode}
+use Rattle.givens.specs.declared.Mode.{Mode}
 use Rattle.reading.specs.Grammar.{closedAt, inner, conditionIn, conditionMoreIn, clauseIn, clauseMoreIn, testIn, sumIn, sumMoreIn, termIn, termMoreIn, factorIn, heldIn}
 use Rattle.reading.specs.Readers.{told, parts, inside, closedRead, termMoreRead, conditionRead, conditionMoreRead, clauseRead, clauseMoreRead, testRead, sumRead, sumMoreRead, termRead, factorRead, heldRead}
 use Rattle.reading.specs.declared.Read.{Read}

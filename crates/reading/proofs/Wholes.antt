@@ -8,7 +8,7 @@ use borrow.Author.Tests.{le-leb, lt-leb}
 use Rattle.words.specs.Runs.{skipped}
 use Rattle.words.specs.Depth.{maxDepth}
 use Rattle.results.specs.declared.Part.{Part}
-use Rattle.results.specs.declared.Mode.{Mode}
+use Rattle.givens.specs.declared.Mode.{Mode}
 use Rattle.reading.specs.Grammar.{Parsed, none, got, condition}
 use Rattle.reading.specs.Trees.{Tree, trees, whole, parse}
 use Rattle.reading.specs.Readers.{told, parts, conditionRead, partOf, readOf}

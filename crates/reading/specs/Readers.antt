@@ -3,12 +3,13 @@
 use Prim.Native.Nat.{ℕ}
 use mathlib.Core.List.{List, []}
 use Rattle.value.specs.declared.Kind.{Kind}
-use Rattle.results.specs.Givens.{givenOf, badOf, literalPart, fieldPart, castPart, timesPart, twoPart, afterPart}
-use Rattle.results.specs.declared.Given.{Given}
-use Rattle.results.specs.declared.Given.the-variants as G
+use Rattle.givens.specs.Givens.{givenOf, badOf}
+use Rattle.results.specs.Parts.{literalPart, fieldPart, castPart, timesPart, twoPart, afterPart}
+use Rattle.givens.specs.declared.Given.{Given}
+use Rattle.givens.specs.declared.Given.the-variants as G
 use Rattle.results.specs.declared.Part.{Part}
-use Rattle.results.specs.declared.Mode.{Mode}
-use Rattle.results.specs.declared.Mode.the-variants as M
+use Rattle.givens.specs.declared.Mode.{Mode}
+use Rattle.givens.specs.declared.Mode.the-variants as M
 use Rattle.reading.specs.Grammar.{Parsed, none, got, Parts, Inside, closedAt, inner, conditionIn, conditionMoreIn, clauseIn, clauseMoreIn, testIn, sumIn, sumMoreIn, termIn, termMoreIn, factorIn, heldIn}
 use Rattle.reading.specs.Trees.{Tree, sortOf, firstBad, eval}
 use Rattle.reading.specs.declared.Read.{Read}

@@ -13,10 +13,10 @@ use Rattle.text.specs.Reading.{readAs}
 use Rattle.words.specs.Runs.{skipped, between}
 use Rattle.words.specs.Depth.{maxDepth, deep}
 use Rattle.words.specs.declared.Op.{Op}
-use Rattle.results.specs.Sorts.{sortTwo, sortCast, sortTimes}
-use Rattle.results.specs.Data.{Datum, valued, readField, onto, joined, castDatum, timesDatum}
-use Rattle.results.specs.declared.Sort.{Sort}
-use Rattle.results.specs.declared.Sort.the-variants as S
+use Rattle.sorts.specs.Sorts.{sortTwo, sortCast, sortTimes}
+use Rattle.givens.specs.Data.{Datum, valued, readField, onto, joined, castDatum, timesDatum}
+use Rattle.sorts.specs.declared.Sort.{Sort}
+use Rattle.sorts.specs.declared.Sort.the-variants as S
 use Rattle.reading.specs.Grammar.{Parsed, none, got, then, Parts, condition}
 
 -- a literal by the places between which its bytes stand, a field by its number and the place of its `$`

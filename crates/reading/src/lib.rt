@@ -1,7 +1,7 @@
 // The readers of a condition, straight on its text: each reads its part from a place on and gives what it carries and where
 // it ends. A factor may hold a whole condition again, so they call one another in a cycle; at each turn of it text has been
 // read or fewer parentheses may be opened (document 01, "Conditions").
-use results::Mode;
+use givens::Mode;
 use results::Part;
 use results::parts::after;
 use results::parts::cast;

@@ -15,11 +15,11 @@ use Rattle.operation.specs.Order.{orderIn, operandOrder}
 use Rattle.operation.specs.Casts.{castsTo, castTo, castOf}
 use Rattle.arithmetic.specs.Sums.{plusOf, minusIn}
 use Rattle.arithmetic.specs.Products.{timesOf}
-use Rattle.results.specs.Sorts.{comparedKinds, addedKinds, lessKinds, sortCast, sortTimes}
-use Rattle.results.specs.Data.{joined, onto, ShortCircuit}
+use Rattle.sorts.specs.Sorts.{comparedKinds, addedKinds, lessKinds, sortCast, sortTimes}
+use Rattle.givens.specs.Data.{joined, onto, ShortCircuit}
 use Rattle.results.specs.Fitting.{Exactly, ClashIs9}
-use Rattle.results.specs.declared.Sort.{Sort}
-use Rattle.results.specs.declared.Sort.the-variants as S
+use Rattle.sorts.specs.declared.Sort.{Sort}
+use Rattle.sorts.specs.declared.Sort.the-variants as S
 use Rattle.results.proofs.Settled.{Fits, FitsSort, plus-settled, minus-settled, times-settled}
 
 kind-no-clash : (k : Kind) → S.Of k ≡ S.Clash → ⊥

@@ -1,5 +1,3 @@
-pub mod FitLaws
-pub mod GiveLaws
 pub mod PartLaws
 pub mod Numbers
 pub mod Settled

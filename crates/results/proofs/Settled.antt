@@ -1,6 +1,6 @@
 -- Where the kinds fit, each operation on valid values gives a valid value of the settled kind, or 4; a comparison gives a
 -- truth value. So no 9 and no 16 can come of parts whose sorts fit. Where they clash, it is refused with 9.
-use mathlib.Core.Path.{_≡_, refl, sym, ap, _∙_}
+use mathlib.Core.Path.{_≡_, refl}
 use mathlib.Core.Bool.{Bool, true, false}
 use Prim.Native.Nat.{ℕ, _+_, _-_, _/_, _≤_}
 use native.Mathlib.Omega.{arith}
@@ -12,11 +12,10 @@ use Rattle.calendar.specs.Calendar.{monthCount}
 use Rattle.value.specs.Bounds.{minYear, maxYear}
 use Rattle.value.specs.Refusals.{wrongKind}
 use Rattle.value.specs.Values.{okDayTime, okYearMonth}
-use Rattle.value.specs.Durations.{plus, minus, lessTicks, lessMonths}
-use Rattle.value.specs.Kinds.{hasDate, hasTime, kindOf, okValue, kept}
-use Rattle.value.specs.Ticks.{utc, placedAt, localOf}
+use Rattle.value.specs.Durations.{lessTicks, lessMonths}
+use Rattle.value.specs.Kinds.{hasDate, kindOf, okValue, kept}
+use Rattle.value.specs.Ticks.{placedAt, localOf}
 use Rattle.value.specs.declared.Offset.{Offset}
-use Rattle.value.specs.declared.Zone.{Zone}
 use Rattle.value.specs.declared.DateTime.{DateTime}
 use Rattle.value.specs.declared.Kind.{Kind}
 use Rattle.value.specs.declared.Kind.the-variants as K
@@ -27,13 +26,13 @@ use Rattle.value.specs.declared.Placed.the-variants as P
 use Rattle.shifting.specs.Operands.{operandOf, valueOf, sameKind}
 use Rattle.shifting.specs.Results.{inTicks, inMonths, ofPlaced, atTicks}
 use Rattle.shifting.specs.Shifts.{monthOf, inMonth, movedTo, moved, wrapped, shifted}
-use Rattle.operation.specs.Order.{Order, orderIn, operandOrder}
+use Rattle.operation.specs.Order.{orderIn, operandOrder}
 use Rattle.arithmetic.specs.Sums.{sumOf, plusOf, lessMoment, differenceIn, minusIn}
 use Rattle.arithmetic.specs.Products.{productOf, timesOf, maxFactor}
 use Rattle.operation.specs.Casts.{castsTo, castTo, castOf}
-use Rattle.results.specs.Sorts.{moment, takes, comparedKinds, addedKinds, lessKinds, sortTimes}
-use Rattle.results.specs.declared.Sort.{Sort}
-use Rattle.results.specs.declared.Sort.the-variants as S
+use Rattle.sorts.specs.Sorts.{moment, addedKinds, lessKinds, sortTimes}
+use Rattle.sorts.specs.declared.Sort.{Sort}
+use Rattle.sorts.specs.declared.Sort.the-variants as S
 
 -- a value of a kind, or 4
 abbrev pub Fits : Kind → Answer Value → Type 0

@@ -14,8 +14,8 @@ use Rattle.operation.specs.Order.{orderIn}
 use Rattle.operation.specs.Casts.{castOf}
 use Rattle.arithmetic.specs.Sums.{plusOf, minusIn}
 use Rattle.arithmetic.specs.Products.{timesOf, maxFactor}
-use Rattle.results.specs.Sorts.{comparedKinds, addedKinds, lessKinds, sortCast, sortTimes}
-use Rattle.results.specs.declared.Sort.the-variants.{Clash, Of}
+use Rattle.sorts.specs.Sorts.{comparedKinds, addedKinds, lessKinds, sortCast, sortTimes}
+use Rattle.sorts.specs.declared.Sort.the-variants.{Clash, Of}
 
 abbrev pub Exactly : Type 0 → Type 0 → Type 0
 Exactly P Q = (P → Q) × (Q → P)

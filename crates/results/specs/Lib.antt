@@ -1,5 +1,3 @@
-pub mod Sorts
-pub mod Data
+pub mod Parts
 pub mod Fitting
 pub mod Numbers
-pub mod Givens

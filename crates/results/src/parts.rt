@@ -1,13 +1,11 @@
 // A part's sort and what it gives, together.
-use crate::Mode;
 use crate::Part;
-use crate::Sort;
-use crate::givens;
-use crate::sorts;
+use givens::Mode;
+use sorts::Sort;
 use value::Kind;
 use words::Op;
 ghost use mathlib.Core.Path.{_≡_};
-ghost use Rattle.results.specs.Givens as the;
+ghost use Rattle.results.specs.Parts as the;
 
 // A literal: the bytes of a condition's text between two places.
 pub fn literal(mode: Mode, kind: Kind, s: &[u8], from: usize, to: usize) -> Part

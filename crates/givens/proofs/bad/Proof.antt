@@ -1,0 +1,19 @@
+use Rattle.givens.proofs.GiveLaws.{bad-is, bad-refused}
+use borrow.Author.Needs.{needs}
+use Rattle.givens.proofs.bad.Statement.{statement}
+use Rattle.givens.proofs.bad.Tie as tie
+
+enum-told : tie.Need-enum-told
+enum-told c = search needs
+
+enum-known-a : tie.Need-enum-known-a
+enum-known-a c = search needs
+
+returns : tie.Need-returns
+returns c = search (bad-is, bad-refused)
+
+returns-2 : tie.Need-returns-2
+returns-2 c = search (bad-is, bad-refused)
+
+pub bad-spec : {M : Type 1} → statement M
+bad-spec = tie.close (tie.spec enum-told enum-known-a returns returns-2)

@@ -1,0 +1,30 @@
+use Rattle.givens.proofs.GiveLaws.{field-check, field-dead, field-live}
+use borrow.Author.Needs.{needs}
+use Rattle.givens.proofs.field.Statement.{statement}
+use Rattle.givens.proofs.field.Tie as tie
+
+enum-told : tie.Need-enum-told
+enum-told c = search needs
+
+enum-told-2 : tie.Need-enum-told-2
+enum-told-2 c = search needs
+
+read-field-requires : tie.Need-read-field-requires
+read-field-requires c κs = search needs
+
+enum-told-3 : tie.Need-enum-told-3
+enum-told-3 c = search needs
+
+returns : tie.Need-returns
+returns c = search (field-check, field-dead, field-live)
+
+returns-2 : tie.Need-returns-2
+returns-2 c = search (field-check, field-dead, field-live)
+
+returns-3 : tie.Need-returns-3
+returns-3 c = search (field-check, field-dead, field-live)
+
+pub field-spec : {M : Type 1} → statement M
+field-spec =
+    tie.close
+    (tie.spec enum-told enum-told-2 read-field-requires enum-told-3 returns returns-2 returns-3)

@@ -1,0 +1,57 @@
+use Rattle.givens.proofs.GiveLaws.{text-check, text-live, text-dead, read-on}
+use borrow.Author.Needs.{needs}
+use Rattle.givens.proofs.literal.Statement.{statement}
+use Rattle.givens.proofs.literal.Tie as tie
+
+enum-told : tie.Need-enum-told
+enum-told c = search needs
+
+cut-requires : tie.Need-cut-requires
+cut-requires c κs = search needs
+
+read-requires : tie.Need-read-requires
+read-requires c κs = search needs
+
+bad-requires : tie.Need-bad-requires
+bad-requires c κs = search needs
+
+enum-told-2 : tie.Need-enum-told-2
+enum-told-2 c = search needs
+
+cut-requires-2 : tie.Need-cut-requires-2
+cut-requires-2 c κs = search needs
+
+read-requires-2 : tie.Need-read-requires-2
+read-requires-2 c κs = search needs
+
+valued-requires : tie.Need-valued-requires
+valued-requires c κs = search needs
+
+enum-told-3 : tie.Need-enum-told-3
+enum-told-3 c = search needs
+
+returns : tie.Need-returns
+returns c = search (text-check, text-live, text-dead, read-on)
+
+returns-2 : tie.Need-returns-2
+returns-2 c = search (text-check, text-live, text-dead, read-on)
+
+returns-3 : tie.Need-returns-3
+returns-3 c = search (text-check, text-live, text-dead, read-on)
+
+pub literal-spec : {M : Type 1} → statement M
+literal-spec =
+    tie.close
+    (tie.spec
+    enum-told
+    cut-requires
+    read-requires
+    bad-requires
+    enum-told-2
+    cut-requires-2
+    read-requires-2
+    valued-requires
+    enum-told-3
+    returns
+    returns-2
+    returns-3)

@@ -1,0 +1,45 @@
+use Rattle.sorts.proofs.FitLaws.{added-left, added-right, added-moments, added-same, added-other}
+use borrow.Author.Needs.{needs}
+use Rattle.sorts.proofs.added.Statement.{statement}
+use Rattle.sorts.proofs.added.Tie as tie
+
+takes-requires : tie.Need-takes-requires
+takes-requires c κs = search needs
+
+returns : tie.Need-returns
+returns c = search (added-left, added-right, added-moments, added-same, added-other)
+
+takes-requires-2 : tie.Need-takes-requires-2
+takes-requires-2 c κs = search needs
+
+returns-2 : tie.Need-returns-2
+returns-2 c = search (added-left, added-right, added-moments, added-same, added-other)
+
+moment-requires : tie.Need-moment-requires
+moment-requires c κs = search needs
+
+returns-3 : tie.Need-returns-3
+returns-3 c = search (added-left, added-right, added-moments, added-same, added-other)
+
+same-kind-requires : tie.Need-same-kind-requires
+same-kind-requires c κs = search needs
+
+returns-4 : tie.Need-returns-4
+returns-4 c = search (added-left, added-right, added-moments, added-same, added-other)
+
+returns-5 : tie.Need-returns-5
+returns-5 c = search (added-left, added-right, added-moments, added-same, added-other)
+
+pub added-spec : {M : Type 1} → statement M
+added-spec =
+    tie.close
+    (tie.spec
+    takes-requires
+    returns
+    takes-requires-2
+    returns-2
+    moment-requires
+    returns-3
+    same-kind-requires
+    returns-4
+    returns-5)
