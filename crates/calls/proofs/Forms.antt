@@ -10,8 +10,8 @@ use borrow.Author.Tests.{le-leb, leb-true, leb-false, eq-eqb, ne-eqb}
 use Rattle.basis.specs.Choice.{pick, both}
 use Rattle.basis.proofs.Tests.{no, yes}
 use Rattle.timetable.specs.Fields.{fieldsOf, hasField, fieldAt}
-use Rattle.words.specs.Symbols.{named}
-use Rattle.words.specs.declared.Named.{Named}
+use Rattle.symbols.specs.Symbols.{named}
+use Rattle.symbols.specs.declared.Named.{Named}
 use Rattle.calls.specs.declared.One.{One}
 use Rattle.calls.specs.declared.Two.{Two}
 use Rattle.calls.specs.declared.Form.the-variants as F

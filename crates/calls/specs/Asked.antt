@@ -11,9 +11,9 @@ use Rattle.timetable.specs.Fields.{fieldsOf, fieldAt}
 use Rattle.numerals.specs.Reading.{at, run}
 use Rattle.arithmetic.specs.Products.{maxFactor}
 use Rattle.words.specs.Runs.{same}
-use Rattle.words.specs.Symbols.{named}
-use Rattle.words.specs.declared.Named.{Named}
-use Rattle.words.specs.declared.Named.the-variants as N
+use Rattle.symbols.specs.Symbols.{named}
+use Rattle.symbols.specs.declared.Named.{Named}
+use Rattle.symbols.specs.declared.Named.the-variants as N
 use Rattle.calls.specs.declared.One.{One}
 use Rattle.calls.specs.declared.One.the-variants as O
 use Rattle.calls.specs.declared.Two.{Two}

@@ -4,11 +4,11 @@ use crate::One;
 use crate::Two;
 use arithmetic::products::MAX_FACTOR;
 use numerals::byte;
+use symbols::Named;
+use symbols::kind_named;
 use timetable::fields::field;
 use timetable::fields::has_field;
-use words::Named;
-use words::runs::same;
-use words::symbols::named;
+use words::same;
 ghost use mathlib.Core.Path.{_≡_};
 ghost use Prim.Native.Nat.{_≤_, _<_, min};
 ghost use lib.ListN.{length};
@@ -71,7 +71,7 @@ fn one(line: &[u8], o: One) -> Form
     if !exactly(line, 3) {
         return Form::No;
     }
-    match named(field(line, 2)) {
+    match kind_named(field(line, 2)) {
         Named::No => Form::No,
         Named::Is(k) => Form::OfOne(o, k),
     }
@@ -83,9 +83,9 @@ fn two(line: &[u8], o: Two) -> Form
     if !exactly(line, 5) {
         return Form::No;
     }
-    match named(field(line, 2)) {
+    match kind_named(field(line, 2)) {
         Named::No => Form::No,
-        Named::Is(k) => match named(field(line, 4)) {
+        Named::Is(k) => match kind_named(field(line, 4)) {
             Named::No => Form::No,
             Named::Is(l) => Form::OfTwo(o, k, l),
         },
@@ -99,7 +99,7 @@ fn product(line: &[u8]) -> Form
         return Form::No;
     }
     let n = whole(field(line, 4));
-    match named(field(line, 2)) {
+    match kind_named(field(line, 2)) {
         Named::No => Form::No,
         Named::Is(k) => {
             if n.good {
@@ -116,9 +116,9 @@ fn cast(line: &[u8]) -> Form
     if !exactly(line, 4) {
         return Form::No;
     }
-    match named(field(line, 2)) {
+    match kind_named(field(line, 2)) {
         Named::No => Form::No,
-        Named::Is(k) => match named(field(line, 4)) {
+        Named::Is(k) => match kind_named(field(line, 4)) {
             Named::No => Form::No,
             Named::Is(l) => Form::Cast(k, l),
         },

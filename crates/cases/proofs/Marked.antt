@@ -31,7 +31,7 @@ use Rattle.operation.specs.Adjustment.{isZone, adjustedFrom, momentTo, operandT
 use Rattle.operation.specs.Order.{up, down, orderIn}
 use Rattle.arithmetic.specs.Sums.{sumOf, plusOf, lessMoment, differenceIn, minusIn}
 use Rattle.words.specs.Runs.{same}
-use Rattle.words.specs.Symbols.{named}
+use Rattle.symbols.specs.Symbols.{named}
 use Rattle.calls.specs.Answers.{oneText, twoText, textBy as textBy-of-calls, answerOf}
 use Rattle.calls.specs.Asked.{exactly, oneOf, twoOf, pairBy, formBy, formOf}
 use Rattle.calls.specs.Replies.{numberText, refusedText}

@@ -5,8 +5,9 @@ use Prim.Native.Nat.{ℕ}
 use Rattle.value.specs.declared.Kind.{Kind}
 use Rattle.timetable.specs.Fields.{fieldsOf, hasField, fieldAt}
 use Rattle.givens.specs.Data.{valued, readField, onto, joined, castDatum, timesDatum}
-use Rattle.reading.specs.Grammar.{Parsed, none, got}
-use Rattle.reading.specs.Trees.{Tree, leaf, one, two, literal, field, cast, times, parse, eval}
+use Rattle.grammar.specs.Grammar.{Parsed, none, got}
+use Rattle.grammar.specs.Trees.{Tree, leaf, one, two, literal, field, cast, times, parse}
+use Rattle.reading.specs.Meaning.{eval}
 use Rattle.condition.specs.Condition.{shown, ofTree, resultAt}
 use Rattle.condition.specs.Laws.{FieldsAlone}
 

@@ -11,13 +11,14 @@ use Rattle.basis.specs.Answer.{Answer, gives, refuses}
 use Rattle.value.specs.Refusals.{badCondition, tooDeep}
 use Rattle.text.specs.Reading.{readAs}
 use Rattle.words.specs.Runs.{between}
-use Rattle.words.specs.Depth.{deep}
+use Rattle.depth.specs.Depth.{deep}
 use Rattle.results.specs.Numbers.{ofText}
 use Rattle.sorts.specs.declared.Sort.{Sort}
 use Rattle.sorts.specs.declared.Sort.the-variants as S
 use Rattle.results.proofs.Numbers.{Only, read-only}
-use Rattle.reading.specs.Grammar.{Parsed, none, got}
-use Rattle.reading.specs.Trees.{Tree, leaf, one, two, literal, field, parse, sortOf, fits, first, firstBad}
+use Rattle.grammar.specs.Grammar.{Parsed, none, got}
+use Rattle.grammar.specs.Trees.{Tree, leaf, one, two, literal, field, parse}
+use Rattle.reading.specs.Meaning.{sortOf, fits, first, firstBad}
 use Rattle.condition.specs.Condition.{checkOf, byKinds, byTree, minLength, maxLength}
 use Rattle.condition.specs.Laws.{atOpen, OpenNumbers}
 

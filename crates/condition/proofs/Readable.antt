@@ -24,8 +24,8 @@ use Rattle.operation.specs.Casts.{castsTo, castOf}
 use Rattle.arithmetic.proofs.Validity.{plus-within, minus-within, times-within}
 use Rattle.operation.proofs.Validity.{cast-within}
 use Rattle.words.specs.Runs.{between}
-use Rattle.words.specs.declared.Op.{Op}
-use Rattle.words.specs.declared.Op.the-variants as O
+use Rattle.symbols.specs.declared.Op.{Op}
+use Rattle.symbols.specs.declared.Op.the-variants as O
 use Rattle.sorts.specs.Sorts.{comparedKinds, addedKinds, lessKinds, kindsOf, joins, sortTwo, sortCast, sortTimes}
 use Rattle.givens.specs.Data.{Datum, value, truth, valued, readField, tested, ofValues, applied, settles, onto, joined, castDatum, timesDatum}
 use Rattle.sorts.specs.declared.Sort.{Sort}
@@ -33,13 +33,14 @@ use Rattle.sorts.specs.declared.Sort.the-variants as S
 use Rattle.results.specs.Numbers.{atLine}
 use Rattle.results.proofs.Numbers.{Only, read-only, text-at-line}
 use Rattle.results.proofs.Settled.{Fits, FitsSort, plus-settled, minus-settled, order-settled, times-settled, cast-settled}
-use Rattle.reading.specs.Grammar.{Parsed, none, got}
-use Rattle.reading.specs.Trees.{Tree, leaf, one, two, literal, field, cast, times, parse, sortOf, eval}
+use Rattle.grammar.specs.Grammar.{Parsed, none, got}
+use Rattle.grammar.specs.Trees.{Tree, leaf, one, two, literal, field, cast, times, parse}
+use Rattle.reading.specs.Meaning.{sortOf, eval}
 use Rattle.condition.specs.Condition.{shown, ofTree, resultAt}
 pub use Rattle.condition.specs.Laws.{Readable}
 use Rattle.condition.specs.Laws.{AcceptedReadable}
 use Rattle.condition.proofs.Accepted.{Stated, accepted-stated}
-use Rattle.reading.proofs.Keeps.{All, Bounded, parse-bounded}
+use Rattle.grammar.proofs.Keeps.{All, Bounded, parse-bounded}
 
 -- what a part of a sort may give
 abbrev Typed : Sort → Answer Datum → Type 0

@@ -10,7 +10,7 @@ use Rattle.basis.specs.Choice.{pick, both}
 use Rattle.basis.specs.Answer.{Answer, gives, refuses}
 use Rattle.value.specs.Refusals.{badCondition, tooDeep, wrongKind}
 use Rattle.value.specs.declared.Refusal.{Refusal}
-use Rattle.words.specs.Depth.{deep}
+use Rattle.depth.specs.Depth.{deep}
 use Rattle.givens.specs.Data.{Datum, value, truth}
 use Rattle.givens.specs.Givens.{givenOf, badOf}
 use Rattle.sorts.specs.declared.Sort.{Sort}
@@ -21,8 +21,9 @@ use Rattle.value.specs.declared.Kind.{Kind}
 use Rattle.value.specs.declared.Value.{Value}
 use Rattle.results.specs.declared.Part.{Part}
 use Rattle.givens.specs.declared.Mode.the-variants.{Check, Live}
-use Rattle.reading.specs.Grammar.{Parsed, none, got}
-use Rattle.reading.specs.Trees.{Tree, parse, sortOf, first, firstBad, eval}
+use Rattle.grammar.specs.Grammar.{Parsed, none, got}
+use Rattle.grammar.specs.Trees.{Tree, parse}
+use Rattle.reading.specs.Meaning.{sortOf, first, firstBad, eval}
 use Rattle.reading.specs.Readers.{givenIn, partOf, readOf}
 use Rattle.reading.specs.declared.Read.{Read}
 use Rattle.reading.specs.declared.Read.the-variants.{Bad, Got}

@@ -8,12 +8,13 @@ use lib.Dec.{leb}
 use Rattle.basis.specs.Choice.{pick, both}
 use Rattle.basis.specs.Answer.{Answer, gives, refuses}
 use Rattle.value.specs.Refusals.{badCondition, tooDeep, wrongKind}
-use Rattle.words.specs.Depth.{deep}
+use Rattle.depth.specs.Depth.{deep}
 use Rattle.givens.specs.Data.{Datum, value, truth}
 use Rattle.sorts.specs.declared.Sort.{Sort}
 use Rattle.sorts.specs.declared.Sort.the-variants as S
-use Rattle.reading.specs.Grammar.{Parsed, none, got}
-use Rattle.reading.specs.Trees.{Tree, parse, sortOf, first, firstBad, eval}
+use Rattle.grammar.specs.Grammar.{Parsed, none, got}
+use Rattle.grammar.specs.Trees.{Tree, parse}
+use Rattle.reading.specs.Meaning.{sortOf, first, firstBad, eval}
 use Rattle.condition.specs.declared.Checked.{Checked}
 use Rattle.condition.specs.declared.Checked.the-variants as C
 use Rattle.condition.specs.declared.Judged.{Judged}

@@ -1,15 +1,13 @@
 // Conditions: which texts are accepted, and the result of a condition at a line (document 01, "Conditions").
-use givens::Given;
-use givens::Mode;
+use depth::too_deep;
 use reading::Read;
 use results::Part;
 use sorts::Sort;
 use value::Refusal;
-use words::depth::too_deep;
 ghost use mathlib.Core.Path.{_≡_};
 ghost use mathlib.Core.Bool.{true};
 ghost use Rattle.basis.specs.Answer.{gives, refuses};
-ghost use Rattle.reading.specs.Trees as trees;
+ghost use Rattle.reading.specs.Meaning as meaning;
 ghost use Rattle.condition.specs.Condition.{checked, checkOf, accepted, resultAt, resultOf, judged, byKinds};
 ghost use Rattle.condition.specs.Carried as the;
 
@@ -63,7 +61,7 @@ fn literals(given: Given) -> Checked
 
 // The first refusal of two.
 fn first(a: Checked, b: Checked) -> Checked
-    ensures { λ r. ⌜ checked r ≡ trees.first (checked a) (checked b) ⌝ }
+    ensures { λ r. ⌜ checked r ≡ meaning.first (checked a) (checked b) ⌝ }
 {
     match a {
         Checked::Accepted => b,
@@ -73,7 +71,7 @@ fn first(a: Checked, b: Checked) -> Checked
 
 // Kinds come before literals.
 fn check_part(part: Part) -> Checked
-    ensures { λ r. ⌜ checked r ≡ trees.first (byKinds (part .sort)) (the.literals (part .given)) ⌝ }
+    ensures { λ r. ⌜ checked r ≡ meaning.first (byKinds (part .sort)) (the.literals (part .given)) ⌝ }
 {
     let sort = part.sort;
     let given = part.given;

@@ -10,7 +10,7 @@ use lines::text::open_line;
 use lines::text::refused_line;
 use numerals::Text;
 use value::Refusal;
-use words::runs::cut;
+use words::cut;
 ghost use mathlib.Core.Path.{_≡_};
 ghost use Prim.Native.Nat.{_≤_};
 ghost use lib.ListN.{length};

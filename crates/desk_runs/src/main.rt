@@ -4,7 +4,7 @@ use libc::STDIN_FILENO;
 use libc::STDOUT_FILENO;
 use line_reader::read_line;
 use timetable::fields::field;
-use words::runs::cut;
+use words::cut;
 
 // Runs the program over the two files that a line names, below that line.
 fn run_case(line: &[u8]) {

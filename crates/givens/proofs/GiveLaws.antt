@@ -20,8 +20,8 @@ use Rattle.operation.specs.declared.Compared.{Compared}
 use Rattle.operation.specs.declared.Compared.the-variants as C
 use Rattle.timetable.specs.Fields.{fieldAt, hasField}
 use Rattle.text.specs.Reading.{readAs}
-use Rattle.words.specs.declared.Op.{Op}
-use Rattle.words.specs.declared.Op.the-variants as O
+use Rattle.symbols.specs.declared.Op.{Op}
+use Rattle.symbols.specs.declared.Op.the-variants as O
 use Rattle.sorts.specs.Sorts as sorts
 use Rattle.givens.specs.Data as its
 use Rattle.givens.specs.Givens as the

@@ -17,8 +17,8 @@ use Rattle.operation.specs.Order.{Order, less, equal, greater, orderIn}
 use Rattle.arithmetic.specs.Sums.{plusOf, minusIn}
 use Rattle.arithmetic.specs.Products.{timesOf}
 use Rattle.operation.specs.Casts.{castOf}
-use Rattle.words.specs.declared.Op.{Op}
-use Rattle.words.specs.declared.Op.the-variants as O
+use Rattle.symbols.specs.declared.Op.{Op}
+use Rattle.symbols.specs.declared.Op.the-variants as O
 use Rattle.sorts.specs.Sorts.{joins}
 
 pub data Datum : Type 0 where

@@ -8,7 +8,7 @@ use Rattle.basis.specs.Choice.{pick}
 use Rattle.basis.specs.Answer.{Answer, gives, refuses}
 use Rattle.value.specs.declared.Kind.{Kind}
 use Rattle.value.specs.declared.Value.{Value}
-use Rattle.words.specs.declared.Op.{Op}
+use Rattle.symbols.specs.declared.Op.{Op}
 use Rattle.givens.specs.Data.{Datum, value, truth, valued, applied, settles, castDatum, timesDatum}
 use Rattle.givens.specs.declared.Given.{Given}
 use Rattle.givens.specs.declared.Given.the-variants.{Nothing, Is, Truth, Refused}

@@ -1,5 +1,5 @@
 // The words of a script's events, and the names of the numbers that it sets.
-use words::runs::same;
+use words::same;
 ghost use mathlib.Core.Path.{_≡_};
 ghost use Rattle.hostile.specs.Names as the;
 

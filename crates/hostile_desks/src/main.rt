@@ -12,7 +12,7 @@ use line_reader::read_line;
 use telling::tell_no_event;
 use timetable::fields::field;
 use timetable::fields::has_field;
-use words::runs::same;
+use words::same;
 ghost use Prim.Native.Nat.{_≤_};
 ghost use lib.ListN.{length};
 ghost use Rattle.io.specs.Counts.{Counts};

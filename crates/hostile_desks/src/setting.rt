@@ -12,7 +12,7 @@ use libc::STDOUT_FILENO;
 use seat::Seat;
 use timetable::fields::field;
 use timetable::fields::has_field;
-use words::runs::same;
+use words::same;
 ghost use Prim.Native.Nat.{_<_};
 ghost use Rattle.desk.specs.Bounds.{seatCount};
 

@@ -8,7 +8,7 @@ use Rattle.basis.specs.Choice.{pick}
 use Rattle.basis.specs.Answer.{Answer, gives, refuses}
 use Rattle.value.specs.declared.Kind.{Kind}
 use Rattle.value.specs.declared.Value.{Value}
-use Rattle.words.specs.declared.Op.{Op}
+use Rattle.symbols.specs.declared.Op.{Op}
 use Rattle.text.specs.Reading.{readAs}
 use Rattle.words.specs.Runs.{between}
 use Rattle.givens.specs.Data.{Datum, value, truth, valued, readField, applied, settles, settled, onto, joined, castDatum, timesDatum}
@@ -20,9 +20,10 @@ use Rattle.givens.specs.declared.Given.the-variants as G
 use Rattle.results.specs.declared.Part.{Part}
 use Rattle.givens.specs.declared.Mode.{Mode}
 use Rattle.givens.specs.declared.Mode.the-variants.{Check, Live, Dead}
-use Rattle.reading.specs.Trees.{Tree, leaf, one, two, literal, field, cast, times, sortOf, fits, first, firstBad, eval}
+use Rattle.grammar.specs.Trees.{Tree, leaf, one, two, literal, field, cast, times}
+use Rattle.reading.specs.Meaning.{sortOf, fits, first, firstBad, eval}
 use Rattle.reading.specs.Readers.{parts, givenIn, partOf}
-use Rattle.reading.proofs.Folds.{Meets}
+use Rattle.grammar.proofs.Folds.{Meets}
 
 with-given : (x : Sort) (g h : Given) → g ≡ h → _≡_ {A = Part} (record { sort = x; given = g }) (record { sort = x; given = h })
 with-given x g h e = ap (λ y. record { sort = x; given = y }) e

@@ -8,22 +8,22 @@ use borrow.Author.Tests.{ltb-true}
 use Prim.Native.Nat.{ℕ, _+_, _-_, _*_, _<_, _≤_}
 use native.Mathlib.Omega.{arith}
 use Rattle.value.specs.declared.Kind.{Kind}
-use Rattle.words.specs.Symbols.{orAt, andAt, comparisonAt, signAt, startAt, multiplierAt}
-use Rattle.words.proofs.Ends.{Past, PastJoint, PastStart, PastMultiplier, or-past, and-past, comparison-past, sign-past, start-past, multiplier-past}
-use Rattle.words.specs.declared.Op.{Op}
-use Rattle.words.specs.declared.Joint.{Joint}
-use Rattle.words.specs.declared.Joint.the-variants as J
-use Rattle.words.specs.declared.Start.{Start}
-use Rattle.words.specs.declared.Start.the-variants as S
-use Rattle.words.specs.declared.Multiplier.{Multiplier}
-use Rattle.words.specs.declared.Multiplier.the-variants as T
+use Rattle.symbols.specs.Symbols.{orAt, andAt, comparisonAt, signAt, startAt, multiplierAt}
+use Rattle.grammar.proofs.Ends.{Past, PastJoint, PastStart, PastMultiplier, or-past, and-past, comparison-past, sign-past, start-past, multiplier-past}
+use Rattle.symbols.specs.declared.Op.{Op}
+use Rattle.symbols.specs.declared.Joint.{Joint}
+use Rattle.symbols.specs.declared.Joint.the-variants as J
+use Rattle.symbols.specs.declared.Start.{Start}
+use Rattle.symbols.specs.declared.Start.the-variants as S
+use Rattle.symbols.specs.declared.Multiplier.{Multiplier}
+use Rattle.symbols.specs.declared.Multiplier.the-variants as T
 use Rattle.results.specs.declared.Part.{Part}
 use Rattle.givens.specs.declared.Mode.{Mode}
-use Rattle.reading.specs.Grammar.{Parsed, none, got}
+use Rattle.grammar.specs.Grammar.{Parsed, none, got}
 use Rattle.reading.specs.Readers.{told, parts, inside, clauseRead, testRead, sumRead, termRead, factorRead}
 use Rattle.reading.specs.declared.Read.{Read}
 use Rattle.reading.specs.declared.Read.the-variants.{Bad, Got}
-use Rattle.reading.proofs.Good.{Good, inner-good, clause-good, test-good, sum-good, term-good}
+use Rattle.grammar.proofs.Good.{Good, inner-good, clause-good, test-good, sum-good, term-good}
 
 -- the text that is left, then the rank: ranks order the calls at one place
 abbrev pub measure : List ℕ → ℕ → ℕ → ℕ

@@ -4,19 +4,19 @@ use mathlib.Core.Bool.{Bool}
 use mathlib.Core.List.{List}
 use Prim.Native.Nat.{ℕ}
 use Rattle.value.specs.declared.Kind.{Kind}
-use Rattle.words.specs.declared.Op.{Op}
-use Rattle.words.specs.declared.Joint.{Joint}
-use Rattle.words.specs.declared.Joint.the-variants as J
-use Rattle.words.specs.declared.Mark.{Mark}
-use Rattle.words.specs.declared.Mark.the-variants as M
-use Rattle.words.specs.declared.Start.{Start}
-use Rattle.words.specs.declared.Start.the-variants as S
-use Rattle.words.specs.declared.Held.{Held}
-use Rattle.words.specs.declared.Held.the-variants as H
-use Rattle.words.specs.declared.Multiplier.{Multiplier}
-use Rattle.words.specs.declared.Multiplier.the-variants as T
+use Rattle.symbols.specs.declared.Op.{Op}
+use Rattle.symbols.specs.declared.Joint.{Joint}
+use Rattle.symbols.specs.declared.Joint.the-variants as J
+use Rattle.symbols.specs.declared.Mark.{Mark}
+use Rattle.symbols.specs.declared.Mark.the-variants as M
+use Rattle.symbols.specs.declared.Start.{Start}
+use Rattle.symbols.specs.declared.Start.the-variants as S
+use Rattle.symbols.specs.declared.Held.{Held}
+use Rattle.symbols.specs.declared.Held.the-variants as H
+use Rattle.symbols.specs.declared.Multiplier.{Multiplier}
+use Rattle.symbols.specs.declared.Multiplier.the-variants as T
 use Rattle.results.specs.declared.Part.{Part}
-use Rattle.reading.specs.Grammar.{Parsed, none, got, then, marked, operated, scaled, started, holding}
+use Rattle.grammar.specs.Grammar.{Parsed, none, got, then, marked, operated, scaled, started, holding}
 use Rattle.reading.specs.Readers.{told}
 use Rattle.reading.specs.declared.Read.{Read}
 use Rattle.reading.specs.declared.Read.the-variants.{Bad, Got}

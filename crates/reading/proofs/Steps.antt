@@ -5,15 +5,15 @@ use mathlib.Core.List.{List, []}
 use Prim.Native.Nat.{ℕ, zero, suc, _-_}
 use native.Mathlib.Omega.{arith}
 use Rattle.value.specs.declared.Kind.{Kind}
-use Rattle.words.specs.Symbols.{orAt, andAt, comparisonAt, signAt, startAt, heldAt, multiplierAt, closingAt}
-use Rattle.results.specs.Parts.{literalPart, fieldPart, castPart, timesPart, twoPart, afterPart}
+use Rattle.symbols.specs.Symbols.{orAt, andAt, comparisonAt, signAt, startAt, heldAt, multiplierAt, closingAt}
+use Rattle.givens.specs.Givens.{literalPart, fieldPart, castPart, timesPart, twoPart, afterPart}
 use Rattle.results.specs.declared.Part.{Part}
 use Rattle.givens.specs.declared.Mode.{Mode}
-use Rattle.reading.specs.Grammar.{closedAt, inner, conditionIn, conditionMoreIn, clauseIn, clauseMoreIn, testIn, sumIn, sumMoreIn, termIn, termMoreIn, factorIn, heldIn}
+use Rattle.grammar.specs.Grammar.{closedAt, inner, conditionIn, conditionMoreIn, clauseIn, clauseMoreIn, testIn, sumIn, sumMoreIn, termIn, termMoreIn, factorIn, heldIn}
 use Rattle.reading.specs.Readers.{told, parts, inside, closedRead, termMoreRead, conditionRead, conditionMoreRead, clauseRead, clauseMoreRead, testRead, sumRead, sumMoreRead, termRead, factorRead, heldRead}
 use Rattle.reading.specs.declared.Read.{Read}
 use Rattle.reading.specs.declared.Read.the-variants.{Bad, Got}
-use Rattle.reading.proofs.Good.{inner-good, term-more-unfolds, sum-more-unfolds, clause-more-unfolds, condition-more-unfolds}
+use Rattle.grammar.proofs.Good.{inner-good, term-more-unfolds, sum-more-unfolds, clause-more-unfolds, condition-more-unfolds}
 use Rattle.reading.proofs.Rules.{andThen, ifMark, ifJoint, ifMultiplier, byStart, byHeld, told-then, told-operated, told-scaled, tells, if-bad, if-got, mark-no, mark-at, joint-no, joint-at, multiplier-no, multiplier-bad, multiplier-at, start-no, start-open, start-make, held-text, held-field, held-bad, held-sum, got-is}
 
 -- arguments that the code has by name

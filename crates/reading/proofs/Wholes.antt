@@ -6,15 +6,15 @@ use native.Mathlib.Omega.{arith}
 use lib.ListN.{length}
 use borrow.Author.Tests.{le-leb, lt-leb}
 use Rattle.words.specs.Runs.{skipped}
-use Rattle.words.specs.Depth.{maxDepth}
+use Rattle.depth.specs.Depth.{maxDepth}
 use Rattle.results.specs.declared.Part.{Part}
 use Rattle.givens.specs.declared.Mode.{Mode}
-use Rattle.reading.specs.Grammar.{Parsed, none, got, condition}
-use Rattle.reading.specs.Trees.{Tree, trees, whole, parse}
+use Rattle.grammar.specs.Grammar.{Parsed, none, got, condition}
+use Rattle.grammar.specs.Trees.{Tree, trees, whole, parse}
 use Rattle.reading.specs.Readers.{told, parts, conditionRead, partOf, readOf}
 use Rattle.reading.specs.declared.Read.{Read}
 use Rattle.reading.specs.declared.Read.the-variants.{Bad, Got}
-use Rattle.reading.proofs.Folds.{each, grammar-folds}
+use Rattle.grammar.proofs.Folds.{each, grammar-folds}
 use Rattle.reading.proofs.Carried.{code-meets}
 
 pub no-part : {A : Type 0} (v : Part) (n : ℕ) → Bad ≡ Got v n → A

@@ -1,3 +1,2 @@
-pub mod Grammar
-pub mod Trees
+pub mod Meaning
 pub mod Readers

@@ -1,5 +1,5 @@
 -- What the code's readers give: the grammar at the parts that the code carries. No contract of a public call of `condition` rests on
--- this file, but on the tree that a text states (Trees.antt): `readOf` says what the reader of a whole text gives of that tree.
+-- this file, but on the tree that a text states (Trees.antt of the crate grammar): `readOf` says what the reader of a whole text gives of that tree.
 use Prim.Native.Nat.{ℕ}
 use mathlib.Core.List.{List, []}
 use Rattle.value.specs.declared.Kind.{Kind}
@@ -10,8 +10,9 @@ use Rattle.givens.specs.declared.Given.the-variants as G
 use Rattle.results.specs.declared.Part.{Part}
 use Rattle.givens.specs.declared.Mode.{Mode}
 use Rattle.givens.specs.declared.Mode.the-variants as M
-use Rattle.reading.specs.Grammar.{Parsed, none, got, Parts, Inside, closedAt, inner, conditionIn, conditionMoreIn, clauseIn, clauseMoreIn, testIn, sumIn, sumMoreIn, termIn, termMoreIn, factorIn, heldIn}
-use Rattle.reading.specs.Trees.{Tree, sortOf, firstBad, eval}
+use Rattle.grammar.specs.Grammar.{Parsed, none, got, Parts, Inside, closedAt, inner, conditionIn, conditionMoreIn, clauseIn, clauseMoreIn, testIn, sumIn, sumMoreIn, termIn, termMoreIn, factorIn, heldIn}
+use Rattle.grammar.specs.Trees.{Tree}
+use Rattle.reading.specs.Meaning.{sortOf, firstBad, eval}
 use Rattle.reading.specs.declared.Read.{Read}
 use Rattle.reading.specs.declared.Read.the-variants.{Bad, Got}
 

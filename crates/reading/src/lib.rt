@@ -1,6 +1,7 @@
 // The readers of a condition, straight on its text: each reads its part from a place on and gives what it carries and where
 // it ends. A factor may hold a whole condition again, so they call one another in a cycle; at each turn of it text has been
 // read or fewer parentheses may be opened (document 01, "Conditions").
+use depth::MAX_DEPTH;
 use givens::Mode;
 use results::Part;
 use results::parts::after;
@@ -9,17 +10,15 @@ use results::parts::field;
 use results::parts::literal;
 use results::parts::times;
 use results::parts::two;
+use symbols::Held;
+use symbols::Joint;
+use symbols::Mark;
+use symbols::Multiplier;
+use symbols::Start;
 use value::Kind;
-use words::Held;
-use words::Joint;
-use words::Mark;
-use words::Multiplier;
-use words::Start;
-use words::depth::MAX_DEPTH;
-use words::runs::skip;
-use words::symbols;
+use words::skip;
 ghost use mathlib.Core.Path.{_≡_};
-ghost use Rattle.reading.specs.Trees.{parse};
+ghost use Rattle.grammar.specs.Trees.{parse};
 ghost use Rattle.reading.specs.Readers as the;
 
 // What was read, and where its text ends.
@@ -128,7 +127,7 @@ fn term(s: &[u8], line: &[u8], at: usize, depth: usize, mode: Mode) -> Read
 fn term_more(s: &[u8], at: usize, left: Part) -> Read
     ensures { λ r. ⌜ r ≡ the.termMoreRead (now (s .entry)) at left ⌝ }
 {
-    match symbols::multiplier(s, at) {
+    match symbols::star(s, at) {
         Multiplier::No => Read::Got(left, at),
         Multiplier::Bad => Read::Bad,
         Multiplier::At(negative, number, _, n) => term_more(s, n, times(negative, number, left)),
@@ -138,7 +137,7 @@ fn term_more(s: &[u8], at: usize, left: Part) -> Read
 fn factor(s: &[u8], line: &[u8], at: usize, depth: usize, mode: Mode) -> Read
     ensures { λ r. ⌜ r ≡ the.factorRead depth (now (s .entry)) (now (line .entry)) at mode ⌝ }
 {
-    match symbols::start(s, at) {
+    match symbols::factor_start(s, at) {
         Start::No => Read::Bad,
         Start::Open(n) => {
             if depth == 0 {
@@ -162,7 +161,7 @@ fn factor(s: &[u8], line: &[u8], at: usize, depth: usize, mode: Mode) -> Read
 fn held(s: &[u8], line: &[u8], at: usize, kind: Kind, depth: usize, mode: Mode) -> Read
     ensures { λ r. ⌜ r ≡ the.heldRead depth (now (s .entry)) (now (line .entry)) kind at mode ⌝ }
 {
-    match symbols::held(s, at) {
+    match symbols::contents(s, at) {
         Held::Text(from, to, n) => closed(s, n, literal(mode, kind, s, from, to)),
         Held::Field(number, _, n) => closed(s, n, field(mode, kind, line, number)),
         Held::Bad => Read::Bad,

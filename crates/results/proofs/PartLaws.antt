@@ -6,7 +6,7 @@ use Prim.Native.Nat.{ℕ}
 use Rattle.value.specs.declared.Kind.{Kind}
 use Rattle.text.specs.Reading.{readAs}
 use Rattle.words.specs.Runs.{between}
-use Rattle.words.specs.declared.Op.{Op}
+use Rattle.symbols.specs.declared.Op.{Op}
 use Rattle.sorts.specs.Sorts as sorts
 use Rattle.givens.specs.Data as its
 use Rattle.givens.specs.Givens as the

@@ -7,7 +7,7 @@ use Prim.Native.Nat.{ℕ}
 use Rattle.value.specs.declared.Kind.{Kind}
 use Rattle.text.specs.Reading.{readAs}
 use Rattle.words.specs.Runs.{between}
-use Rattle.words.specs.declared.Op.{Op}
+use Rattle.symbols.specs.declared.Op.{Op}
 use Rattle.sorts.specs.Sorts.{sortTwo, sortCast, sortTimes}
 use Rattle.sorts.specs.declared.Sort.the-variants.{Of}
 use Rattle.givens.specs.Data.{readField}

@@ -3,7 +3,6 @@ use crate::Part;
 use givens::Mode;
 use sorts::Sort;
 use value::Kind;
-use words::Op;
 ghost use mathlib.Core.Path.{_≡_};
 ghost use Rattle.results.specs.Parts as the;
 

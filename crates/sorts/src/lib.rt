@@ -1,10 +1,10 @@
 // What the text alone settles of a condition's parts: which kinds fit each operation (document 01, "Conditions").
 use operation::casting::casts_to;
 use shifting::operands::same_kind;
+use symbols::Op;
 use value::Kind;
 use value::kinds::has_date;
 use value::kinds::has_time;
-use words::Op;
 ghost use mathlib.Core.Path.{_≡_};
 ghost use Rattle.sorts.specs.Sorts as the;
 

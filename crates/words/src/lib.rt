@@ -1,9 +1,8 @@
-// The words and symbols of a condition's text, and how deep its parentheses go (document 01, "Conditions").
-use value::Kind;
-
-pub mod depth; // depth.rt: whether the parentheses go too deep
-pub mod runs; // runs.rt: longest runs of bytes, and words
-pub mod symbols; // symbols.rt: the symbol at a place
+// Longest runs of bytes in a condition's text, words among them, and bytes cut out of a text (document 01, "Conditions").
+ghost use mathlib.Core.Path.{_≡_};
+ghost use Prim.Native.Nat.{_≤_};
+ghost use lib.ListN.{length};
+ghost use Rattle.words.specs.Runs as the;
 
 // What a run is made of: spaces, letters of a word, bytes other than the quote.
 pub enum Class {
@@ -12,59 +11,98 @@ pub enum Class {
     Unquoted,
 }
 
-// An operator between two parts.
-pub enum Op {
-    Or,
-    And,
-    Eq,
-    Ne,
-    Lt,
-    Le,
-    Gt,
-    Ge,
-    Plus,
-    Minus,
+// ASCII letters, and the colon.
+fn letter(b: u8) -> bool
+    ensures { λ r. ⌜ r ≡ the.letter b ⌝ }
+{
+    if b == b':' {
+        return true;
+    }
+    if b'a' <= b {
+        return b <= b'z';
+    }
+    if b'A' <= b {
+        return b <= b'Z';
+    }
+    false
 }
 
-// The operator that stands there, the place of its first byte and the place after it.
-pub enum Joint {
-    No,
-    At(Op, usize, usize),
+// Whether a byte is of a class.
+fn belongs(class: Class, b: u8) -> bool
+    ensures { λ r. ⌜ r ≡ the.belongs class b ⌝ }
+{
+    match class {
+        Class::Space => b == b' ',
+        Class::Letter => letter(b),
+        Class::Unquoted => b != b'"',
+    }
 }
 
-// The place after a byte that was looked for.
-pub enum Mark {
-    No,
-    At(usize),
+// Where the longest run of bytes of a class ends that begins at a place.
+pub fn run_end(class: Class, s: &[u8], at: usize) -> usize
+    ensures { λ r. ⌜ r ≡ the.runEnd class (now (s .entry)) at ⌝ }
+{
+    let mut p = at;
+    while p < s.len() {
+        if !belongs(class, s[p]) {
+            return p;
+        }
+        p += 1;
+    }
+    p
 }
 
-// The kind that a word names.
-pub enum Named {
-    No,
-    Is(Kind),
+// The first place from `at` on that holds no space.
+pub fn skip(s: &[u8], at: usize) -> usize
+    ensures { λ r. ⌜ r ≡ the.skipped (now (s .entry)) at ⌝ }
+{
+    run_end(Class::Space, s, at)
 }
 
-// How a factor begins: a parenthesis, or a kind's name, at a place, and a parenthesis. The last number is the place after it.
-pub enum Start {
-    No,
-    Open(usize),
-    Make(Kind, usize, usize),
+// The bytes between two places, as far as the text goes.
+pub fn cut(s: &[u8], from: usize, to: usize) -> &[u8]
+    ensures { λ r. ⌜ now r ≡ the.between (now (s .entry)) from to ⌝ }
+{
+    if s.len() < to {
+        return cut_within(s, from, s.len());
+    }
+    cut_within(s, from, to)
 }
 
-// What stands in a constructor's parentheses. Text: a text in quotes, by the places between which its bytes stand. Field: a
-// field, by its number and the place of its `$`. Bad: a quote or a `$` with which no such text or field begins. Sum: anything
-// else, which is then read as a sum. The last number is the place after it.
-pub enum Held {
-    Text(usize, usize, usize),
-    Field(usize, usize, usize),
-    Bad,
-    Sum,
+fn cut_within(s: &[u8], from: usize, to: usize) -> &[u8]
+    requires { ⌜ to ≤ length (now s) ⌝ }
+    ensures { λ r. ⌜ now r ≡ the.between (now (s .entry)) from to ⌝ }
+{
+    if to <= from {
+        return &s[0..0];
+    }
+    &s[from..to]
 }
 
-// A `*` and the whole number after it: whether that is negative, what its digits say, its place and the place after it. Bad is a
-// `*` without a whole number.
-pub enum Multiplier {
-    No,
-    Bad,
-    At(bool, u32, usize, usize),
+// The word at a place: empty where no letter stands there.
+pub fn word(s: &[u8], at: usize) -> &[u8]
+    ensures { λ r. ⌜ now r ≡ the.wordAt (now (s .entry)) at ⌝ }
+{
+    if s.len() <= at {
+        return &s[0..0];
+    }
+    let end = run_end(Class::Letter, s, at);
+    &s[at..end]
+}
+
+// Whether two words are the same.
+pub fn same(a: &[u8], b: &[u8]) -> bool
+    ensures { λ r. ⌜ r ≡ the.same (now (a .entry)) (now (b .entry)) ⌝ }
+{
+    if a.len() != b.len() {
+        return false;
+    }
+    let mut i = 0;
+    while i < a.len() {
+        if a[i] != b[i] {
+            return false;
+        }
+        i += 1;
+    }
+    true
 }

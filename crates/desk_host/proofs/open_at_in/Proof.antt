@@ -57,10 +57,10 @@ use Rattle.line_reader.proofs.read_line as read
 use Rattle.line_reader.proofs.read_line.Symbol as read-def
 use Rattle.line_reader.proofs.read_line.Symbol.{name as #read-line}
 use Rattle.line_reader.proofs.read_line.Met as read-thm
-use Rattle.words.proofs.runs.cut as cut
-use Rattle.words.proofs.runs.cut.Symbol as cut-def
-use Rattle.words.proofs.runs.cut.Symbol.{name as #cut}
-use Rattle.words.proofs.runs.cut.Met as cut-thm
+use Rattle.words.proofs.cut as cut
+use Rattle.words.proofs.cut.Symbol as cut-def
+use Rattle.words.proofs.cut.Symbol.{name as #cut}
+use Rattle.words.proofs.cut.Met as cut-thm
 use Rattle.desk_in_place.proofs.open_in as opens
 use Rattle.desk_in_place.proofs.open_in.Symbol as opens-def
 use Rattle.desk_in_place.proofs.open_in.Symbol.{name as #open-in}

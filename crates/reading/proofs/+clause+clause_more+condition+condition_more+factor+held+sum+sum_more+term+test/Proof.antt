@@ -41,12 +41,12 @@ use Rattle.results.proofs.parts.cast.Reads as cast-reads
 use Rattle.results.proofs.parts.field.Reads as field-reads
 use Rattle.results.proofs.parts.literal.Reads as literal-reads
 use Rattle.results.proofs.parts.two.Reads as two-reads
-use Rattle.words.proofs.symbols.and.Reads as and-reads
-use Rattle.words.proofs.symbols.comparison.Reads as comparison-reads
-use Rattle.words.proofs.symbols.held.Reads as held-reads
-use Rattle.words.proofs.symbols.or.Reads as or-reads
-use Rattle.words.proofs.symbols.sign.Reads as sign-reads
-use Rattle.words.proofs.symbols.start.Reads as start-reads
+use Rattle.symbols.proofs.and.Reads as and-reads
+use Rattle.symbols.proofs.comparison.Reads as comparison-reads
+use Rattle.symbols.proofs.contents.Reads as held-reads
+use Rattle.symbols.proofs.or.Reads as or-reads
+use Rattle.symbols.proofs.sign.Reads as sign-reads
+use Rattle.symbols.proofs.factor_start.Reads as start-reads
 use Rattle.reading.proofs.+clause+clause_more+condition+condition_more+factor+held+sum+sum_more+term+test.{
   statement,
 }

@@ -9,7 +9,7 @@ use Rattle.reading.proofs.term_more.Reads as term-more
 use Rattle.reading.proofs.term_more.Kinds as term-more-kinds
 use Rattle.reading.proofs.+term_more.Lts-term_more as term-more-lts
 use Rattle.results.proofs.parts.times.Reads as times-reads
-use Rattle.words.proofs.symbols.multiplier.Reads as multiplier-reads
+use Rattle.symbols.proofs.star.Reads as star-reads
 use Rattle.reading.proofs.+term_more.{statement}
 use Rattle.reading.proofs.+term_more.Tie.{close}
 
@@ -23,19 +23,19 @@ abbrev term-more-below : ℕ → In 1 term-more-kinds.ps
 term-more-below t =
     and 1 term-more-kinds.ps (falls 1 term-more-kinds.ps _<_ μ-term-more t) term-more.Pre
 
-term-more-multiplier-requires : (t : ℕ) → term-more-lts.Need-multiplier-requires (
-  multiplier-reads.Asked,
-  multiplier-reads.Learnt,
+term-more-star-requires : (t : ℕ) → term-more-lts.Need-star-requires (
+  star-reads.Asked,
+  star-reads.Learnt,
   times-reads.Asked,
   times-reads.Learnt,
   term-more-below t,
   term-more.Post,
 ) (term-more-at t) term-more.Post
-term-more-multiplier-requires t c κs = search needs
+term-more-star-requires t c κs = search needs
 
 term-more-enum-told : (t : ℕ) → term-more-lts.Need-enum-told (
-  multiplier-reads.Asked,
-  multiplier-reads.Learnt,
+  star-reads.Asked,
+  star-reads.Learnt,
   times-reads.Asked,
   times-reads.Learnt,
   term-more-below t,
@@ -44,8 +44,8 @@ term-more-enum-told : (t : ℕ) → term-more-lts.Need-enum-told (
 term-more-enum-told t c = search needs
 
 term-more-enum-told-2 : (t : ℕ) → term-more-lts.Need-enum-told-2 (
-  multiplier-reads.Asked,
-  multiplier-reads.Learnt,
+  star-reads.Asked,
+  star-reads.Learnt,
   times-reads.Asked,
   times-reads.Learnt,
   term-more-below t,
@@ -54,8 +54,8 @@ term-more-enum-told-2 : (t : ℕ) → term-more-lts.Need-enum-told-2 (
 term-more-enum-told-2 t c = search needs
 
 term-more-enum-known-negative : (t : ℕ) → term-more-lts.Need-enum-known-negative (
-  multiplier-reads.Asked,
-  multiplier-reads.Learnt,
+  star-reads.Asked,
+  star-reads.Learnt,
   times-reads.Asked,
   times-reads.Learnt,
   term-more-below t,
@@ -64,8 +64,8 @@ term-more-enum-known-negative : (t : ℕ) → term-more-lts.Need-enum-known-nega
 term-more-enum-known-negative t c = search needs
 
 term-more-times-requires : (t : ℕ) → term-more-lts.Need-times-requires (
-  multiplier-reads.Asked,
-  multiplier-reads.Learnt,
+  star-reads.Asked,
+  star-reads.Learnt,
   times-reads.Asked,
   times-reads.Learnt,
   term-more-below t,
@@ -74,8 +74,8 @@ term-more-times-requires : (t : ℕ) → term-more-lts.Need-times-requires (
 term-more-times-requires t c κs = search needs
 
 term-more-term-more-requires : (t : ℕ) → term-more-lts.Need-term-more-requires (
-  multiplier-reads.Asked,
-  multiplier-reads.Learnt,
+  star-reads.Asked,
+  star-reads.Learnt,
   times-reads.Asked,
   times-reads.Learnt,
   term-more-below t,
@@ -84,8 +84,8 @@ term-more-term-more-requires : (t : ℕ) → term-more-lts.Need-term-more-requir
 term-more-term-more-requires t c κs = search falls-star
 
 term-more-returns : (t : ℕ) → term-more-lts.Need-returns (
-  multiplier-reads.Asked,
-  multiplier-reads.Learnt,
+  star-reads.Asked,
+  star-reads.Learnt,
   times-reads.Asked,
   times-reads.Learnt,
   term-more-below t,
@@ -94,8 +94,8 @@ term-more-returns : (t : ℕ) → term-more-lts.Need-returns (
 term-more-returns t c = search (term-more-by, ways) depth 9
 
 term-more-returns-2 : (t : ℕ) → term-more-lts.Need-returns-2 (
-  multiplier-reads.Asked,
-  multiplier-reads.Learnt,
+  star-reads.Asked,
+  star-reads.Learnt,
   times-reads.Asked,
   times-reads.Learnt,
   term-more-below t,
@@ -104,8 +104,8 @@ term-more-returns-2 : (t : ℕ) → term-more-lts.Need-returns-2 (
 term-more-returns-2 t c = search (term-more-by, ways) depth 9
 
 term-more-returns-3 : (t : ℕ) → term-more-lts.Need-returns-3 (
-  multiplier-reads.Asked,
-  multiplier-reads.Learnt,
+  star-reads.Asked,
+  star-reads.Learnt,
   times-reads.Asked,
   times-reads.Learnt,
   term-more-below t,
@@ -115,8 +115,8 @@ term-more-returns-3 t c = search (term-more-by, ways) depth 9
 
 pub +term-more-spec : {M : Type 1} → statement M
 +term-more-spec = close μ-term-more λ t. term-more-lts.spec (
-  multiplier-reads.Asked,
-  multiplier-reads.Learnt,
+  star-reads.Asked,
+  star-reads.Learnt,
   times-reads.Asked,
   times-reads.Learnt,
   term-more-below t,
@@ -124,7 +124,7 @@ pub +term-more-spec : {M : Type 1} → statement M
 )
     (term-more-at t)
     term-more.Post
-    (term-more-multiplier-requires t)
+    (term-more-star-requires t)
     (term-more-enum-told t)
     (term-more-enum-told-2 t)
     (term-more-enum-known-negative t)

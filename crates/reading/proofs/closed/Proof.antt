@@ -4,7 +4,7 @@ use Rattle.reading.proofs.closed.Statement.{statement}
 use Rattle.reading.proofs.closed.Tie as tie
 use Rattle.reading.proofs.closed.Reads as reads
 use Rattle.reading.proofs.closed.Lts as lts
-use Rattle.words.proofs.symbols.closing.Reads as closing-reads
+use Rattle.symbols.proofs.closing.Reads as closing-reads
 
 closing-requires : tie.Need-closing-requires
 closing-requires c κs = search needs

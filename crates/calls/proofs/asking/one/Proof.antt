@@ -12,8 +12,8 @@ returns c = no-one (c .before .before .before .args .line .now) (c .before .befo
 field-requires : tie.Need-field-requires
 field-requires c κs = search needs
 
-named-requires : tie.Need-named-requires
-named-requires c κs = search needs
+kind-named-requires : tie.Need-kind-named-requires
+kind-named-requires c κs = search needs
 
 enum-told : tie.Need-enum-told
 enum-told c = search needs
@@ -22,10 +22,10 @@ enum-known-k : tie.Need-enum-known-k
 enum-known-k c = search needs
 
 returns-2 : tie.Need-returns-2
-returns-2 c = is-one (c .before .before .before .before .before .before .before .args .line .now) (c .before .before .before .before .before .before .before .args .o) (c .before .before .before .before .before .exactly .ensures) (c .before .before .before .before .if1 .left) (names (c .before .before .before .before .before .before .before .args .line .now) 2 (c .before .before .before .field .ensures) (c .before .before .named .ensures) (c .enum-told .given .1))
+returns-2 c = is-one (c .before .before .before .before .before .before .before .args .line .now) (c .before .before .before .before .before .before .before .args .o) (c .before .before .before .before .before .exactly .ensures) (c .before .before .before .before .if1 .left) (names (c .before .before .before .before .before .before .before .args .line .now) 2 (c .before .before .before .field .ensures) (c .before .before .kind-named .ensures) (c .enum-told .given .1))
 
 returns-3 : tie.Need-returns-3
-returns-3 c = is-one (c .before .before .before .before .before .before .before .before .args .line .now) (c .before .before .before .before .before .before .before .before .args .o) (c .before .before .before .before .before .before .exactly .ensures) (c .before .before .before .before .before .if1 .left) (names (c .before .before .before .before .before .before .before .before .args .line .now) 2 (c .before .before .before .before .field .ensures) (c .before .before .before .named .ensures) (c .before .k .given .1))
+returns-3 c = is-one (c .before .before .before .before .before .before .before .before .args .line .now) (c .before .before .before .before .before .before .before .before .args .o) (c .before .before .before .before .before .before .exactly .ensures) (c .before .before .before .before .before .if1 .left) (names (c .before .before .before .before .before .before .before .before .args .line .now) 2 (c .before .before .before .before .field .ensures) (c .before .before .before .kind-named .ensures) (c .before .k .given .1))
 
 pub one-spec : {M : Type 1} → statement M
 one-spec =
@@ -34,7 +34,7 @@ one-spec =
     exactly-requires
     returns
     field-requires
-    named-requires
+    kind-named-requires
     enum-told
     enum-known-k
     returns-2

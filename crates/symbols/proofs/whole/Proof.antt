@@ -1,0 +1,32 @@
+use Rattle.symbols.proofs.Found.{whole-from, whole-none, whole-long, whole-fits, whole-is}
+use borrow.Author.Needs.{needs}
+use Rattle.symbols.proofs.whole.Statement.{statement}
+use Rattle.symbols.proofs.whole.Tie as tie
+use Rattle.symbols.proofs.whole.Reads as reads
+use Rattle.symbols.proofs.whole.Lts as lts
+use Rattle.numerals.proofs.digits.Reads as digits-reads
+
+digits-requires : tie.Need-digits-requires
+digits-requires c κs = search needs
+
+sub-if1 : tie.Need-sub-if1
+sub-if1 c = search whole-from
+
+returns : tie.Need-returns
+returns c = search whole-none
+
+sub-if2 : tie.Need-sub-if2
+sub-if2 c = search whole-from
+
+returns-2 : tie.Need-returns-2
+returns-2 c = search whole-long
+
+cast-t9 : tie.Need-cast-t9
+cast-t9 c = search whole-fits
+
+returns-3 : tie.Need-returns-3
+returns-3 c = search whole-is
+
+pub whole-spec : {M : Type 1} → statement M
+whole-spec =
+    tie.close (tie.spec digits-requires sub-if1 returns sub-if2 returns-2 cast-t9 returns-3)
