@@ -11,18 +11,18 @@ use Rattle.value.specs.Refusals.{wrongKind, outside, beyondResult}
 use Rattle.value.specs.Durations.{lessTicks}
 use Rattle.value.specs.Values.{okOffset, okDayTime}
 use Rattle.value.specs.Kinds.{okValue}
-use Rattle.value.specs.Ticks.{instantOf}
+use Rattle.instants.specs.Ticks.{instantOf}
 use Rattle.value.specs.declared.Offset.{Offset}
 use Rattle.value.specs.declared.DateTime.{DateTime}
 use Rattle.value.specs.declared.Kind.{Kind}
 use Rattle.value.specs.declared.Value.{Value}
 use Rattle.value.specs.declared.Value.the-variants as VV
 use Rattle.value.proofs.Signs.{difference-ok}
-use Rattle.shifting.specs.Operands.{operandOf, sameKind, kindNumber}
-use Rattle.shifting.specs.Results.{inTicks}
-use Rattle.shifting.specs.declared.Operand.{Operand}
-use Rattle.shifting.specs.declared.Operand.the-variants.{Moment}
-use Rattle.shifting.proofs.Shapes.{moment-good}
+use Rattle.quantities.specs.Operands.{operandOf, sameKind, kindNumber}
+use Rattle.quantities.specs.Results.{inTicks}
+use Rattle.quantities.specs.declared.Operand.{Operand}
+use Rattle.quantities.specs.declared.Operand.the-variants.{Moment}
+use Rattle.quantities.proofs.Shapes.{moment-good}
 use Rattle.arithmetic.specs.Sums.{lessMoment, differenceIn, minusIn}
 use Rattle.shifting.proofs.Reach.{instant-to}
 

@@ -9,21 +9,21 @@ use Rattle.basis.specs.Answer.{Answer, gives, refuses}
 use Rattle.calendar.specs.Calendar.{monthCount}
 use Rattle.value.specs.Bounds.{minYear, maxYear}
 use Rattle.value.specs.Refusals.{outside, wrongKind, beyondResult}
-use Rattle.value.specs.Durations.{plus, minus, lessTicks, lessMonths}
+use Rattle.value.specs.Durations.{plusHalf, minusHalf, lessTicks, lessMonths}
 use Rattle.value.specs.Values.{okDayTime, okYearMonth}
 use Rattle.value.specs.Kinds.{hasDate, okValue}
-use Rattle.value.specs.Ticks.{localOf, instantOf}
+use Rattle.instants.specs.Ticks.{localOf, instantOf}
 use Rattle.value.specs.declared.Offset.{Offset}
 use Rattle.value.specs.declared.DateTime.{DateTime}
 use Rattle.value.specs.declared.Kind.{Kind}
 use Rattle.value.specs.declared.Value.{Value}
 use Rattle.value.proofs.Numbers.{among, only, only-either, only-refused}
-use Rattle.shifting.specs.Operands.{operandOf, valueOf, sameKind}
-use Rattle.shifting.specs.Results.{inTicks, inMonths}
+use Rattle.quantities.specs.Operands.{operandOf, valueOf, sameKind}
+use Rattle.quantities.specs.Results.{inTicks, inMonths}
 use Rattle.shifting.specs.Shifts.{monthOf, inMonth, movedTo, moved, shifted}
-use Rattle.shifting.specs.declared.Operand.{Operand}
-use Rattle.shifting.specs.declared.Operand.the-variants.{Moment, DayTime, YearMonth}
-use Rattle.shifting.proofs.Numbers.{placed-numbers}
+use Rattle.quantities.specs.declared.Operand.{Operand}
+use Rattle.quantities.specs.declared.Operand.the-variants.{Moment, DayTime, YearMonth}
+use Rattle.quantities.proofs.Numbers.{placed-numbers}
 use Rattle.arithmetic.specs.Sums.{opposite, oppositeMonths, sumOf, plusOf, lessMoment, differenceIn, minusIn}
 use Rattle.arithmetic.specs.Products.{maxFactor, signedTimes, productOf, timesOf}
 

@@ -7,7 +7,7 @@ use lib.Dec.{ltb}
 use borrow.Author.Tests.{le-ltb}
 use Rattle.basis.specs.Answer.{Answer}
 use Rattle.value.specs.Bounds.{maxDayTime, maxYearMonth}
-use Rattle.value.specs.Durations.{plus, minus, apart}
+use Rattle.value.specs.Durations.{plusHalf, minusHalf, apart}
 use Rattle.value.specs.Values.{okSigned, okDayTime, okYearMonth}
 use Rattle.value.specs.Kinds.{okValue}
 use Rattle.value.specs.declared.DayTime as D
@@ -19,36 +19,36 @@ use Rattle.arithmetic.specs.Sums.{opposite, oppositeMonths}
 use Rattle.arithmetic.specs.Products.{signedTimes}
 
 -- the opposite number
-pub opposite-plus : (n : Bool) (m : ℕ) → n ≡ true → false ≡ ltb (minus n m) (plus n m)
-opposite-plus n m e = sym ((λ i. ltb (minus (e i) m) (plus (e i) m)) ∙ le-ltb m 0 (omega arith))
+pub opposite-plus : (n : Bool) (m : ℕ) → n ≡ true → false ≡ ltb (minusHalf n m) (plusHalf n m)
+opposite-plus n m e = sym ((λ i. ltb (minusHalf (e i) m) (plusHalf (e i) m)) ∙ le-ltb m 0 (omega arith))
 
-pub opposite-minus : (n : Bool) (m : ℕ) → n ≡ false → ltb 0 m ≡ ltb (minus n m) (plus n m)
-opposite-minus n m e = sym (λ i. ltb (minus (e i) m) (plus (e i) m))
+pub opposite-minus : (n : Bool) (m : ℕ) → n ≡ false → ltb 0 m ≡ ltb (minusHalf n m) (plusHalf n m)
+opposite-minus n m e = sym (λ i. ltb (minusHalf (e i) m) (plusHalf (e i) m))
 
-pub opposite-size : (n : Bool) (m : ℕ) → apart (minus n m) (plus n m) ≡ m
+pub opposite-size : (n : Bool) (m : ℕ) → apart (minusHalf n m) (plusHalf n m) ≡ m
 opposite-size true m = omega arith
 opposite-size false m = omega arith
 
-pub plus-opposite : (n : Bool) (m : ℕ) → plus (ltb (minus n m) (plus n m)) (apart (minus n m) (plus n m)) ≡ minus n m
-plus-opposite n m = plus-apart (minus n m) (plus n m) ∙ one-half n m
+pub plus-opposite : (n : Bool) (m : ℕ) → plusHalf (ltb (minusHalf n m) (plusHalf n m)) (apart (minusHalf n m) (plusHalf n m)) ≡ minusHalf n m
+plus-opposite n m = plus-apart (minusHalf n m) (plusHalf n m) ∙ one-half n m
   where
-    one-half : (n : Bool) (m : ℕ) → minus n m - plus n m ≡ minus n m
+    one-half : (n : Bool) (m : ℕ) → minusHalf n m - plusHalf n m ≡ minusHalf n m
     one-half true m = omega arith
     one-half false m = omega arith
 
-pub minus-opposite : (n : Bool) (m : ℕ) → minus (ltb (minus n m) (plus n m)) (apart (minus n m) (plus n m)) ≡ plus n m
-minus-opposite n m = minus-apart (minus n m) (plus n m) ∙ one-half n m
+pub minus-opposite : (n : Bool) (m : ℕ) → minusHalf (ltb (minusHalf n m) (plusHalf n m)) (apart (minusHalf n m) (plusHalf n m)) ≡ plusHalf n m
+minus-opposite n m = minus-apart (minusHalf n m) (plusHalf n m) ∙ one-half n m
   where
-    one-half : (n : Bool) (m : ℕ) → plus n m - minus n m ≡ plus n m
+    one-half : (n : Bool) (m : ℕ) → plusHalf n m - minusHalf n m ≡ plusHalf n m
     one-half true m = omega arith
     one-half false m = omega arith
 
 signed-opposite : (bound m : ℕ) (n : Bool) → okSigned bound n m ≡ true
-    → okSigned bound (ltb (minus n m) (plus n m)) (apart (minus n m) (plus n m)) ≡ true
+    → okSigned bound (ltb (minusHalf n m) (plusHalf n m)) (apart (minusHalf n m) (plusHalf n m)) ≡ true
 signed-opposite bound m n e =
     let h = signed-within bound m n e in
     let s = opposite-size n m in
-    difference-ok bound (minus n m) (plus n m) (omega arith)
+    difference-ok bound (minusHalf n m) (plusHalf n m) (omega arith)
 
 pub opposite-ok : (t : D.DayTime) → okDayTime t ≡ true → okValue (VV.DayTime (opposite t)) ≡ true
 unfolding okValue

@@ -6,13 +6,13 @@ use native.Mathlib.Omega.{arith}
 use Rattle.basis.specs.Choice.{pick, both}
 use Rattle.basis.specs.Answer.{refuses}
 use Rattle.value.specs.Refusals.{outside}
-use Rattle.value.specs.Durations.{plus, minus}
+use Rattle.value.specs.Durations.{plusHalf, minusHalf}
 use Rattle.value.specs.Kinds.{okValue}
 use Rattle.value.specs.declared.Value.{Value}
-use Rattle.shifting.specs.Operands.{operandOf}
-use Rattle.shifting.specs.Results.{inTicks, inMonths}
-use Rattle.shifting.specs.declared.Operand.{Operand}
-use Rattle.shifting.specs.declared.Operand.the-variants.{Moment, DayTime, YearMonth}
+use Rattle.quantities.specs.Operands.{operandOf}
+use Rattle.quantities.specs.Results.{inTicks, inMonths}
+use Rattle.quantities.specs.declared.Operand.{Operand}
+use Rattle.quantities.specs.declared.Operand.the-variants.{Moment, DayTime, YearMonth}
 use Rattle.arithmetic.specs.Sums.{sumOf, plusOf}
 
 added-turned : (p q : ℕ) → p + q ≡ q + p
@@ -33,15 +33,15 @@ sum-turned (Moment k d) (YearMonth m) = refl
 sum-turned (DayTime t) (Moment k d) = refl
 sum-turned (DayTime t) (DayTime s) =
     λ i.
-    inTicks (added-turned (plus (t .negative) (t .micros)) (plus (s .negative) (s .micros)) i)
-    (added-turned (minus (t .negative) (t .micros)) (minus (s .negative) (s .micros)) i)
+    inTicks (added-turned (plusHalf (t .negative) (t .micros)) (plusHalf (s .negative) (s .micros)) i)
+    (added-turned (minusHalf (t .negative) (t .micros)) (minusHalf (s .negative) (s .micros)) i)
 sum-turned (DayTime t) (YearMonth m) = refl
 sum-turned (YearMonth m) (Moment k d) = refl
 sum-turned (YearMonth m) (DayTime t) = refl
 sum-turned (YearMonth m) (YearMonth n) =
     λ i.
-    inMonths (added-turned (plus (m .negative) (m .months)) (plus (n .negative) (n .months)) i)
-    (added-turned (minus (m .negative) (m .months)) (minus (n .negative) (n .months)) i)
+    inMonths (added-turned (plusHalf (m .negative) (m .months)) (plusHalf (n .negative) (n .months)) i)
+    (added-turned (minusHalf (m .negative) (m .months)) (minusHalf (n .negative) (n .months)) i)
 
 pub plus-turned : (a b : Value) → plusOf a b ≡ plusOf b a
 unfolding plusOf

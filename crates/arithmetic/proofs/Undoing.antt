@@ -10,9 +10,9 @@ use Rattle.basis.specs.Answer.{gives, refuses}
 use Rattle.basis.proofs.Tests.{both-left, both-right, both-true}
 use Rattle.value.specs.Bounds.{dayTicks}
 use Rattle.value.specs.Refusals.{outside}
-use Rattle.value.specs.Durations.{plus, minus}
+use Rattle.value.specs.Durations.{plusHalf, minusHalf}
 use Rattle.value.specs.Kinds.{hasDate, hasTime, kept, kindOf, okValue}
-use Rattle.value.specs.Ticks.{localOf, atLocal}
+use Rattle.instants.specs.Ticks.{localOf, atLocal}
 use Rattle.value.specs.declared.Offset.{Offset}
 use Rattle.value.specs.declared.DateTime.{DateTime}
 use Rattle.value.specs.declared.DayTime as D
@@ -21,11 +21,11 @@ use Rattle.value.specs.declared.Kind.the-variants as KV
 use Rattle.value.specs.declared.Value.{Value}
 use Rattle.value.specs.declared.Value.the-variants as VV
 use Rattle.value.proofs.KindParts.{date-good}
-use Rattle.shifting.specs.Operands.{operandOf, valueOf}
+use Rattle.quantities.specs.Operands.{operandOf, valueOf}
 use Rattle.shifting.specs.Shifts.{wrapped, shifted}
-use Rattle.shifting.specs.declared.Operand.the-variants.{Moment, DayTime, YearMonth}
-use Rattle.shifting.proofs.Shapes.{moment-ok}
-use Rattle.shifting.proofs.Given.{given-test, gives-same}
+use Rattle.quantities.specs.declared.Operand.the-variants.{Moment, DayTime, YearMonth}
+use Rattle.quantities.proofs.Shapes.{moment-ok}
+use Rattle.quantities.proofs.Given.{given-test, gives-same}
 use Rattle.shifting.proofs.Undo.{placed-gives, given-in-years, date-time-undone, time-undone, date-undone}
 use Rattle.arithmetic.specs.Sums.{sumOf, plusOf, differenceIn, minusIn}
 use Rattle.arithmetic.proofs.Opposites.{plus-opposite, minus-opposite}
@@ -49,7 +49,7 @@ shift-given KV.DateTime d p q b e =
 shift-given KV.DayTimeDuration d p q b e = sym (gives-same _ _ e)
 shift-given KV.YearMonthDuration d p q b e = sym (gives-same _ _ e)
 
-half-whole : (n : Bool) (m : ℕ) → m % dayTicks ≡ 0 → (plus n m % dayTicks ≡ 0) × (minus n m % dayTicks ≡ 0)
+half-whole : (n : Bool) (m : ℕ) → m % dayTicks ≡ 0 → (plusHalf n m % dayTicks ≡ 0) × (minusHalf n m % dayTicks ≡ 0)
 half-whole true m e = (refl, e)
 half-whole false m e = (e, refl)
 
@@ -93,7 +93,7 @@ minus-tested o a b v e = given-test (both (okValue a) (okValue b)) (differenceIn
 
 -- plus and minus of a duration as shifts
 plus-shift : (k : Kind) (d : DateTime) (t : D.DayTime) → comesBack k t ≡ true → okValue (valueOf k d) ≡ true → okValue (VV.DayTime t) ≡ true
-    → plusOf (valueOf k d) (VV.DayTime t) ≡ shifted k d (plus (t .negative) (t .micros)) (minus (t .negative) (t .micros))
+    → plusOf (valueOf k d) (VV.DayTime t) ≡ shifted k d (plusHalf (t .negative) (t .micros)) (minusHalf (t .negative) (t .micros))
 unfolding plusOf sumOf
 plus-shift k d t c g h =
     let o = its-operand k d t c in
@@ -101,7 +101,7 @@ plus-shift k d t c g h =
     λ i. pick (b i) (sumOf (o i) (DayTime t)) (refuses outside)
 
 minus-shift : (o : Offset) (k : Kind) (d : DateTime) (t : D.DayTime) → comesBack k t ≡ true → okValue (valueOf k d) ≡ true → okValue (VV.DayTime t) ≡ true
-    → minusIn o (valueOf k d) (VV.DayTime t) ≡ shifted k d (minus (t .negative) (t .micros)) (plus (t .negative) (t .micros))
+    → minusIn o (valueOf k d) (VV.DayTime t) ≡ shifted k d (minusHalf (t .negative) (t .micros)) (plusHalf (t .negative) (t .micros))
 unfolding minusIn differenceIn sumOf
 minus-shift o k d t c g h =
     let e = its-operand k d t c in
@@ -116,8 +116,8 @@ module _ (o : Offset) (k : Kind) (d : DateTime) (t : D.DayTime) (c : comesBack k
       let ga = both-left _ _ g in
       let gt = both-right _ _ g in
       let s = sym (plus-shift k d t c ga gt) ∙ e in
-      let r = shift-given k d (plus (t .negative) (t .micros)) (minus (t .negative) (t .micros)) b s in
-      let gb : okValue (valueOf k (shiftedRecord k d (plus (t .negative) (t .micros)) (minus (t .negative) (t .micros)))) ≡ true
+      let r = shift-given k d (plusHalf (t .negative) (t .micros)) (minusHalf (t .negative) (t .micros)) b s in
+      let gb : okValue (valueOf k (shiftedRecord k d (plusHalf (t .negative) (t .micros)) (minusHalf (t .negative) (t .micros)))) ≡ true
       = ap okValue (sym r) ∙ plus-within (valueOf k d) (VV.DayTime t) b e in
       ap (λ (v : Value). minusIn o v (VV.DayTime t)) r ∙ minus-shift o k _ t c gb gt
       ∙ back k d t _ _ b ga c (λ w. half-whole (t .negative) (t .micros) w) s
@@ -128,8 +128,8 @@ module _ (o : Offset) (k : Kind) (d : DateTime) (t : D.DayTime) (c : comesBack k
       let ga = both-left _ _ g in
       let gt = both-right _ _ g in
       let s = sym (minus-shift o k d t c ga gt) ∙ e in
-      let r = shift-given k d (minus (t .negative) (t .micros)) (plus (t .negative) (t .micros)) b s in
-      let gb : okValue (valueOf k (shiftedRecord k d (minus (t .negative) (t .micros)) (plus (t .negative) (t .micros)))) ≡ true
+      let r = shift-given k d (minusHalf (t .negative) (t .micros)) (plusHalf (t .negative) (t .micros)) b s in
+      let gb : okValue (valueOf k (shiftedRecord k d (minusHalf (t .negative) (t .micros)) (plusHalf (t .negative) (t .micros)))) ≡ true
       = ap okValue (sym r) ∙ minus-within o (valueOf k d) (VV.DayTime t) b e in
       ap (λ (v : Value). plusOf v (VV.DayTime t)) r ∙ plus-shift k _ t c gb gt
       ∙ back k d t _ _ b ga c (λ w. let h = half-whole (t .negative) (t .micros) w in (h .1, h .0)) s

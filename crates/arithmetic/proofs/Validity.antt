@@ -7,19 +7,19 @@ use Rattle.basis.specs.Choice.{both}
 use Rattle.basis.specs.Answer.{gives, refuses}
 use Rattle.basis.proofs.Tests.{both-left, both-right}
 use Rattle.value.specs.Refusals.{outside, wrongKind}
-use Rattle.value.specs.Durations.{plus, minus}
+use Rattle.value.specs.Durations.{plusHalf, minusHalf}
 use Rattle.value.specs.Kinds.{okValue}
-use Rattle.value.specs.Ticks.{instantOf}
+use Rattle.instants.specs.Ticks.{instantOf}
 use Rattle.value.specs.declared.Offset.{Offset}
 use Rattle.value.specs.declared.DateTime.{DateTime}
 use Rattle.value.specs.declared.Kind.{Kind}
 use Rattle.value.specs.declared.Value.{Value}
-use Rattle.shifting.specs.Operands.{operandOf, sameKind}
-use Rattle.shifting.specs.Results.{inTicks}
-use Rattle.shifting.specs.declared.Operand.{Operand}
-use Rattle.shifting.specs.declared.Operand.the-variants.{Moment, DayTime, YearMonth}
-use Rattle.shifting.proofs.Shapes.{valueBack, operand-back}
-use Rattle.shifting.proofs.Given.{valid, valid-given, valid-pick}
+use Rattle.quantities.specs.Operands.{operandOf, sameKind}
+use Rattle.quantities.specs.Results.{inTicks}
+use Rattle.quantities.specs.declared.Operand.{Operand}
+use Rattle.quantities.specs.declared.Operand.the-variants.{Moment, DayTime, YearMonth}
+use Rattle.quantities.proofs.Shapes.{valueBack, operand-back}
+use Rattle.quantities.proofs.Given.{valid, valid-given, valid-pick}
 use Rattle.shifting.proofs.Valid.{ticks-valid, months-valid, moved-valid, shifted-valid}
 use Rattle.arithmetic.specs.Sums.{sumOf, plusOf, opposite, oppositeMonths, lessMoment, differenceIn, minusIn}
 use Rattle.arithmetic.specs.Products.{maxFactor, productOf, timesOf}
@@ -38,13 +38,13 @@ module _ (a b : Value) (e : both (okValue a) (okValue b) ≡ true) where
 -- sums and differences
 sum-valid : (x y : Operand) → okValue (valueBack x) ≡ true → okValue (valueBack y) ≡ true → valid (sumOf x y) ≡ true
 unfolding sumOf
-sum-valid (Moment k d) (DayTime t) gx gy = shifted-valid k d (plus (t .negative) (t .micros)) (minus (t .negative) (t .micros)) gx
-sum-valid (Moment k d) (YearMonth m) gx gy = moved-valid k d (plus (m .negative) (m .months)) (minus (m .negative) (m .months)) gx
+sum-valid (Moment k d) (DayTime t) gx gy = shifted-valid k d (plusHalf (t .negative) (t .micros)) (minusHalf (t .negative) (t .micros)) gx
+sum-valid (Moment k d) (YearMonth m) gx gy = moved-valid k d (plusHalf (m .negative) (m .months)) (minusHalf (m .negative) (m .months)) gx
 sum-valid (Moment k d) (Moment j e) gx gy = refl
-sum-valid (DayTime t) (Moment k d) gx gy = shifted-valid k d (plus (t .negative) (t .micros)) (minus (t .negative) (t .micros)) gy
+sum-valid (DayTime t) (Moment k d) gx gy = shifted-valid k d (plusHalf (t .negative) (t .micros)) (minusHalf (t .negative) (t .micros)) gy
 sum-valid (DayTime t) (DayTime s) gx gy = ticks-valid _ _
 sum-valid (DayTime t) (YearMonth m) gx gy = refl
-sum-valid (YearMonth m) (Moment k d) gx gy = moved-valid k d (plus (m .negative) (m .months)) (minus (m .negative) (m .months)) gy
+sum-valid (YearMonth m) (Moment k d) gx gy = moved-valid k d (plusHalf (m .negative) (m .months)) (minusHalf (m .negative) (m .months)) gy
 sum-valid (YearMonth m) (DayTime t) gx gy = refl
 sum-valid (YearMonth m) (YearMonth n) gx gy = months-valid _ _
 

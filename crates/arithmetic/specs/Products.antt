@@ -5,13 +5,13 @@ use lib.Dec.{leb}
 use Rattle.basis.specs.Choice.{pick, both}
 use Rattle.basis.specs.Answer.{Answer, refuses}
 use Rattle.value.specs.Refusals.{wrongKind, outside}
-use Rattle.value.specs.Durations.{plus, minus}
+use Rattle.value.specs.Durations.{plusHalf, minusHalf}
 use Rattle.value.specs.Kinds.{okValue}
 use Rattle.value.specs.declared.Value.{Value}
-use Rattle.shifting.specs.Operands.{operandOf}
-use Rattle.shifting.specs.Results.{inTicks, inMonths}
-use Rattle.shifting.specs.declared.Operand.{Operand}
-use Rattle.shifting.specs.declared.Operand.the-variants.{Moment, DayTime, YearMonth}
+use Rattle.quantities.specs.Operands.{operandOf}
+use Rattle.quantities.specs.Results.{inTicks, inMonths}
+use Rattle.quantities.specs.declared.Operand.{Operand}
+use Rattle.quantities.specs.declared.Operand.the-variants.{Moment, DayTime, YearMonth}
 
 abbrev pub maxFactor : ℕ
 maxFactor = 999_999
@@ -22,8 +22,8 @@ signedTimes result negative n p q = pick negative (result (q * n) (p * n)) (resu
 
 unfoldable pub productOf : Operand → Bool → ℕ → Answer Value
 productOf (Moment k d) negative n = refuses wrongKind
-productOf (DayTime t) negative n = signedTimes inTicks negative n (plus (t .negative) (t .micros)) (minus (t .negative) (t .micros))
-productOf (YearMonth m) negative n = signedTimes inMonths negative n (plus (m .negative) (m .months)) (minus (m .negative) (m .months))
+productOf (DayTime t) negative n = signedTimes inTicks negative n (plusHalf (t .negative) (t .micros)) (minusHalf (t .negative) (t .micros))
+productOf (YearMonth m) negative n = signedTimes inMonths negative n (plusHalf (m .negative) (m .months)) (minusHalf (m .negative) (m .months))
 
 unfoldable pub timesOf : Value → Bool → ℕ → Answer Value
 timesOf a negative n = pick (both (okValue a) (leb n maxFactor)) (productOf (operandOf a) negative n) (refuses outside)

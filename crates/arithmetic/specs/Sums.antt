@@ -4,20 +4,20 @@ use Prim.Native.Nat.{_+_}
 use Rattle.basis.specs.Choice.{pick, both}
 use Rattle.basis.specs.Answer.{Answer, refuses}
 use Rattle.value.specs.Refusals.{wrongKind, outside}
-use Rattle.value.specs.Durations.{plus, minus, lessTicks, lessMonths}
+use Rattle.value.specs.Durations.{plusHalf, minusHalf, lessTicks, lessMonths}
 use Rattle.value.specs.Kinds.{okValue}
-use Rattle.value.specs.Ticks.{instantOf}
+use Rattle.instants.specs.Ticks.{instantOf}
 use Rattle.value.specs.declared.Offset.{Offset}
 use Rattle.value.specs.declared.DateTime.{DateTime}
 use Rattle.value.specs.declared.DayTime as D
 use Rattle.value.specs.declared.YearMonth as Y
 use Rattle.value.specs.declared.Kind.{Kind}
 use Rattle.value.specs.declared.Value.{Value}
-use Rattle.shifting.specs.Operands.{operandOf, sameKind}
-use Rattle.shifting.specs.Results.{inTicks, inMonths}
+use Rattle.quantities.specs.Operands.{operandOf, sameKind}
+use Rattle.quantities.specs.Results.{inTicks, inMonths}
 use Rattle.shifting.specs.Shifts.{shiftedBy, movedBy}
-use Rattle.shifting.specs.declared.Operand.{Operand}
-use Rattle.shifting.specs.declared.Operand.the-variants.{Moment, DayTime, YearMonth}
+use Rattle.quantities.specs.declared.Operand.{Operand}
+use Rattle.quantities.specs.declared.Operand.the-variants.{Moment, DayTime, YearMonth}
 
 -- a duration may stand left of plus before a date, time or dateTime; durations of one kind add
 unfoldable pub sumOf : Operand → Operand → Answer Value
@@ -27,25 +27,25 @@ sumOf (Moment k d) (Moment j e) = refuses wrongKind
 sumOf (DayTime t) (Moment k d) = shiftedBy k d t
 sumOf (DayTime t) (DayTime s) =
     inTicks
-    (plus (t .negative) (t .micros) + plus (s .negative) (s .micros))
-    (minus (t .negative) (t .micros) + minus (s .negative) (s .micros))
+    (plusHalf (t .negative) (t .micros) + plusHalf (s .negative) (s .micros))
+    (minusHalf (t .negative) (t .micros) + minusHalf (s .negative) (s .micros))
 sumOf (DayTime t) (YearMonth m) = refuses wrongKind
 sumOf (YearMonth m) (Moment k d) = movedBy k d m
 sumOf (YearMonth m) (DayTime t) = refuses wrongKind
 sumOf (YearMonth m) (YearMonth n) =
     inMonths
-    (plus (m .negative) (m .months) + plus (n .negative) (n .months))
-    (minus (m .negative) (m .months) + minus (n .negative) (n .months))
+    (plusHalf (m .negative) (m .months) + plusHalf (n .negative) (n .months))
+    (minusHalf (m .negative) (m .months) + minusHalf (n .negative) (n .months))
 
 unfoldable pub plusOf : Value → Value → Answer Value
 plusOf a b = pick (both (okValue a) (okValue b)) (sumOf (operandOf a) (operandOf b)) (refuses outside)
 
 -- the opposite of p - q is q - p
 abbrev pub opposite : D.DayTime → D.DayTime
-opposite t = lessTicks (minus (t .negative) (t .micros)) (plus (t .negative) (t .micros))
+opposite t = lessTicks (minusHalf (t .negative) (t .micros)) (plusHalf (t .negative) (t .micros))
 
 abbrev pub oppositeMonths : Y.YearMonth → Y.YearMonth
-oppositeMonths m = lessMonths (minus (m .negative) (m .months)) (plus (m .negative) (m .months))
+oppositeMonths m = lessMonths (minusHalf (m .negative) (m .months)) (plusHalf (m .negative) (m .months))
 
 -- dateTime - dateTime, date - date, time - time: a dayTimeDuration between the instants used for order.
 -- A duration may not stand left of minus before a date, time or dateTime.

@@ -1,23 +1,23 @@
 // A duration times a whole number, which is a sign and a magnitude.
-use shifting::Operand;
-use shifting::operands;
-use shifting::results;
+use instants::spans;
+use quantities::Operand;
+use quantities::operands;
+use quantities::results;
 use value::DayTime;
 use value::Outcome;
 use value::Refusal;
 use value::Span;
 use value::Value;
 use value::YearMonth;
-use value::spans;
 ghost use mathlib.Core.Path.{_≡_};
 ghost use mathlib.Core.Bool.{true};
 ghost use Prim.Native.Nat.{_*_, _≤_};
 ghost use Rattle.value.specs.Bounds.{maxDayTime};
 ghost use Rattle.value.specs.Kinds.{okValue, meaning};
-ghost use Rattle.value.specs.Ticks.{spanOf};
-ghost use Rattle.shifting.specs.Operands.{operandOf};
+ghost use Rattle.instants.specs.Ticks.{spanOf};
+ghost use Rattle.quantities.specs.Operands.{operandOf};
 ghost use Rattle.arithmetic.specs.Products as the;
-ghost use Rattle.shifting.specs.declared.Operand.the-variants as X;
+ghost use Rattle.quantities.specs.declared.Operand.the-variants as X;
 
 pub const MAX_FACTOR: u32 = 999_999;
 

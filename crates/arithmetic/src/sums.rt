@@ -1,8 +1,10 @@
 // Sums and differences, by the kinds of both sides.
-use shifting::Operand;
+use instants::spans;
+use instants::ticks;
+use quantities::Operand;
+use quantities::operands;
+use quantities::results;
 use shifting::months;
-use shifting::operands;
-use shifting::results;
 use shifting::shifts;
 use value::DateTime;
 use value::DayTime;
@@ -13,8 +15,6 @@ use value::Refusal;
 use value::Span;
 use value::Value;
 use value::YearMonth;
-use value::spans;
-use value::ticks;
 use value::valid;
 ghost use mathlib.Core.Path.{_≡_};
 ghost use mathlib.Core.Bool.{true};
@@ -24,10 +24,10 @@ ghost use Rattle.value.specs.Bounds.{maxDayTime, maxYearMonth};
 ghost use Rattle.value.specs.Durations as halves;
 ghost use Rattle.value.specs.Values.{okOffset, okDateTime};
 ghost use Rattle.value.specs.Kinds.{okValue, meaning};
-ghost use Rattle.value.specs.Ticks.{spanOf};
-ghost use Rattle.shifting.specs.Operands.{operandOf};
+ghost use Rattle.instants.specs.Ticks.{spanOf};
+ghost use Rattle.quantities.specs.Operands.{operandOf};
 ghost use Rattle.arithmetic.specs.Sums as the;
-ghost use Rattle.shifting.specs.declared.Operand.the-variants as X;
+ghost use Rattle.quantities.specs.declared.Operand.the-variants as X;
 
 fn moment_plus(kind: Kind, d: DateTime, b: Value) -> Outcome
     requires { ⌜ (okDateTime d ≡ true) × (okValue b ≡ true) ⌝ }
@@ -43,7 +43,7 @@ fn moment_plus(kind: Kind, d: DateTime, b: Value) -> Outcome
 
 fn plus_halves(a: DayTime, b: DayTime) -> Span
     requires { ⌜ (a .micros ≤ maxDayTime) × (b .micros ≤ maxDayTime) ⌝ }
-    ensures { λ r. ⌜ r ≡ spanOf (halves.plus (a .negative) (a .micros) + halves.plus (b .negative) (b .micros)) ⌝ }
+    ensures { λ r. ⌜ r ≡ spanOf (halves.plusHalf (a .negative) (a .micros) + halves.plusHalf (b .negative) (b .micros)) ⌝ }
 {
     let p = operands::plus_half(a.negative, a.micros);
     let q = operands::plus_half(b.negative, b.micros);
@@ -52,7 +52,7 @@ fn plus_halves(a: DayTime, b: DayTime) -> Span
 
 fn minus_halves(a: DayTime, b: DayTime) -> Span
     requires { ⌜ (a .micros ≤ maxDayTime) × (b .micros ≤ maxDayTime) ⌝ }
-    ensures { λ r. ⌜ r ≡ spanOf (halves.minus (a .negative) (a .micros) + halves.minus (b .negative) (b .micros)) ⌝ }
+    ensures { λ r. ⌜ r ≡ spanOf (halves.minusHalf (a .negative) (a .micros) + halves.minusHalf (b .negative) (b .micros)) ⌝ }
 {
     let p = operands::minus_half(a.negative, a.micros);
     let q = operands::minus_half(b.negative, b.micros);
@@ -107,7 +107,7 @@ pub fn sum(a: Value, b: Value) -> Outcome
 
 // Zero has no sign.
 fn opposite_sign(negative: bool, n: u64) -> bool
-    ensures { λ r. ⌜ r ≡ ltb (halves.minus negative n) (halves.plus negative n) ⌝ }
+    ensures { λ r. ⌜ r ≡ ltb (halves.minusHalf negative n) (halves.plusHalf negative n) ⌝ }
 {
     if negative { false } else { 0 < n }
 }

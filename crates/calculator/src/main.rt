@@ -1,8 +1,8 @@
 // The calculator: one library call a line, one line of answer for each (docs/LINES.md, "The calculator").
 use calls::MAX_INPUT;
-use calls::Reply;
 use libc::STDIN_FILENO;
 use libc::STDOUT_FILENO;
+use replies::Reply;
 use timetable::lines::after_end;
 use timetable::lines::line_end;
 ghost use mathlib.Core.Path.{_≡_};

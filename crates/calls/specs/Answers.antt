@@ -5,26 +5,26 @@ use Prim.Native.Nat.{ℕ}
 use Rattle.basis.specs.Answer.{Answer, gives, refuses}
 use Rattle.basis.specs.Letters.{bytes}
 use Rattle.timetable.specs.Fields.{fieldAt}
-use Rattle.value.specs.Components.{componentsOf}
+use Rattle.components.specs.Components.{componentsOf}
 use Rattle.value.specs.Refusals.{badCondition}
-use Rattle.value.specs.Ticks.{utc}
+use Rattle.instants.specs.Ticks.{utc}
 use Rattle.value.specs.declared.Value.{Value}
 use Rattle.text.specs.Reading.{readAs}
 use Rattle.text.specs.Writing.{textOf}
-use Rattle.operation.specs.Order.{Order, less, equal, greater, orderIn}
+use Rattle.ordering.specs.Order.{Order, less, equal, greater, orderIn}
 use Rattle.arithmetic.specs.Sums.{plusOf, minusIn}
 use Rattle.arithmetic.specs.Products.{timesOf}
 use Rattle.operation.specs.Casts as casts
-use Rattle.operation.specs.Adjustment.{adjustOf, unzoneOf}
-use Rattle.calls.specs.Replies.{refusedText}
-use Rattle.calls.specs.Asked.{hasMinus, magnitudeOf, formOf}
-use Rattle.calls.specs.Parts.{partsText}
-use Rattle.calls.specs.declared.One.{One}
-use Rattle.calls.specs.declared.One.the-variants as O
-use Rattle.calls.specs.declared.Two.{Two}
-use Rattle.calls.specs.declared.Two.the-variants as T
-use Rattle.calls.specs.declared.Form.{Form}
-use Rattle.calls.specs.declared.Form.the-variants as F
+use Rattle.adjusting.specs.Adjustment.{adjustOf, unzoneOf}
+use Rattle.replies.specs.Replies.{refusedText}
+use Rattle.asking.specs.Asked.{hasMinus, magnitudeOf, formOf}
+use Rattle.replies.specs.Parts.{partsText}
+use Rattle.asking.specs.declared.One.{One}
+use Rattle.asking.specs.declared.One.the-variants as O
+use Rattle.asking.specs.declared.Two.{Two}
+use Rattle.asking.specs.declared.Two.the-variants as T
+use Rattle.asking.specs.declared.Form.{Form}
+use Rattle.asking.specs.declared.Form.the-variants as F
 
 -- what was answered, put into words by f; a refusal by its number
 abbrev pub said : {A : Type 0} → (A → List ℕ) → Answer A → List ℕ

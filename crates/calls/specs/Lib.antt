@@ -1,4 +1,1 @@
-pub mod Replies
-pub mod Asked
-pub mod Parts
 pub mod Answers

@@ -1,24 +1,24 @@
 // The call on the values that were read, and what it answers in words.
-use crate::One;
-use crate::Reply;
-use crate::Two;
-use crate::building::joined;
-use crate::building::nothing;
-use crate::building::with_text;
-use crate::numbers::with_number;
-use crate::parts;
-use operation::Compared;
-use value::Components;
+use asking::One;
+use asking::Two;
+use components::Components;
+use ordering::Compared;
+use replies::Reply;
+use replies::building::joined;
+use replies::building::nothing;
+use replies::building::with_text;
+use replies::numbers::with_number;
+use replies::parts;
 use value::Outcome;
 use value::Refusal;
 use value::Value;
 ghost use mathlib.Core.Path.{_≡_};
 ghost use Rattle.text.specs.Writing.{textOf};
-ghost use Rattle.value.specs.Components as components;
+ghost use Rattle.components.specs.Components as components;
 ghost use Rattle.value.specs.Kinds as kinds;
-ghost use Rattle.operation.specs.Order as order;
-ghost use Rattle.calls.specs.Replies.{replyOf, refusedText};
-ghost use Rattle.calls.specs.Parts.{partsText};
+ghost use Rattle.ordering.specs.Order as order;
+ghost use Rattle.replies.specs.Replies.{replyOf, refusedText};
+ghost use Rattle.replies.specs.Parts.{partsText};
 ghost use Rattle.calls.specs.Answers as the;
 
 pub fn refused(r: Refusal) -> Reply
@@ -72,7 +72,7 @@ pub fn one_said(o: One, a: Value) -> Reply
     match o {
         One::Read => written(a),
         One::Unzone => value_said(operation::unzone(a)),
-        One::Components => components_said(value::parts::components(a)),
+        One::Components => components_said(components::of_value(a)),
     }
 }
 

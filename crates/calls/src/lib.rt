@@ -1,4 +1,9 @@
 // One library call as a line of text, and the text of its answer (docs/LINES.md, "The calculator").
+use asking::Form;
+use asking::One;
+use asking::Two;
+use asking::forms;
+use replies::Reply;
 use timetable::fields::field;
 use value::Kind;
 use value::Outcome;
@@ -6,51 +11,14 @@ use value::Refusal;
 ghost use mathlib.Core.Path.{_≡_};
 ghost use lib.Dec.{leb};
 ghost use lib.ListN.{length};
-ghost use Rattle.calls.specs.Replies.{replyOf};
+ghost use Rattle.replies.specs.Replies.{replyOf};
 ghost use Rattle.calls.specs.Answers as the;
-ghost use Rattle.calls.specs.declared.Form.the-variants as F;
+ghost use Rattle.asking.specs.declared.Form.the-variants as F;
 
-mod asking; // asking.rt: which call a line is
-mod building; // building.rt: a reply as it grows
 mod calling; // calling.rt: the call on the values that were read
-mod numbers; // numbers.rt: numbers with a sign
-mod parts; // parts.rt: the text of a value's components
-
-// The calls on one value.
-pub enum One {
-    Read,
-    Unzone,
-    Components,
-}
-
-// The calls on two values.
-pub enum Two {
-    Compare,
-    Add,
-    Subtract,
-    Adjust,
-}
-
-// Which call a line is, with the kinds that it names; its texts and its whole number stay in the line.
-pub enum Form {
-    No,
-    OfOne(One, Kind),
-    OfTwo(Two, Kind, Kind),
-    Product(Kind),
-    Cast(Kind, Kind),
-}
 
 // An input has at most so many bytes.
 pub const MAX_INPUT: usize = 65_536;
-
-// No answer's text is longer.
-pub const REPLY: usize = 192;
-
-// The text of an answer, and zeros after it.
-pub struct Reply {
-    pub bytes: [u8; REPLY],
-    pub len: usize,
-}
 
 fn one_call(line: &[u8], o: One, k: Kind) -> Reply
     ensures { λ r. ⌜ r ≡ replyOf (the.textBy (now (line .entry)) (F.OfOne o k)) ⌝ }
@@ -79,7 +47,7 @@ fn product_call(line: &[u8], k: Kind) -> Reply
     match text::read(k, field(line, 3)) {
         Outcome::Refused(r) => calling::refused(r),
         Outcome::Is(a) => {
-            let n = asking::whole(field(line, 4));
+            let n = forms::whole(field(line, 4));
             calling::value_said(operation::times(a, n.negative, n.magnitude))
         }
     }
@@ -114,7 +82,7 @@ pub fn no_call() -> Reply
 pub fn answer(line: &[u8]) -> Reply
     ensures { λ r. ⌜ r ≡ replyOf (the.answerOf (now (line .entry))) ⌝ }
 {
-    match asking::form(line) {
+    match forms::form(line) {
         Form::No => no_call(),
         Form::OfOne(o, k) => one_call(line, o, k),
         Form::OfTwo(o, k, l) => two_call(line, o, k, l),

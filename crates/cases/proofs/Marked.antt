@@ -13,28 +13,28 @@ use Rattle.calendar.specs.Calendar.{total, place, dateOf, datedOf}
 use Rattle.timetable.specs.Fields.{fieldsOf, hasField, fieldAt}
 use Rattle.timetable.specs.Parts.{onto, parted}
 use Rattle.value.specs.Kinds.{ofKind, okValue}
-use Rattle.value.specs.Ticks.{localOf, instantOf, inYears, placedAt}
+use Rattle.instants.specs.Ticks.{localOf, instantOf, inYears, placedAt}
 use Rattle.value.specs.Values.{okDate, okOffset, okZone, okDateTime, okSigned}
 use Rattle.numerals.specs.Reading.{isDigit, number, fractionAt}
 use Rattle.numerals.specs.Writing.{digits, shortest, decimal, stripped, fractionText}
 use Rattle.scan.specs.Scanning.{pairAt, isPair, placed, fractionPart, zoneSigned, zonePart, fourZeros, yearAt, yearPart, partAt, scanned}
-use Rattle.layouts.specs.Reading.{nextDay, okClock, isDayEnd, ticksOf, clocked, okParts, zoneIs, onCalendar, bounded, judge, readLayout}
+use Rattle.judging.specs.Reading.{nextDay, okClock, isDayEnd, ticksOf, clocked, okParts, zoneIs, onCalendar, bounded, judge, readLayout}
 use Rattle.layouts.specs.Writing.{pairOf, partText, textBy}
 use Rattle.durations.specs.Forms.{weight}
 use Rattle.durations.specs.Spelling.{shown, shownAll, left, body, textBy as textBy-of-durations}
 use Rattle.durations.specs.Walks.{component, components, shapeFrom, shape, counted, readBy}
 use Rattle.text.specs.Reading.{readAs}
 use Rattle.text.specs.Writing.{textOf}
-use Rattle.shifting.specs.Results.{inTicks, inMonths, atTicks}
+use Rattle.quantities.specs.Results.{inTicks, inMonths, atTicks}
 use Rattle.shifting.specs.Shifts.{movedTo, moved, shifted}
-use Rattle.operation.specs.Adjustment.{isZone, adjustedFrom, momentTo, operandTo, adjustOf}
-use Rattle.operation.specs.Order.{up, down, orderIn}
+use Rattle.adjusting.specs.Adjustment.{isZone, adjustedFrom, momentTo, operandTo, adjustOf}
+use Rattle.ordering.specs.Order.{up, down, orderIn}
 use Rattle.arithmetic.specs.Sums.{sumOf, plusOf, lessMoment, differenceIn, minusIn}
 use Rattle.words.specs.Runs.{same}
 use Rattle.symbols.specs.Symbols.{named}
 use Rattle.calls.specs.Answers.{oneText, twoText, textBy as textBy-of-calls, answerOf}
-use Rattle.calls.specs.Asked.{exactly, oneOf, twoOf, pairBy, formBy, formOf}
-use Rattle.calls.specs.Replies.{numberText, refusedText}
+use Rattle.asking.specs.Asked.{exactly, oneOf, twoOf, pairBy, formBy, formOf}
+use Rattle.replies.specs.Replies.{numberText, refusedText}
 use Rattle.cases.specs.Table.{Row, noRow, table, holds, tests, allHold}
 
 pub all-hold : allHold ≡ true

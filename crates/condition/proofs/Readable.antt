@@ -8,7 +8,7 @@ use native.Mathlib.Omega.{arith}
 use Rattle.basis.specs.Choice.{pick}
 use Rattle.basis.specs.Answer.{Answer, gives, refuses}
 use Rattle.value.specs.Kinds.{kindOf, okValue}
-use Rattle.value.specs.Ticks.{utc}
+use Rattle.instants.specs.Ticks.{utc}
 use Rattle.value.specs.declared.Kind.{Kind}
 use Rattle.value.specs.declared.Kind.the-variants as K
 use Rattle.value.specs.declared.Value.{Value}
@@ -16,8 +16,8 @@ use Rattle.timetable.specs.Fields.{hasField, fieldAt}
 use Rattle.layouts.proofs.Valid.{Valid}
 use Rattle.text.specs.Reading.{readAs}
 use Rattle.text.proofs.RoundTrip.{what-reads-is-valid}
-use Rattle.shifting.specs.Operands.{sameKind}
-use Rattle.operation.specs.Order.{Order, orderIn}
+use Rattle.quantities.specs.Operands.{sameKind}
+use Rattle.ordering.specs.Order.{Order, orderIn}
 use Rattle.arithmetic.specs.Sums.{plusOf, minusIn}
 use Rattle.arithmetic.specs.Products.{timesOf}
 use Rattle.operation.specs.Casts.{castsTo, castOf}

@@ -1,5 +1,7 @@
 // Conditions: which texts are accepted, and the result of a condition at a line (document 01, "Conditions").
 use depth::too_deep;
+use givens::Given;
+use givens::Mode;
 use reading::Read;
 use results::Part;
 use sorts::Sort;

@@ -8,7 +8,7 @@ use lib.Dec.{eqb, lit≤}
 use lib.ListN.{length, length-append}
 use borrow.Author.Tests.{eq-eqb, ne-eqb, eqb-true, eqb-false}
 use Rattle.basis.specs.Choice.{pick, both}
-use Rattle.value.specs.Bounds.{parts, maxDayTime, maxYearMonth}
+use Rattle.value.specs.Bounds.{secondTicks, maxDayTime, maxYearMonth}
 use Rattle.value.specs.Values.{okDayTime, okYearMonth}
 use Rattle.value.specs.declared.DayTime.{DayTime}
 use Rattle.value.specs.declared.YearMonth.{YearMonth}
@@ -59,7 +59,7 @@ time-short n ticks h =
     omega (arith, ap length e, length-append (shown 72 (n / 3600) ticks) (shown 77 (n % 3600 / 60) ticks ++ x), length-append (shown 77 (n % 3600 / 60) ticks) x, length-append (shown 83 (n % 3600 % 60 / 1) ticks) [])
 
 -- of any number that a machine holds
-pub day-time-short : (n : ℕ) → n < 2 ^ 64 → 1 + length (body (dayTime .before) (dayTime .after) (n / parts) (n % parts)) ≤ longest
+pub day-time-short : (n : ℕ) → n < 2 ^ 64 → 1 + length (body (dayTime .before) (dayTime .after) (n / secondTicks) (n % secondTicks)) ≤ longest
 unfolding shownAll left weight
 day-time-short n h =
     let s : ℕ = n / 1000000 in

@@ -5,21 +5,21 @@ use Prim.Native.Nat.{ℕ, _+_, _*_, _/_, _^_, _≤_, _<_}
 use native.Mathlib.Omega.{arith}
 use lib.Dec.{eqb}
 use Rattle.basis.specs.Choice.{both}
-use Rattle.value.specs.Bounds.{parts, dayTicks}
+use Rattle.value.specs.Bounds.{secondTicks, dayTicks}
 use Rattle.numerals.specs.Reading.{fractionDigits}
 use Rattle.durations.specs.Forms.{weight, years, days, hours, minutes}
 use Rattle.durations.specs.Capped.{Roomy}
 
-pub fraction-of-second : 10 ^ fractionDigits ≡ parts
+pub fraction-of-second : 10 ^ fractionDigits ≡ secondTicks
 fraction-of-second = refl
 
-pub day-weight : weight false days ≡ dayTicks / parts
+pub day-weight : weight false days ≡ dayTicks / secondTicks
 unfolding weight
 day-weight = refl
 
 -- between one and a day
 abbrev Between : ℕ → Type 0
-Between w = (1 ≤ w) × (w ≤ dayTicks / parts)
+Between w = (1 ≤ w) × (w ≤ dayTicks / secondTicks)
 
 pub weight-between : (time : Bool) (c : ℕ) → Between (weight time c)
 unfolding weight

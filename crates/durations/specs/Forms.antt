@@ -7,7 +7,7 @@ use lib.Dec.{eqb}
 use Rattle.basis.specs.Choice.{pick, both}
 use Rattle.basis.specs.Letters.{bytes}
 use Rattle.calendar.specs.Calendar.{monthCount}
-use Rattle.value.specs.Bounds.{maxDayTime, maxYearMonth, parts, minuteTicks, hourTicks, dayTicks}
+use Rattle.value.specs.Bounds.{maxDayTime, maxYearMonth, secondTicks, minuteTicks, hourTicks, dayTicks}
 
 -- The bytes that stand in a duration's text: Y, D, H, M, S of the components (M is minutes after T, and months before it,
 -- which count for themselves), and the punctuation.
@@ -42,8 +42,8 @@ timeMark = 84
 unfoldable pub weight : Bool → ℕ → ℕ
 weight time c =
     pick (eqb c years) monthCount
-    (pick (eqb c days) (dayTicks / parts)
-    (pick (eqb c hours) (hourTicks / parts) (pick (both time (eqb c minutes)) (minuteTicks / parts) 1)))
+    (pick (eqb c days) (dayTicks / secondTicks)
+    (pick (eqb c hours) (hourTicks / secondTicks) (pick (both time (eqb c minutes)) (minuteTicks / secondTicks) 1)))
 
 -- The form of a kind's text: its components before T and after it, in order; into how many parts a month or a second is
 -- divided; the bound, in those parts; and the text of zero.
@@ -55,7 +55,7 @@ pub record Form : Type 0 where
   pub nothing : List ℕ
 
 abbrev pub dayTime : Form
-dayTime = record { before = bytes "D"; after = bytes "HMS"; unit = parts; most = maxDayTime; nothing = bytes "PT0S" }
+dayTime = record { before = bytes "D"; after = bytes "HMS"; unit = secondTicks; most = maxDayTime; nothing = bytes "PT0S" }
 
 abbrev pub yearMonth : Form
 yearMonth = record { before = bytes "YM"; after = []; unit = 1; most = maxYearMonth; nothing = bytes "P0M" }

@@ -98,7 +98,7 @@ fn counted(t: Shape, unit: u64, most: u64) -> Count
 pub fn read_day_time(s: &[u8]) -> Reading
     ensures { λ r. ⌜ (kinds.meaning (r .outcome) ≡ the.readDayTime (now (s .entry))) × (r .place ≡ the.placeIn dayTime (now (s .entry))) ⌝ }
 {
-    let parts = Span::PARTS as u64;
+    let parts = Span::TICKS as u64;
     let t = scan::shape(s, b"D", b"HMS", DayTime::MAX / parts + 1);
     let place = t.place;
     let c = counted(t, parts, DayTime::MAX);
@@ -146,7 +146,7 @@ pub fn day_time_text(d: DayTime) -> Text
     if n == 0 {
         return Text::new().push(b'P').push(b'T').push(b'0').push(b'S');
     }
-    let parts = Span::PARTS as u64;
+    let parts = Span::TICKS as u64;
     spell::spelt(d.negative, b"D", b"HMS", n / parts, n % parts)
 }
 

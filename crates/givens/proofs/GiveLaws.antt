@@ -6,18 +6,18 @@ use Prim.Native.Nat.{ℕ}
 use Rattle.basis.specs.Answer.{Answer, refuses}
 use Rattle.value.specs.Kinds.{meaning}
 use Rattle.value.specs.Refusals.{noField, wrongKind}
-use Rattle.value.specs.Ticks.{utc}
+use Rattle.instants.specs.Ticks.{utc}
 use Rattle.value.specs.declared.Kind.{Kind}
 use Rattle.value.specs.declared.Value.{Value}
 use Rattle.value.specs.declared.Refusal.{Refusal}
 use Rattle.value.specs.declared.Outcome.{Outcome}
 use Rattle.value.specs.declared.Outcome.the-variants as OV
 use Rattle.operation.specs.Casts.{castOf}
-use Rattle.operation.specs.Order as orders
+use Rattle.ordering.specs.Order as orders
 use Rattle.arithmetic.specs.Sums.{plusOf, minusIn}
 use Rattle.arithmetic.specs.Products.{timesOf}
-use Rattle.operation.specs.declared.Compared.{Compared}
-use Rattle.operation.specs.declared.Compared.the-variants as C
+use Rattle.ordering.specs.declared.Compared.{Compared}
+use Rattle.ordering.specs.declared.Compared.the-variants as C
 use Rattle.timetable.specs.Fields.{fieldAt, hasField}
 use Rattle.text.specs.Reading.{readAs}
 use Rattle.symbols.specs.declared.Op.{Op}

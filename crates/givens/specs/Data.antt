@@ -8,12 +8,12 @@ use Prim.Native.Nat.{ℕ}
 use Rattle.basis.specs.Choice.{pick}
 use Rattle.basis.specs.Answer.{Answer, gives, refuses}
 use Rattle.value.specs.Refusals.{noField, wrongKind}
-use Rattle.value.specs.Ticks.{utc}
+use Rattle.instants.specs.Ticks.{utc}
 use Rattle.value.specs.declared.Kind.{Kind}
 use Rattle.value.specs.declared.Value.{Value}
 use Rattle.timetable.specs.Fields.{fieldAt, hasField}
 use Rattle.text.specs.Reading.{readAs}
-use Rattle.operation.specs.Order.{Order, less, equal, greater, orderIn}
+use Rattle.ordering.specs.Order.{Order, less, equal, greater, orderIn}
 use Rattle.arithmetic.specs.Sums.{plusOf, minusIn}
 use Rattle.arithmetic.specs.Products.{timesOf}
 use Rattle.operation.specs.Casts.{castOf}

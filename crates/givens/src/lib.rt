@@ -1,6 +1,7 @@
 // What a part of a condition gives, checked or evaluated (document 01, "Conditions").
-use operation::Compared;
+use ordering::Compared;
 use sorts::joins;
+use symbols::Op;
 use value::Kind;
 use value::Outcome;
 use value::Refusal;
@@ -10,7 +11,7 @@ ghost use mathlib.Core.Path.{_≡_};
 ghost use Rattle.value.specs.Kinds.{meaning};
 ghost use Rattle.basis.specs.Answer.{refuses};
 ghost use Rattle.text.specs.Reading.{readAs};
-ghost use Rattle.operation.specs.Order as orders;
+ghost use Rattle.ordering.specs.Order as orders;
 ghost use Rattle.words.specs.Runs.{between};
 ghost use Rattle.givens.specs.Data as its;
 ghost use Rattle.givens.specs.Givens as the;

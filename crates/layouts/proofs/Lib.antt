@@ -1,4 +1,3 @@
-pub mod Ways
 pub mod Pieces
 pub mod Keeping
 pub mod Back

@@ -12,7 +12,7 @@ use Rattle.basis.specs.Choice.{pick, both, every}
 use Rattle.basis.specs.Answer.{Answer, refuses}
 use Rattle.basis.proofs.Tests.{both-left}
 use Rattle.calendar.specs.declared.Date.{Date}
-use Rattle.value.specs.Bounds.{parts, minuteTicks, hourTicks, dayTicks}
+use Rattle.value.specs.Bounds.{secondTicks, minuteTicks, hourTicks, dayTicks}
 use Rattle.value.specs.Refusals.{badText}
 use Rattle.value.specs.Values.{okDate, okOffset, okZone, okDateTime}
 use Rattle.value.specs.Kinds.{template, kept, ofKind}
@@ -28,7 +28,7 @@ use Rattle.value.proofs.KindParts.{of-kind-kept}
 use Rattle.numerals.specs.Reading.{isDigit}
 use Rattle.scan.specs.declared.Scan.{Scan}
 use Rattle.scan.specs.Scanning.{isPair, placed, withFraction, layout, startOf, scanned}
-use Rattle.layouts.specs.Reading.{valued, ticksOf, zoneIs, offsetIs, readLayout, judge, bounded, onCalendar, okParts, clocked, okClock}
+use Rattle.judging.specs.Reading.{valued, ticksOf, zoneIs, offsetIs, readLayout, judge, bounded, onCalendar, okParts, clocked, okClock}
 use Rattle.layouts.specs.Writing.{pairOf, partText, textOf}
 use Rattle.layouts.proofs.Keeping.{zoneKept, partKept, allKept, recordOf, sane, follows, quietHead, isNil, small}
 use Rattle.layouts.proofs.Trip.{Sound, round-from}
@@ -75,7 +75,7 @@ no-sign u t i e = go (eqb u 0)
     go true = e
     go false = e
 
-fields-of-ticks : (u : ℕ) → u < dayTicks → ticksOf (u / hourTicks) (u / minuteTicks % 60) (u / parts % 60) (u % parts) ≡ u
+fields-of-ticks : (u : ℕ) → u < dayTicks → ticksOf (u / hourTicks) (u / minuteTicks % 60) (u / secondTicks % 60) (u % secondTicks) ≡ u
 unfolding ticksOf
 fields-of-ticks u h = omega arith
 
@@ -89,12 +89,12 @@ date rest = 89 ∷ 45 ∷ 77 ∷ 45 ∷ 68 ∷ rest
 module _ (v : DateTime) (o : okDateTime v ≡ true) where
   -- a layout that ends with a fraction and a zone, after the time
   clocked-ends : (t : Scan) (i j : ℕ) → t .part ≡ 0 → t .sign ≡ 0
-      → t .hour ≡ v .micros / hourTicks → t .minute ≡ v .micros / minuteTicks % 60 → t .second ≡ v .micros / parts % 60
-      → recordOf (zoneKept (v .zone) (fractioned (v .micros % parts) t i) j) ≡ record { year = t .year; month = t .month; day = t .day; micros = v .micros; zone = v .zone }
+      → t .hour ≡ v .micros / hourTicks → t .minute ≡ v .micros / minuteTicks % 60 → t .second ≡ v .micros / secondTicks % 60
+      → recordOf (zoneKept (v .zone) (fractioned (v .micros % secondTicks) t i) j) ≡ record { year = t .year; month = t .month; day = t .day; micros = v .micros; zone = v .zone }
   clocked-ends t i j a b h m s =
-      let f = fraction-ends (v .micros % parts) t i a in
-      let c : ticksOf (t .hour) (t .minute) (t .second) (v .micros % parts) ≡ v .micros = (λ k. ticksOf (h k) (m k) (s k) (v .micros % parts)) ∙ fields-of-ticks (v .micros) (small v o .micros) in
-      zone-ends (v .zone) (fractioned (v .micros % parts) t i) j (small v o .zone) (no-sign (v .micros % parts) t i b)
+      let f = fraction-ends (v .micros % secondTicks) t i a in
+      let c : ticksOf (t .hour) (t .minute) (t .second) (v .micros % secondTicks) ≡ v .micros = (λ k. ticksOf (h k) (m k) (s k) (v .micros % secondTicks)) ∙ fields-of-ticks (v .micros) (small v o .micros) in
+      zone-ends (v .zone) (fractioned (v .micros % secondTicks) t i) j (small v o .zone) (no-sign (v .micros % secondTicks) t i b)
       ∙ (λ k. record { year = f k .year; month = f k .month; day = f k .day; micros = f k .micros; zone = v .zone })
       ∙ (λ k. record { year = t .year; month = t .month; day = t .day; micros = c k; zone = v .zone })
 

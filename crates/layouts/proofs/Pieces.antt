@@ -10,7 +10,7 @@ use lib.ListN.{length, getD, drop, length-append, drop-of-length-le}
 use lib.Seq.{drop-cons}
 use borrow.Author.Tests.{eq-eqb, ne-eqb}
 use Rattle.basis.specs.Choice.{pick}
-use Rattle.value.specs.Bounds.{parts}
+use Rattle.value.specs.Bounds.{secondTicks}
 use Rattle.value.specs.declared.Offset.{Offset}
 use Rattle.value.specs.declared.Offset.the-variants.{East, West}
 use Rattle.value.specs.declared.Zone.{Zone}
@@ -70,7 +70,7 @@ module _ (p : ℕ) (d : DateTime) where
   text-year e = (rw (eq-eqb p 89 e), rw (eq-eqb p 89 e))
 
   module _ (a : p ≡ 89 → ⊥) where
-    pub text-fraction : p ≡ 102 → (partText p d ≡ fractionText (d .micros % parts)) × (width p ≡ 1 + fractionDigits)
+    pub text-fraction : p ≡ 102 → (partText p d ≡ fractionText (d .micros % secondTicks)) × (width p ≡ 1 + fractionDigits)
     unfolding partText width
     text-fraction e = (rw (ne-eqb p 89 a, eq-eqb p 102 e), rw (ne-eqb p 89 a, eq-eqb p 102 e))
 
@@ -94,7 +94,7 @@ text-short p d = go (eqb p 89) (eqb p 102) (eqb p 122) (isPair p) refl refl refl
   where
     go : (a b c f : Bool) → eqb p 89 ≡ a → eqb p 102 ≡ b → eqb p 122 ≡ c → isPair p ≡ f → length (partText p d) ≤ width p
     go true b c f e g h i = rw e (omega (arith, length-digits 4 (d .year)))
-    go false true c f e g h i = rw (e, g) (fraction-short (d .micros % parts))
+    go false true c f e g h i = rw (e, g) (fraction-short (d .micros % secondTicks))
     go false false true f e g h i = rw (e, g, h) (zone-short (d .zone))
     go false false false true e g h i = rw (e, g, h, i) (omega (arith, length-digits 2 (pairOf p d)))
     go false false false false e g h i = rw (e, g, h, i) (lit≤ tt)

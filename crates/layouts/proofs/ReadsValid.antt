@@ -8,7 +8,7 @@ use native.Mathlib.Omega.{arith}
 use lib.Dec.{eqb, leb}
 use lib.ListN.{length}
 use Rattle.basis.specs.Answer.{Answer, gives}
-use Rattle.value.specs.Bounds.{maxYear, parts}
+use Rattle.value.specs.Bounds.{maxYear, secondTicks}
 use Rattle.value.specs.Kinds.{template}
 use Rattle.value.specs.declared.Kind.{Kind}
 use Rattle.value.specs.declared.Kind.the-variants as KV
@@ -18,7 +18,7 @@ use Rattle.scan.specs.declared.Scan.{Scan}
 use Rattle.scan.specs.declared.Pair.{Pair}
 use Rattle.scan.specs.Scanning.{whole, isPair, placed, layout, startOf, partsOf}
 use Rattle.scan.proofs.Lasting.{Leaves, Everywhere, ended, letter, lasts}
-use Rattle.layouts.specs.Reading.{ticksOf, bounded, judge, readLayout}
+use Rattle.judging.specs.Reading.{ticksOf, bounded, judge, readLayout}
 use Rattle.layouts.proofs.Valid.{Valid, Fine, Suits, fine-refusal, fine-pick, fine-on-calendar}
 
 never : false ≡ true → ⊥
@@ -36,7 +36,7 @@ pair-leaves P p a b f = record { year = λ q. absurd (a q); fraction = λ q. abs
 
 -- a fraction is less than a second
 abbrev Short : Scan → Type 0
-Short t = t .part < parts
+Short t = t .part < secondTicks
 
 placed-short : (p : ℕ) (t : Scan) (g : Pair) → Short t → Short (placed p t g)
 unfolding placed
@@ -116,7 +116,7 @@ fine-bounded k long negative year x f = go long negative (leb year maxYear) refl
     go false false true d e g = simp (d, e, g) f
     go false false false d e g = simp (d, e, g) (fine-refusal k _)
 
-fine-judge : (k : Kind) (n : ℕ) (t : Scan) → t .part < parts
+fine-judge : (k : Kind) (n : ℕ) (t : Scan) → t .part < secondTicks
     → Suits k (record { year = t .year; month = t .month; day = t .day }) (ticksOf (t .hour) (t .minute) (t .second) (t .part)) → Fine k (judge k n t)
 unfolding judge
 fine-judge k n t l e =

@@ -10,19 +10,19 @@ use lib.ListN.{length, drop}
 use borrow.Author.Tests.{le-leb}
 use Rattle.basis.specs.Choice.{both, every}
 use Rattle.calendar.specs.declared.Date.{Date}
-use Rattle.value.specs.Bounds.{maxYear, maxZone, parts}
+use Rattle.value.specs.Bounds.{maxYear, maxZone, secondTicks}
 use Rattle.value.specs.Values.{okDate, okZone, okDateTime}
 use Rattle.value.specs.declared.Offset.the-variants.{East, West}
 use Rattle.value.specs.declared.Zone.{Zone}
 use Rattle.value.specs.declared.Zone.the-variants.{Absent, At}
 use Rattle.value.specs.declared.DateTime.{DateTime}
 use Rattle.value.specs.declared.Kind.{Kind}
-use Rattle.value.proofs.Good.{east-to, west-to}
+use Rattle.instants.proofs.Within.{east-to, west-to}
 use Rattle.scan.specs.declared.Scan.{Scan}
 use Rattle.scan.specs.Scanning.{whole, isPair, placed, scanned}
-use Rattle.layouts.specs.Reading.{maxHour, maxMinute, valued, placedOn, okClock, ticksOf, clocked, okParts, zoneIs, onCalendar, judge}
+use Rattle.judging.specs.Reading.{maxHour, maxMinute, valued, placedOn, okClock, ticksOf, clocked, okParts, zoneIs, onCalendar, judge}
 use Rattle.layouts.specs.Writing.{pairOf, partText, textBy}
-use Rattle.layouts.proofs.Ways.{past-checks}
+use Rattle.judging.proofs.Ways.{past-checks}
 use Rattle.layouts.proofs.Keeping.{zoneKept, partKept, allKept, recordOf, sane, Small, small}
 use Rattle.layouts.proofs.Round.{Through, through}
 
@@ -61,9 +61,9 @@ module _ (p : ℕ) (v : DateTime) (m : Small v) (t : Scan) (b : Sound t) where
 
   sound : Sound (partKept p v t)
   unfolding partKept
-  sound = go (eqb p 89) (eqb p 102) (eqb p 122) (isPair p) (eqb (v .micros % parts) 0) refl refl refl refl refl
+  sound = go (eqb p 89) (eqb p 102) (eqb p 122) (isPair p) (eqb (v .micros % secondTicks) 0) refl refl refl refl refl
     where
-      go : (x y z w u : Bool) → eqb p 89 ≡ x → eqb p 102 ≡ y → eqb p 122 ≡ z → isPair p ≡ w → eqb (v .micros % parts) 0 ≡ u → Sound (partKept p v t)
+      go : (x y z w u : Bool) → eqb p 89 ≡ x → eqb p 102 ≡ y → eqb p 122 ≡ z → isPair p ≡ w → eqb (v .micros % secondTicks) 0 ≡ u → Sound (partKept p v t)
       go true y z w u e f h j k = rw e (record { plus = refl; short = b .short; year = m .year; hour = b .hour; minute = b .minute; second = b .second; zm = b .zm; offset = b .offset })
       go false true z w true e f h j k = rw (e, f, k) b
       go false true z w false e f h j k = rw (e, f, k) (record { plus = b .plus; short = refl; year = b .year; hour = b .hour; minute = b .minute; second = b .second; zm = b .zm; offset = b .offset })

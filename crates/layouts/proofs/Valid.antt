@@ -16,7 +16,7 @@ use Rattle.calendar.specs.declared.Dated.the-variants.{On, Later}
 use Rattle.calendar.proofs.Years.{years-grow, year-starts, year-ends}
 use Rattle.calendar.proofs.Dates.{date-good, day-date}
 use Rattle.calendar.proofs.Answers.{OnTime, on-says}
-use Rattle.value.specs.Bounds.{minYear, maxYear, maxMicros, maxZone, parts}
+use Rattle.value.specs.Bounds.{minYear, maxYear, maxMicros, maxZone, secondTicks}
 use Rattle.value.specs.Values.{okDate, okOffset, okZone, okDateTime}
 use Rattle.value.specs.Kinds.{okValue, kindOf}
 use Rattle.value.specs.declared.Offset.the-variants.{East, West}
@@ -29,7 +29,7 @@ use Rattle.value.specs.declared.Value.{Value}
 use Rattle.value.specs.declared.Value.the-variants as VV
 use Rattle.value.proofs.Good.{GoodDay, good-day, day-ok}
 use Rattle.value.proofs.KindParts.{kept-of-kind}
-use Rattle.layouts.specs.Reading.{maxHour, maxMinute, valued, placedOn, startOfDay, nextDay, okClock, isDayEnd, ticksOf, clocked, okParts, zoneIs, onCalendar}
+use Rattle.judging.specs.Reading.{maxHour, maxMinute, valued, placedOn, startOfDay, nextDay, okClock, isDayEnd, ticksOf, clocked, okParts, zoneIs, onCalendar}
 
 -- a value within the bounds, of a kind
 pub record Valid (k : Kind) (v : Value) : Type 0 where
@@ -126,14 +126,14 @@ fine-next KV.DateTime d z u o g e = go (datedOf (dayOf d + 1) maxYear) refl
 fine-next KV.DayTimeDuration d z u o g e = fine-refusal KV.DayTimeDuration 1
 fine-next KV.YearMonthDuration d z u o g e = fine-refusal KV.YearMonthDuration 1
 
-clock-small : (h m s u : ℕ) → okClock h m s ≡ true → u < parts → ticksOf h m s u ≤ maxMicros
+clock-small : (h m s u : ℕ) → okClock h m s ≡ true → u < secondTicks → ticksOf h m s u ≤ maxMicros
 unfolding okClock every ticksOf
 clock-small h m s u e l =
     let e1 = both-right _ _ e in
     omega (arith, leb-true h maxHour (both-left _ _ e), leb-true m maxMinute (both-left _ _ e1), leb-true s maxMinute (both-left _ _ (both-right _ _ e1)))
 
 -- the checks of the calendar, the clock and the zone leave valid values alone
-pub fine-on-calendar : (k : Kind) (d : Date) (h m s u sign zh zm : ℕ) → u < parts → Suits k d (ticksOf h m s u) → Fine k (onCalendar k d h m s u sign zh zm)
+pub fine-on-calendar : (k : Kind) (d : Date) (h m s u sign zh zm : ℕ) → u < secondTicks → Suits k d (ticksOf h m s u) → Fine k (onCalendar k d h m s u sign zh zm)
 unfolding onCalendar clocked okParts every
 fine-on-calendar k d h m s u sign zh zm l e =
     fine-pick k (okDate (d .year) (d .month) (d .day)) _ _

@@ -7,7 +7,7 @@ use Prim.Native.Char.{code}
 use lib.Dec.{eqb}
 use lib.ListN.{length}
 use Rattle.basis.specs.Choice.{pick}
-use Rattle.value.specs.Bounds.{parts, minuteSeconds, hourMinutes, minuteTicks, hourTicks}
+use Rattle.value.specs.Bounds.{secondTicks, minuteSeconds, hourMinutes, minuteTicks, hourTicks}
 use Rattle.value.specs.declared.Offset.{Offset}
 use Rattle.value.specs.declared.Offset.the-variants.{East, West}
 use Rattle.value.specs.declared.Zone.{Zone}
@@ -35,12 +35,12 @@ unfoldable pub pairOf : ℕ → DateTime → ℕ
 pairOf p d =
     pick (eqb p (code "M")) (d .month)
     (pick (eqb p (code "D")) (d .day)
-    (pick (eqb p (code "h")) (d .micros / hourTicks) (pick (eqb p (code "m")) (d .micros / minuteTicks % hourMinutes) (d .micros / parts % minuteSeconds))))
+    (pick (eqb p (code "h")) (d .micros / hourTicks) (pick (eqb p (code "m")) (d .micros / minuteTicks % hourMinutes) (d .micros / secondTicks % minuteSeconds))))
 
 unfoldable pub partText : ℕ → DateTime → List ℕ
 partText p d =
     pick (eqb p (code "Y")) (digits yearDigits (d .year))
-    (pick (eqb p (code "f")) (fractionText (d .micros % parts))
+    (pick (eqb p (code "f")) (fractionText (d .micros % secondTicks))
     (pick (eqb p (code "z")) (zoneText (d .zone)) (pick (isPair p) (digits 2 (pairOf p d)) (p ∷ []))))
 
 unfoldable pub textBy : List ℕ → DateTime → List ℕ

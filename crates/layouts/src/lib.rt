@@ -5,10 +5,9 @@ use value::Kind;
 use value::Outcome;
 ghost use mathlib.Core.Path.{_≡_};
 ghost use Rattle.value.specs.Kinds.{meaning};
-ghost use Rattle.layouts.specs.Reading.{readLayout};
+ghost use Rattle.judging.specs.Reading.{readLayout};
 ghost use Rattle.layouts.specs.Writing.{textOf, Holds};
 
-mod judging; // judging.rt: document 01's checks of the parts that were found
 mod writing; // writing.rt: the parts of a record as text
 
 // What a text of a kind reads as. The durations have no layout, so that for their kinds every text is refused with 1.

@@ -8,16 +8,16 @@ use Rattle.calendar.specs.Calendar.{total, place, dateOf}
 use Rattle.value.specs.Bounds.{minuteTicks, hourTicks}
 use Rattle.value.specs.Values.{okDate, okOffset, okZone, okDateTime, okSigned}
 use Rattle.value.specs.Kinds.{ofKind, okValue}
-use Rattle.value.specs.Ticks.{utc, localOf, inYears, placedAt}
+use Rattle.instants.specs.Ticks.{utc, localOf, inYears, placedAt}
 use Rattle.value.specs.declared.Offset.the-variants.{East}
 use Rattle.value.specs.declared.Zone.{Zone}
 use Rattle.value.specs.declared.Zone.the-variants.{Absent, At}
 use Rattle.value.specs.declared.Value.{Value}
 use Rattle.value.specs.declared.Value.the-variants.{Date, Time, DateTime, DayTime}
-use Rattle.shifting.specs.Results.{atTicks}
-use Rattle.operation.specs.Order.{orderIn}
+use Rattle.quantities.specs.Results.{atTicks}
+use Rattle.ordering.specs.Order.{orderIn}
 use Rattle.arithmetic.specs.Products.{productOf, timesOf}
-use Rattle.operation.specs.Adjustment.{isZone, adjustedFrom, momentTo, operandTo, adjustOf}
+use Rattle.adjusting.specs.Adjustment.{isZone, adjustedFrom, momentTo, operandTo, adjustOf}
 
 abbrev date : ℕ → ℕ → ℕ → Value
 date y m d = Date (record { year = y; month = m; day = d; micros = 0; zone = Absent })

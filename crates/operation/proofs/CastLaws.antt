@@ -12,7 +12,7 @@ use Rattle.value.specs.declared.Kind.the-variants as KV
 use Rattle.value.specs.declared.Value.{Value}
 use Rattle.value.specs.declared.Value.the-variants as VV
 use Rattle.value.proofs.KindParts.{of-kind-kept}
-use Rattle.shifting.specs.Operands.{operandOf, kindNumber, sameKind}
+use Rattle.quantities.specs.Operands.{operandOf, kindNumber, sameKind}
 use Rattle.operation.specs.Casts.{castsAcross, castsTo, castTo, castOf}
 
 to-itself : (k : Kind) → castsTo k k ≡ true

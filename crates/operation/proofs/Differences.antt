@@ -9,10 +9,10 @@ use borrow.Author.Tests.{ltb-true, ltb-false, eq-eqb, ne-eqb, eqb-true}
 use Rattle.basis.specs.Choice.{pick, both}
 use Rattle.basis.specs.Answer.{gives, refuses}
 use Rattle.value.specs.Refusals.{outside, wrongKind, beyondResult}
-use Rattle.value.specs.Durations.{plus, minus, apart, lessTicks, lessMonths}
+use Rattle.value.specs.Durations.{plusHalf, minusHalf, apart, lessTicks, lessMonths}
 use Rattle.value.specs.Values.{okDayTime, okYearMonth}
 use Rattle.value.specs.Kinds.{kindOf, okValue}
-use Rattle.value.specs.Ticks.{instantOf}
+use Rattle.instants.specs.Ticks.{instantOf}
 use Rattle.value.specs.declared.Offset.{Offset}
 use Rattle.value.specs.declared.DateTime.{DateTime}
 use Rattle.value.specs.declared.DayTime as D
@@ -20,15 +20,15 @@ use Rattle.value.specs.declared.YearMonth as Y
 use Rattle.value.specs.declared.Kind.{Kind}
 use Rattle.value.specs.declared.Value.{Value}
 use Rattle.value.specs.declared.Value.the-variants as VV
-use Rattle.shifting.specs.Operands.{operandOf, kindNumber, sameKind}
-use Rattle.shifting.specs.Results.{inTicks, inMonths}
-use Rattle.shifting.specs.declared.Operand.{Operand}
-use Rattle.shifting.specs.declared.Operand.the-variants.{Moment, DayTime, YearMonth}
-use Rattle.shifting.proofs.Given.{given-rest, gives-same}
+use Rattle.quantities.specs.Operands.{operandOf, kindNumber, sameKind}
+use Rattle.quantities.specs.Results.{inTicks, inMonths}
+use Rattle.quantities.specs.declared.Operand.{Operand}
+use Rattle.quantities.specs.declared.Operand.the-variants.{Moment, DayTime, YearMonth}
+use Rattle.quantities.proofs.Given.{given-rest, gives-same}
 use Rattle.arithmetic.specs.Sums.{opposite, oppositeMonths, sumOf, lessMoment, differenceIn, minusIn}
 use Rattle.arithmetic.proofs.Opposites.{plus-opposite, minus-opposite}
-use Rattle.operation.specs.Order.{Order, less, equal, greater, up, down, order, operandOrder, orderIn}
-use Rattle.operation.proofs.OrderLaws.{Comparable, ordered, comparable}
+use Rattle.ordering.specs.Order.{Order, less, equal, greater, up, down, order, operandOrder, orderIn}
+use Rattle.ordering.proofs.OrderLaws.{Comparable, ordered, comparable}
 
 -- how a duration stands to zero, by its sign and magnitude; the other values have neither
 abbrev signOrder : Bool → ℕ → Order
@@ -101,20 +101,20 @@ module _ (o : Offset) where
   operand-sign (DayTime t) (DayTime s) v h g =
       let p = plus-opposite (s .negative) (s .micros) in
       let q = minus-opposite (s .negative) (s .micros) in
-      let f : inTicks (plus (t .negative) (t .micros) + minus (s .negative) (s .micros)) (minus (t .negative) (t .micros) + plus (s .negative) (s .micros)) ≡ gives v
-      = sym (λ i. inTicks (plus (t .negative) (t .micros) + p i) (minus (t .negative) (t .micros) + q i)) ∙ g in
+      let f : inTicks (plusHalf (t .negative) (t .micros) + minusHalf (s .negative) (s .micros)) (minusHalf (t .negative) (t .micros) + plusHalf (s .negative) (s .micros)) ≡ gives v
+      = sym (λ i. inTicks (plusHalf (t .negative) (t .micros) + p i) (minusHalf (t .negative) (t .micros) + q i)) ∙ g in
       ticks-order _ _ v f
-      ∙ swapped (plus (t .negative) (t .micros)) (minus (t .negative) (t .micros)) (plus (s .negative) (s .micros)) (minus (s .negative) (s .micros))
+      ∙ swapped (plusHalf (t .negative) (t .micros)) (minusHalf (t .negative) (t .micros)) (plusHalf (s .negative) (s .micros)) (minusHalf (s .negative) (s .micros))
   operand-sign (DayTime t) (YearMonth n) v h g = cc
   operand-sign (YearMonth m) (Moment k e) v h g = cc
   operand-sign (YearMonth m) (DayTime s) v h g = cc
   operand-sign (YearMonth m) (YearMonth n) v h g =
       let p = plus-opposite (n .negative) (n .months) in
       let q = minus-opposite (n .negative) (n .months) in
-      let f : inMonths (plus (m .negative) (m .months) + minus (n .negative) (n .months)) (minus (m .negative) (m .months) + plus (n .negative) (n .months)) ≡ gives v
-      = sym (λ i. inMonths (plus (m .negative) (m .months) + p i) (minus (m .negative) (m .months) + q i)) ∙ g in
+      let f : inMonths (plusHalf (m .negative) (m .months) + minusHalf (n .negative) (n .months)) (minusHalf (m .negative) (m .months) + plusHalf (n .negative) (n .months)) ≡ gives v
+      = sym (λ i. inMonths (plusHalf (m .negative) (m .months) + p i) (minusHalf (m .negative) (m .months) + q i)) ∙ g in
       months-order _ _ v f
-      ∙ swapped (plus (m .negative) (m .months)) (minus (m .negative) (m .months)) (plus (n .negative) (n .months)) (minus (n .negative) (n .months))
+      ∙ swapped (plusHalf (m .negative) (m .months)) (minusHalf (m .negative) (m .months)) (plusHalf (n .negative) (n .months)) (minusHalf (n .negative) (n .months))
 
   -- what the comparison answers is how the difference stands to zero
   pub order-by-difference : (a b v : Value) (r : Order) → orderIn o a b ≡ gives r → minusIn o a b ≡ gives v → toZero v ≡ r

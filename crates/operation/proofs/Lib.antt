@@ -1,10 +1,6 @@
-pub mod Reach
-pub mod Zones
-pub mod Answers
 pub mod Validity
 pub mod CastLaws
 pub mod Keeping
-pub mod OrderLaws
 pub mod Differences
 pub mod TimeLaws
 pub mod Numbers

@@ -8,7 +8,7 @@ use Rattle.basis.specs.Choice.{pick, both}
 use Rattle.basis.specs.Answer.{Answer, gives, refuses}
 use Rattle.value.specs.Refusals.{outside, wrongKind, badZone, beyondResult}
 use Rattle.value.specs.Kinds.{kindOf, okValue}
-use Rattle.value.specs.Ticks.{localOf, instantAt}
+use Rattle.instants.specs.Ticks.{localOf, instantAt}
 use Rattle.value.specs.declared.Offset.{Offset}
 use Rattle.value.specs.declared.Zone.{Zone}
 use Rattle.value.specs.declared.Zone.the-variants.{Absent, At}
@@ -16,13 +16,13 @@ use Rattle.value.specs.declared.DateTime.{DateTime}
 use Rattle.value.specs.declared.Kind.{Kind}
 use Rattle.value.specs.declared.Value.{Value}
 use Rattle.value.proofs.Numbers.{among, only, only-either, only-refused}
-use Rattle.shifting.specs.Operands.{operandOf, sameKind}
-use Rattle.shifting.specs.declared.Operand.{Operand}
-use Rattle.shifting.specs.declared.Operand.the-variants.{Moment, DayTime, YearMonth}
-use Rattle.shifting.proofs.Numbers.{placed-numbers}
-use Rattle.operation.specs.Order.{operandOrder, orderIn}
+use Rattle.quantities.specs.Operands.{operandOf, sameKind}
+use Rattle.quantities.specs.declared.Operand.{Operand}
+use Rattle.quantities.specs.declared.Operand.the-variants.{Moment, DayTime, YearMonth}
+use Rattle.quantities.proofs.Numbers.{placed-numbers}
+use Rattle.ordering.specs.Order.{operandOrder, orderIn}
 use Rattle.operation.specs.Casts.{castsTo, castTo, castOf}
-use Rattle.operation.specs.Adjustment.{isZone, zoneOf, localAt, adjustedFrom, momentTo, operandTo, adjustOf, withoutZone, unzoneOf}
+use Rattle.adjusting.specs.Adjustment.{isZone, zoneOf, localAt, adjustedFrom, momentTo, operandTo, adjustOf, withoutZone, unzoneOf}
 
 abbrev pub kindNumbers : List ℕ
 kindNumbers = outside ∷ wrongKind ∷ []

@@ -14,30 +14,31 @@ use Rattle.calendar.proofs.Years.{years-grow, year-up-to, days-up-to}
 use Rattle.value.specs.Bounds.{minYear, maxYear, maxZone, maxMicros, minuteTicks, dayTicks}
 use Rattle.value.specs.Refusals.{outside, badZone}
 use Rattle.value.specs.Values.{okOffset}
-use Rattle.value.specs.Durations.{plus, minus}
+use Rattle.value.specs.Durations.{plusHalf, minusHalf}
 use Rattle.value.specs.Kinds.{kept, okValue}
-use Rattle.value.specs.Ticks.{localOf, atLocal, inYears, instantAt, east, west}
+use Rattle.instants.specs.Ticks.{localOf, atLocal, inYears, instantAt, east, west}
 use Rattle.value.specs.declared.Offset.{Offset}
 use Rattle.value.specs.declared.Zone.the-variants.{At}
 use Rattle.value.specs.declared.DateTime.{DateTime}
 use Rattle.value.specs.declared.DayTime as D
 use Rattle.value.specs.declared.Kind.the-variants as KV
 use Rattle.value.specs.declared.Value.the-variants as VV
-use Rattle.value.proofs.Good.{good, east-to, west-to}
+use Rattle.value.proofs.Good.{good}
+use Rattle.instants.proofs.Within.{east-to, west-to}
 use Rattle.value.proofs.KindParts.{time-good, of-kind-kept}
 use Rattle.shifting.specs.Shifts.{wrapped, shifted}
 use Rattle.shifting.proofs.Undo.{placed-gives}
 use Rattle.arithmetic.specs.Sums.{sumOf, plusOf}
-use Rattle.operation.specs.Adjustment.{isZone, zoneOf, localAt, adjustedFrom, adjustedTo, momentTo, operandTo, adjustOf}
+use Rattle.adjusting.specs.Adjustment.{isZone, zoneOf, localAt, adjustedFrom, adjustedTo, momentTo, operandTo, adjustOf}
 use Rattle.operation.proofs.Keeping.{referenceDay, on-reference}
-use Rattle.operation.proofs.Zones.{zone-ok, own-zone}
+use Rattle.adjusting.proofs.Zones.{zone-ok, own-zone}
 
 pub time-plus-given : (d : DateTime) (t : D.DayTime) → okValue (VV.Time d) ≡ true → okValue (VV.DayTime t) ≡ true
-    → plusOf (VV.Time d) (VV.DayTime t) ≡ gives (VV.Time (wrapped d (plus (t .negative) (t .micros)) (minus (t .negative) (t .micros))))
+    → plusOf (VV.Time d) (VV.DayTime t) ≡ gives (VV.Time (wrapped d (plusHalf (t .negative) (t .micros)) (minusHalf (t .negative) (t .micros))))
 unfolding plusOf sumOf shifted
 time-plus-given d t g h =
     let b : both (okValue (VV.Time d)) (okValue (VV.DayTime t)) ≡ true = both-true _ _ g h in
-    λ i. pick (b i) (gives (VV.Time (wrapped d (plus (t .negative) (t .micros)) (minus (t .negative) (t .micros))))) (refuses outside)
+    λ i. pick (b i) (gives (VV.Time (wrapped d (plusHalf (t .negative) (t .micros)) (minusHalf (t .negative) (t .micros))))) (refuses outside)
 
 -- a local time whose day is between the first and the last of the years
 in-years-by : (t : ℕ) → total yearDays minYear ≤ t / dayTicks → t / dayTicks < total yearDays (maxYear + 1) → inYears t ≡ true

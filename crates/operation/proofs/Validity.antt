@@ -7,7 +7,7 @@ use Rattle.basis.proofs.Tests.{both-left, both-right, both-true}
 use Rattle.value.specs.Refusals.{outside, wrongKind, badZone}
 use Rattle.value.specs.Values.{okDateTime, okOffset, okZone}
 use Rattle.value.specs.Kinds.{kindOf, ofKind, okValue}
-use Rattle.value.specs.Ticks.{localOf, instantAt}
+use Rattle.instants.specs.Ticks.{localOf, instantAt}
 use Rattle.value.specs.declared.Offset.{Offset}
 use Rattle.value.specs.declared.Zone.{Zone}
 use Rattle.value.specs.declared.Zone.the-variants.{Absent, At}
@@ -16,15 +16,15 @@ use Rattle.value.specs.declared.Kind.{Kind}
 use Rattle.value.specs.declared.Kind.the-variants as KV
 use Rattle.value.specs.declared.Value.{Value}
 use Rattle.value.proofs.Good.{good, record-ok}
-use Rattle.shifting.specs.Operands.{operandOf, valueOf}
-use Rattle.shifting.specs.declared.Operand.{Operand}
-use Rattle.shifting.specs.declared.Operand.the-variants.{Moment, DayTime, YearMonth}
-use Rattle.shifting.proofs.Shapes.{valueBack, moment-ok}
-use Rattle.shifting.proofs.Given.{valid, valid-given, valid-pick, valid-test}
+use Rattle.quantities.specs.Operands.{operandOf, valueOf}
+use Rattle.quantities.specs.declared.Operand.{Operand}
+use Rattle.quantities.specs.declared.Operand.the-variants.{Moment, DayTime, YearMonth}
+use Rattle.quantities.proofs.Shapes.{valueBack, moment-ok}
+use Rattle.quantities.proofs.Given.{valid, valid-given, valid-pick, valid-test}
 use Rattle.shifting.proofs.Valid.{kept-valid, placed-valid}
 use Rattle.operation.specs.Casts.{castsTo, castTo, castOf}
-use Rattle.operation.specs.Adjustment.{isZone, zoneOf, localAt, withZone, adjustedFrom, momentTo, operandTo, adjustOf, withoutZone, unzoneOf}
-use Rattle.operation.proofs.Zones.{zone-ok}
+use Rattle.adjusting.specs.Adjustment.{isZone, zoneOf, localAt, withZone, adjustedFrom, momentTo, operandTo, adjustOf, withoutZone, unzoneOf}
+use Rattle.adjusting.proofs.Zones.{zone-ok}
 use Rattle.arithmetic.proofs.Validity.{operand-ok, left-ok, right-ok}
 
 -- casts

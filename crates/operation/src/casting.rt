@@ -1,11 +1,11 @@
 // Which kind casts to which, and what it keeps.
-use shifting::Operand;
-use shifting::operands;
+use quantities::Operand;
+use quantities::operands;
 use value::Kind;
 use value::Value;
 use value::kinds;
 ghost use mathlib.Core.Path.{_≡_};
-ghost use Rattle.shifting.specs.Operands.{operandOf};
+ghost use Rattle.quantities.specs.Operands.{operandOf};
 ghost use Rattle.operation.specs.Casts as the;
 
 fn casts_across(from: Kind, to: Kind) -> bool

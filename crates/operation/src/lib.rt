@@ -2,7 +2,8 @@
 // Each call checks what it is given (16), then the kinds (9), an adjustment's zone (5), and the result (4).
 use arithmetic::products;
 use arithmetic::sums;
-use shifting::results;
+use ordering::Compared;
+use quantities::results;
 use value::Kind;
 use value::Offset;
 use value::Outcome;
@@ -11,24 +12,14 @@ use value::Value;
 use value::valid;
 ghost use mathlib.Core.Path.{_≡_};
 ghost use Rattle.value.specs.Kinds.{meaning};
-ghost use Rattle.value.specs.Ticks.{utc};
-ghost use Rattle.operation.specs.Order as order;
+ghost use Rattle.instants.specs.Ticks.{utc};
+ghost use Rattle.ordering.specs.Order as order;
 ghost use Rattle.arithmetic.specs.Sums as sums;
 ghost use Rattle.arithmetic.specs.Products as products;
 ghost use Rattle.operation.specs.Casts as casts;
-ghost use Rattle.operation.specs.Adjustment as adjustment;
+ghost use Rattle.adjusting.specs.Adjustment as adjustment;
 
-pub mod adjusting; // adjusting.rt: a value in another zone, or in none
 pub mod casting; // casting.rt: which kind casts to which
-pub mod ordering; // ordering.rt: what a value is ordered by
-
-// What a call that compares answers.
-pub enum Compared {
-    Less,
-    Equal,
-    Greater,
-    Refused(Refusal),
-}
 
 // The zone that values without one count in.
 fn zone_for_none() -> Offset

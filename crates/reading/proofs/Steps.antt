@@ -6,7 +6,7 @@ use Prim.Native.Nat.{ℕ, zero, suc, _-_}
 use native.Mathlib.Omega.{arith}
 use Rattle.value.specs.declared.Kind.{Kind}
 use Rattle.symbols.specs.Symbols.{orAt, andAt, comparisonAt, signAt, startAt, heldAt, multiplierAt, closingAt}
-use Rattle.givens.specs.Givens.{literalPart, fieldPart, castPart, timesPart, twoPart, afterPart}
+use Rattle.results.specs.Parts.{literalPart, fieldPart, castPart, timesPart, twoPart, afterPart}
 use Rattle.results.specs.declared.Part.{Part}
 use Rattle.givens.specs.declared.Mode.{Mode}
 use Rattle.grammar.specs.Grammar.{closedAt, inner, conditionIn, conditionMoreIn, clauseIn, clauseMoreIn, testIn, sumIn, sumMoreIn, termIn, termMoreIn, factorIn, heldIn}

@@ -7,11 +7,11 @@ use Rattle.basis.specs.Choice.{pick, both}
 use Rattle.basis.specs.Answer.{Answer, gives, refuses}
 use Rattle.value.specs.Kinds.{kindOf, okValue}
 use Rattle.value.specs.Refusals.{wrongKind}
-use Rattle.value.specs.Ticks.{utc}
+use Rattle.instants.specs.Ticks.{utc}
 use Rattle.value.specs.declared.Kind.{Kind}
 use Rattle.value.specs.declared.Value.{Value}
-use Rattle.shifting.specs.Operands.{operandOf, sameKind}
-use Rattle.operation.specs.Order.{orderIn, operandOrder}
+use Rattle.quantities.specs.Operands.{operandOf, sameKind}
+use Rattle.ordering.specs.Order.{orderIn, operandOrder}
 use Rattle.operation.specs.Casts.{castsTo, castTo, castOf}
 use Rattle.arithmetic.specs.Sums.{plusOf, minusIn}
 use Rattle.arithmetic.specs.Products.{timesOf}

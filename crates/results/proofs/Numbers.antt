@@ -22,7 +22,7 @@ use Rattle.value.specs.declared.Kind.the-variants as K
 use Rattle.value.specs.declared.Value.{Value}
 use Rattle.scan.specs.declared.Scan.{Scan}
 use Rattle.scan.specs.Scanning.{whole, partsOf}
-use Rattle.layouts.specs.Reading as layouts
+use Rattle.judging.specs.Reading as layouts
 use Rattle.durations.specs.Walks.{counted, readBy, shape, asValue}
 use Rattle.durations.specs.Forms.{Form, dayTime, yearMonth}
 use Rattle.durations.specs.declared.Shape.{Shape}

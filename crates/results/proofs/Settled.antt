@@ -14,19 +14,19 @@ use Rattle.value.specs.Refusals.{wrongKind}
 use Rattle.value.specs.Values.{okDayTime, okYearMonth}
 use Rattle.value.specs.Durations.{lessTicks, lessMonths}
 use Rattle.value.specs.Kinds.{hasDate, kindOf, okValue, kept}
-use Rattle.value.specs.Ticks.{placedAt, localOf}
+use Rattle.instants.specs.Ticks.{placedAt, localOf}
 use Rattle.value.specs.declared.Offset.{Offset}
 use Rattle.value.specs.declared.DateTime.{DateTime}
 use Rattle.value.specs.declared.Kind.{Kind}
 use Rattle.value.specs.declared.Kind.the-variants as K
 use Rattle.value.specs.declared.Value.{Value}
 use Rattle.value.specs.declared.Value.the-variants as V′
-use Rattle.value.specs.declared.Placed.{Placed}
-use Rattle.value.specs.declared.Placed.the-variants as P
-use Rattle.shifting.specs.Operands.{operandOf, valueOf, sameKind}
-use Rattle.shifting.specs.Results.{inTicks, inMonths, ofPlaced, atTicks}
+use Rattle.instants.specs.declared.Placed.{Placed}
+use Rattle.instants.specs.declared.Placed.the-variants as P
+use Rattle.quantities.specs.Operands.{operandOf, valueOf, sameKind}
+use Rattle.quantities.specs.Results.{inTicks, inMonths, ofPlaced, atTicks}
 use Rattle.shifting.specs.Shifts.{monthOf, inMonth, movedTo, moved, wrapped, shifted}
-use Rattle.operation.specs.Order.{orderIn, operandOrder}
+use Rattle.ordering.specs.Order.{orderIn, operandOrder}
 use Rattle.arithmetic.specs.Sums.{sumOf, plusOf, lessMoment, differenceIn, minusIn}
 use Rattle.arithmetic.specs.Products.{productOf, timesOf, maxFactor}
 use Rattle.operation.specs.Casts.{castsTo, castTo, castOf}

@@ -7,10 +7,10 @@ use Prim.Native.Nat.{ℕ, _≤_}
 use Rattle.basis.specs.Answer.{refuses}
 use Rattle.value.specs.Kinds.{kindOf, okValue}
 use Rattle.value.specs.Refusals.{wrongKind}
-use Rattle.value.specs.Ticks.{utc}
+use Rattle.instants.specs.Ticks.{utc}
 use Rattle.value.specs.declared.Kind.{Kind}
 use Rattle.value.specs.declared.Value.{Value}
-use Rattle.operation.specs.Order.{orderIn}
+use Rattle.ordering.specs.Order.{orderIn}
 use Rattle.operation.specs.Casts.{castOf}
 use Rattle.arithmetic.specs.Sums.{plusOf, minusIn}
 use Rattle.arithmetic.specs.Products.{timesOf, maxFactor}

@@ -2,6 +2,7 @@
 use crate::Part;
 use givens::Mode;
 use sorts::Sort;
+use symbols::Op;
 use value::Kind;
 ghost use mathlib.Core.Path.{_≡_};
 ghost use Rattle.results.specs.Parts as the;

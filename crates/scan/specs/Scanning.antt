@@ -9,7 +9,7 @@ use lib.Dec.{eqb, ltb}
 use lib.ListN.{length}
 use Rattle.basis.specs.Choice.{both, every, pick}
 use Rattle.basis.specs.Letters.{bytes}
-use Rattle.value.specs.Bounds.{maxYear, parts, minuteSeconds, hourMinutes, minuteTicks, hourTicks}
+use Rattle.value.specs.Bounds.{maxYear, secondTicks, minuteSeconds, hourMinutes, minuteTicks, hourTicks}
 use Rattle.value.specs.Kinds.{template}
 use Rattle.value.specs.declared.DateTime.{DateTime}
 use Rattle.value.specs.declared.Kind.{Kind}
@@ -39,7 +39,7 @@ found n y mo d h mi se u l z zh zm i g =
 -- before the first byte: the template's fields, for the parts that the kind has not, and no zone
 abbrev pub startOf : DateTime → Scan
 startOf d =
-    found false (d .year) (d .month) (d .day) (d .micros / hourTicks) (d .micros / minuteTicks % hourMinutes) (d .micros / parts % minuteSeconds) (d .micros % parts) false 0 0 0 0 true
+    found false (d .year) (d .month) (d .day) (d .micros / hourTicks) (d .micros / minuteTicks % hourMinutes) (d .micros / secondTicks % minuteSeconds) (d .micros % secondTicks) false 0 0 0 0 true
 
 abbrev pub reached : Scan → ℕ → Bool → Scan
 reached t i g = found (t .negative) (t .year) (t .month) (t .day) (t .hour) (t .minute) (t .second) (t .part) (t .long) (t .sign) (t .zh) (t .zm) i g

@@ -361,7 +361,7 @@ fn start(kind: Kind) -> Scan
     ensures { λ r. ⌜ r ≡ startOf (template kind) ⌝ }
 {
     let d = value::kinds::template(kind);
-    let parts = Span::PARTS as u64;
+    let parts = Span::TICKS as u64;
     Scan {
         negative: false,
         year: d.year,

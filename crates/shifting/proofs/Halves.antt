@@ -4,39 +4,39 @@ use mathlib.Core.Bool.{Bool, true, false}
 use Prim.Native.Nat.{ℕ, _+_, _-_, _%_, _≤_}
 use native.Mathlib.Omega.{arith}
 use Rattle.value.specs.Bounds.{dayTicks}
-use Rattle.value.specs.Durations.{plus, minus}
+use Rattle.value.specs.Durations.{plusHalf, minusHalf}
 use Rattle.shifting.specs.Shifts.{wrappedMicros}
 
-pub plus-to : (n : Bool) (m : ℕ) → plus n m ≤ m
+pub plus-to : (n : Bool) (m : ℕ) → plusHalf n m ≤ m
 plus-to true m = omega arith
 plus-to false m = omega arith
 
-pub minus-to : (n : Bool) (m : ℕ) → minus n m ≤ m
+pub minus-to : (n : Bool) (m : ℕ) → minusHalf n m ≤ m
 minus-to true m = omega arith
 minus-to false m = omega arith
 
 -- a negative number taken off, and another added
-pub taken-off : (l m : ℕ) (n : Bool) → n ≡ true → l - m ≡ l + plus n m - minus n m
-taken-off l m n e = sym ((λ i. l + plus (e i) m - minus (e i) m) ∙ plain)
+pub taken-off : (l m : ℕ) (n : Bool) → n ≡ true → l - m ≡ l + plusHalf n m - minusHalf n m
+taken-off l m n e = sym ((λ i. l + plusHalf (e i) m - minusHalf (e i) m) ∙ plain)
   where
     plain : l + 0 - m ≡ l - m
     plain = omega arith
 
-pub added-on : (l m : ℕ) (n : Bool) → n ≡ false → l + m ≡ l + plus n m - minus n m
-added-on l m n e = sym ((λ i. l + plus (e i) m - minus (e i) m) ∙ plain)
+pub added-on : (l m : ℕ) (n : Bool) → n ≡ false → l + m ≡ l + plusHalf n m - minusHalf n m
+added-on l m n e = sym ((λ i. l + plusHalf (e i) m - minusHalf (e i) m) ∙ plain)
   where
     plain : l + m - 0 ≡ l + m
     plain = omega arith
 
 -- the same round the day
-pub taken-round : (u m : ℕ) (n : Bool) → n ≡ true → (u + (dayTicks - m % dayTicks)) % dayTicks ≡ wrappedMicros u (plus n m) (minus n m)
-taken-round u m n e = sym ((λ i. wrappedMicros u (plus (e i) m) (minus (e i) m)) ∙ plain)
+pub taken-round : (u m : ℕ) (n : Bool) → n ≡ true → (u + (dayTicks - m % dayTicks)) % dayTicks ≡ wrappedMicros u (plusHalf n m) (minusHalf n m)
+taken-round u m n e = sym ((λ i. wrappedMicros u (plusHalf (e i) m) (minusHalf (e i) m)) ∙ plain)
   where
     plain : wrappedMicros u 0 m ≡ (u + (dayTicks - m % dayTicks)) % dayTicks
     plain = omega arith
 
-pub added-round : (u m : ℕ) (n : Bool) → n ≡ false → (u + m % dayTicks) % dayTicks ≡ wrappedMicros u (plus n m) (minus n m)
-added-round u m n e = sym ((λ i. wrappedMicros u (plus (e i) m) (minus (e i) m)) ∙ plain)
+pub added-round : (u m : ℕ) (n : Bool) → n ≡ false → (u + m % dayTicks) % dayTicks ≡ wrappedMicros u (plusHalf n m) (minusHalf n m)
+added-round u m n e = sym ((λ i. wrappedMicros u (plusHalf (e i) m) (minusHalf (e i) m)) ∙ plain)
   where
     plain : wrappedMicros u m 0 ≡ (u + m % dayTicks) % dayTicks
     plain = omega arith

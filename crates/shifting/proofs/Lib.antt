@@ -1,11 +1,6 @@
-pub mod Shapes
-pub mod Spanned
 pub mod Halves
-pub mod Bounded
 pub mod Steps
 pub mod Lengths
-pub mod Given
-pub mod Numbers
 pub mod Valid
 pub mod Undo
 pub mod Still

@@ -7,12 +7,13 @@ use Rattle.calendar.specs.Calendar.{total, yearDays, dayOf}
 use Rattle.calendar.proofs.Years.{years-grow, year-starts}
 use Rattle.value.specs.Bounds.{minYear, maxDayTime, dayTicks}
 use Rattle.value.specs.Values.{okOffset, okDateTime}
-use Rattle.value.specs.Components.{dateIn}
-use Rattle.value.specs.Ticks.{localOf, instantOf}
+use Rattle.value.specs.Values.{dateIn}
+use Rattle.instants.specs.Ticks.{localOf, instantOf}
 use Rattle.value.specs.declared.Offset.{Offset}
 use Rattle.value.specs.declared.DateTime.{DateTime}
-use Rattle.value.proofs.Good.{good, timed}
-use Rattle.value.proofs.Instants.{record-near}
+use Rattle.value.proofs.Good.{good}
+use Rattle.instants.proofs.Within.{timed}
+use Rattle.instants.proofs.Instants.{record-near}
 
 -- the first year comes after a whole year
 two-days : 2 ≤ total yearDays minYear

@@ -7,15 +7,15 @@ use Rattle.basis.specs.Choice.{pick, both}
 use Rattle.basis.specs.Answer.{gives, refuses}
 use Rattle.calendar.specs.Calendar.{dateOf, place}
 use Rattle.value.specs.Refusals.{beyondResult, wrongKind}
-use Rattle.value.specs.Durations.{plus, minus}
+use Rattle.value.specs.Durations.{plusHalf, minusHalf}
 use Rattle.value.specs.Kinds.{hasDate}
-use Rattle.value.specs.Ticks.{localOf, inYears, placedAt}
+use Rattle.instants.specs.Ticks.{localOf, inYears, placedAt}
 use Rattle.value.specs.declared.Zone.{Zone}
 use Rattle.value.specs.declared.DateTime.{DateTime}
 use Rattle.value.specs.declared.Kind.{Kind}
 use Rattle.value.specs.declared.Value.{Value}
-use Rattle.shifting.specs.Operands.{valueOf}
-use Rattle.shifting.specs.Results.{atTicks}
+use Rattle.quantities.specs.Operands.{valueOf}
+use Rattle.quantities.specs.Results.{atTicks}
 use Rattle.shifting.specs.Shifts.{monthOf, movedTo, moved, wrapped, shifted}
 use Rattle.shifting.proofs.Halves.{taken-off}
 
@@ -28,7 +28,7 @@ nothing-moved : (k : Kind) (d : DateTime) → refuses beyondResult ≡ movedTo k
 unfolding movedTo both
 nothing-moved k d = refl
 
-pub before-ticks : (k : Kind) (z : Zone) (l m : ℕ) (n : Bool) → n ≡ true → l < m → refuses beyondResult ≡ atTicks k (l + plus n m - minus n m) z
+pub before-ticks : (k : Kind) (z : Zone) (l m : ℕ) (n : Bool) → n ≡ true → l < m → refuses beyondResult ≡ atTicks k (l + plusHalf n m - minusHalf n m) z
 before-ticks k z l m n e h =
     let y : 0 ≡ l - m = omega arith in
     nothing-placed k z ∙ ap (λ (t : ℕ). atTicks k t z) (y ∙ taken-off l m n e)

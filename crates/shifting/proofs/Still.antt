@@ -13,7 +13,7 @@ use Rattle.value.specs.Bounds.{minYear, maxYear, maxMicros}
 use Rattle.value.specs.Refusals.{beyondResult}
 use Rattle.value.specs.Values.{okDateTime}
 use Rattle.value.specs.Kinds.{kept, okValue}
-use Rattle.value.specs.Ticks.{localOf}
+use Rattle.instants.specs.Ticks.{localOf}
 use Rattle.value.specs.declared.DateTime.{DateTime}
 use Rattle.value.specs.declared.DayTime as D
 use Rattle.value.specs.declared.YearMonth as Y
@@ -22,10 +22,10 @@ use Rattle.value.specs.declared.Kind.the-variants as KV
 use Rattle.value.specs.declared.Value.{Value}
 use Rattle.value.specs.declared.Value.the-variants as VV
 use Rattle.value.proofs.Good.{good}
-use Rattle.value.proofs.Locals.{local-in-years, placed-of-local}
+use Rattle.instants.proofs.Locals.{local-in-years, placed-of-local}
 use Rattle.value.proofs.KindParts.{of-kind-kept, date-good, time-good}
-use Rattle.shifting.specs.Operands.{valueOf}
-use Rattle.shifting.specs.Results.{atTicks}
+use Rattle.quantities.specs.Operands.{valueOf}
+use Rattle.quantities.specs.Results.{atTicks}
 use Rattle.shifting.specs.Shifts.{monthOf, inMonth, movedTo, moved, movedBy, wrapped, wrappedMicros, shifted, shiftedBy}
 use Rattle.shifting.proofs.Undo.{placed-gives}
 

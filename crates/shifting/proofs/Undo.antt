@@ -11,19 +11,19 @@ use Rattle.calendar.specs.Calendar.{dateOf, place}
 use Rattle.value.specs.Bounds.{maxMicros, dayTicks}
 use Rattle.value.specs.Values.{okDateTime}
 use Rattle.value.specs.Kinds.{kept, ofKind}
-use Rattle.value.specs.Ticks.{localOf, atLocal, inYears, placedAt}
+use Rattle.instants.specs.Ticks.{localOf, atLocal, inYears, placedAt}
 use Rattle.value.specs.declared.Zone.{Zone}
 use Rattle.value.specs.declared.DateTime.{DateTime}
 use Rattle.value.specs.declared.Kind.{Kind}
 use Rattle.value.specs.declared.Kind.the-variants as KV
 use Rattle.value.specs.declared.Value.{Value}
 use Rattle.value.specs.declared.Value.the-variants as VV
-use Rattle.value.specs.declared.Placed.the-variants as PV
+use Rattle.instants.specs.declared.Placed.the-variants as PV
 use Rattle.value.proofs.Good.{good}
-use Rattle.value.proofs.Locals.{local-of-placed, local-in-years, placed-of-local}
+use Rattle.instants.proofs.Locals.{local-of-placed, local-in-years, placed-of-local}
 use Rattle.value.proofs.KindParts.{of-kind-kept}
-use Rattle.shifting.specs.Operands.{valueOf}
-use Rattle.shifting.specs.Results.{atTicks, ofPlaced}
+use Rattle.quantities.specs.Operands.{valueOf}
+use Rattle.quantities.specs.Results.{atTicks, ofPlaced}
 use Rattle.shifting.specs.Shifts.{wrapped, wrappedMicros, shifted}
 
 -- a result placed within the years, and one that was given

@@ -12,24 +12,24 @@ use Rattle.value.specs.Bounds.{minYear, maxYear}
 use Rattle.value.specs.Refusals.{beyondResult}
 use Rattle.value.specs.Values.{okDate, okZone, okDateTime, okDayTime, okYearMonth}
 use Rattle.value.specs.Durations.{lessTicks, lessMonths}
-use Rattle.value.specs.Components.{dateIn}
+use Rattle.value.specs.Values.{dateIn}
 use Rattle.value.specs.Kinds.{kept, ofKind, okValue}
-use Rattle.value.specs.Ticks.{localOf, atLocal, inYears, placedAt}
+use Rattle.instants.specs.Ticks.{localOf, atLocal, inYears, placedAt}
 use Rattle.value.specs.declared.Zone.{Zone}
 use Rattle.value.specs.declared.DateTime.{DateTime}
 use Rattle.value.specs.declared.Kind.{Kind}
 use Rattle.value.specs.declared.Kind.the-variants as KV
 use Rattle.value.specs.declared.Value.the-variants as VV
-use Rattle.value.specs.declared.Placed.the-variants as PV
+use Rattle.instants.specs.declared.Placed.the-variants as PV
 use Rattle.value.proofs.Good.{good, good-day, record-ok}
-use Rattle.value.proofs.Locals.{placed-ok}
+use Rattle.instants.proofs.Locals.{placed-ok}
 use Rattle.value.proofs.KindParts.{of-kind-kept, kept-of-kind, kept-again}
-use Rattle.shifting.specs.Operands.{valueOf}
-use Rattle.shifting.specs.Results.{inTicks, inMonths, atTicks, ofPlaced}
+use Rattle.quantities.specs.Operands.{valueOf}
+use Rattle.quantities.specs.Results.{inTicks, inMonths, atTicks, ofPlaced}
 use Rattle.shifting.specs.Shifts.{monthOf, inMonth, movedTo, moved, wrapped, shifted}
 use Rattle.shifting.proofs.Lengths.{month-has-day}
-use Rattle.shifting.proofs.Given.{valid, valid-test}
-use Rattle.shifting.proofs.Shapes.{moment-ok}
+use Rattle.quantities.proofs.Given.{valid, valid-test}
+use Rattle.quantities.proofs.Shapes.{moment-ok}
 
 pub ticks-valid : (p q : ℕ) → valid (inTicks p q) ≡ true
 unfolding inTicks okValue

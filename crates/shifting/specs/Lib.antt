@@ -1,3 +1,1 @@
-pub mod Operands
-pub mod Results
 pub mod Shifts

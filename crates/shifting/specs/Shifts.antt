@@ -7,16 +7,16 @@ use Rattle.basis.specs.Answer.{Answer, gives, refuses}
 use Rattle.calendar.specs.Calendar.{monthDays, monthCount}
 use Rattle.value.specs.Bounds.{minYear, maxYear, dayTicks}
 use Rattle.value.specs.Refusals.{beyondResult, wrongKind}
-use Rattle.value.specs.Durations.{plus, minus}
+use Rattle.value.specs.Durations.{plusHalf, minusHalf}
 use Rattle.value.specs.Kinds.{hasDate}
-use Rattle.value.specs.Ticks.{localOf}
+use Rattle.instants.specs.Ticks.{localOf}
 use Rattle.value.specs.declared.DateTime.{DateTime}
 use Rattle.value.specs.declared.DayTime as D
 use Rattle.value.specs.declared.YearMonth as Y
 use Rattle.value.specs.declared.Kind.{Kind}
 use Rattle.value.specs.declared.Value.{Value}
-use Rattle.shifting.specs.Operands.{valueOf}
-use Rattle.shifting.specs.Results.{atTicks}
+use Rattle.quantities.specs.Operands.{valueOf}
+use Rattle.quantities.specs.Results.{atTicks}
 
 -- dateTime ± yearMonthDuration: months move, the day is cut to the new month's last day, time and zone stay.
 -- Dates likewise. Months are counted from January of year 0; before it there is 0, which is beyond the years too.
@@ -60,7 +60,7 @@ shifted k d p q = pick (hasDate k) (atTicks k (localOf d + p - q) (d .zone)) (gi
 
 -- a date, time or dateTime and a duration
 abbrev pub shiftedBy : Kind → DateTime → D.DayTime → Answer Value
-shiftedBy k d t = shifted k d (plus (t .negative) (t .micros)) (minus (t .negative) (t .micros))
+shiftedBy k d t = shifted k d (plusHalf (t .negative) (t .micros)) (minusHalf (t .negative) (t .micros))
 
 abbrev pub movedBy : Kind → DateTime → Y.YearMonth → Answer Value
-movedBy k d m = moved k d (plus (m .negative) (m .months)) (minus (m .negative) (m .months))
+movedBy k d m = moved k d (plusHalf (m .negative) (m .months)) (minusHalf (m .negative) (m .months))

@@ -1,6 +1,6 @@
 // A yearMonthDuration added to a date or a dateTime: months move, the day is cut to the new month's last day.
-use crate::operands;
-use crate::results;
+use quantities::operands;
+use quantities::results;
 use value::DateTime;
 use value::Kind;
 use value::Outcome;

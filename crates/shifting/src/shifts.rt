@@ -1,14 +1,14 @@
 // A dayTimeDuration added to a date, time or dateTime, in local time.
-use crate::operands;
-use crate::results;
+use instants::spans;
+use instants::ticks;
+use quantities::operands;
+use quantities::results;
 use value::DateTime;
 use value::DayTime;
 use value::Kind;
 use value::Outcome;
 use value::Refusal;
 use value::kinds;
-use value::spans;
-use value::ticks;
 ghost use mathlib.Core.Path.{_≡_};
 ghost use mathlib.Core.Bool.{true};
 ghost use Prim.Native.Nat.{_+_, _-_, _<_, _≤_};
@@ -16,8 +16,8 @@ ghost use Rattle.value.specs.Bounds.{maxDayTime, dayTicks};
 ghost use Rattle.value.specs.Durations as halves;
 ghost use Rattle.value.specs.Values.{okDateTime};
 ghost use Rattle.value.specs.Kinds.{meaning};
-ghost use Rattle.value.specs.Ticks.{localOf};
-ghost use Rattle.shifting.specs.Results.{atTicks};
+ghost use Rattle.instants.specs.Ticks.{localOf};
+ghost use Rattle.quantities.specs.Results.{atTicks};
 ghost use Rattle.shifting.specs.Shifts as the;
 
 const DAY: u64 = DateTime::MAX_MICROS + 1;
@@ -26,7 +26,7 @@ const DAY: u64 = DateTime::MAX_MICROS + 1;
 // all the years.
 fn wrapped_micros(micros: u64, t: DayTime) -> u64
     requires { ⌜ micros < dayTicks ⌝ }
-    ensures { λ r. ⌜ r ≡ the.wrappedMicros micros (halves.plus (t .negative) (t .micros)) (halves.minus (t .negative) (t .micros)) ⌝ }
+    ensures { λ r. ⌜ r ≡ the.wrappedMicros micros (halves.plusHalf (t .negative) (t .micros)) (halves.minusHalf (t .negative) (t .micros)) ⌝ }
 {
     let part = t.micros % DAY;
     if t.negative {
@@ -37,7 +37,7 @@ fn wrapped_micros(micros: u64, t: DayTime) -> u64
 
 fn wrapped(d: DateTime, t: DayTime) -> DateTime
     requires { ⌜ okDateTime d ≡ true ⌝ }
-    ensures { λ r. ⌜ r ≡ the.wrapped d (halves.plus (t .negative) (t .micros)) (halves.minus (t .negative) (t .micros)) ⌝ }
+    ensures { λ r. ⌜ r ≡ the.wrapped d (halves.plusHalf (t .negative) (t .micros)) (halves.minusHalf (t .negative) (t .micros)) ⌝ }
 {
     let zone = d.zone;
     DateTime {
@@ -52,7 +52,7 @@ fn wrapped(d: DateTime, t: DayTime) -> DateTime
 // The local time after a duration, of a kind that has a date.
 fn local_shifted(kind: Kind, d: DateTime, t: DayTime) -> Outcome
     requires { ⌜ (okDateTime d ≡ true) × (t .micros ≤ maxDayTime) ⌝ }
-    ensures { λ r. ⌜ meaning r ≡ atTicks kind (localOf d + halves.plus (t .negative) (t .micros) - halves.minus (t .negative) (t .micros)) (d .zone) ⌝ }
+    ensures { λ r. ⌜ meaning r ≡ atTicks kind (localOf d + halves.plusHalf (t .negative) (t .micros) - halves.minusHalf (t .negative) (t .micros)) (d .zone) ⌝ }
 {
     let zone = d.zone;
     let local = ticks::local(d);

@@ -4,7 +4,7 @@ use mathlib.Core.Bool.{Bool, true, false, not}
 use Rattle.value.specs.Kinds.{hasDate, hasTime}
 use Rattle.value.specs.declared.Kind.{Kind}
 use Rattle.value.specs.declared.Kind.the-variants as K
-use Rattle.shifting.specs.Operands.{sameKind}
+use Rattle.quantities.specs.Operands.{sameKind}
 use Rattle.operation.specs.Casts.{castsTo}
 use Rattle.symbols.specs.declared.Op.{Op}
 use Rattle.symbols.specs.declared.Op.the-variants as O

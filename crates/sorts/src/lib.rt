@@ -1,6 +1,6 @@
 // What the text alone settles of a condition's parts: which kinds fit each operation (document 01, "Conditions").
 use operation::casting::casts_to;
-use shifting::operands::same_kind;
+use quantities::operands::same_kind;
 use symbols::Op;
 use value::Kind;
 use value::kinds::has_date;

@@ -23,7 +23,7 @@ use Rattle.value.specs.declared.Value.{Value}
 use Rattle.value.proofs.Numbers.{among, only, only-either, only-refused}
 use Rattle.scan.specs.declared.Scan.{Scan}
 use Rattle.scan.specs.Scanning.{whole, partsOf}
-use Rattle.layouts.specs.Reading as layouts
+use Rattle.judging.specs.Reading as layouts
 use Rattle.durations.specs.Walks.{counted, readBy, shape, asValue}
 use Rattle.durations.specs.Forms.{Form, dayTime, yearMonth}
 use Rattle.durations.specs.declared.Shape.{Shape}

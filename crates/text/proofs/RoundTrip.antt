@@ -11,16 +11,16 @@ use Rattle.basis.specs.Choice.{both, every}
 use Rattle.basis.specs.Answer.{Answer, gives, refuses}
 use Rattle.basis.proofs.Tests.{both-left, both-right}
 use Rattle.value.specs.Bounds.{maxDayTime, maxYearMonth}
-use Rattle.value.specs.Durations.{plus, minus, apart}
+use Rattle.value.specs.Durations.{plusHalf, minusHalf, apart}
 use Rattle.value.specs.Kinds.{kindOf, okValue, template}
-use Rattle.value.specs.Ticks.{utc, instantOf}
+use Rattle.instants.specs.Ticks.{utc, instantOf}
 use Rattle.value.specs.Values.{okDate, okOffset, okZone, okDateTime, okSigned}
 use Rattle.value.specs.declared.DateTime.{DateTime}
 use Rattle.value.specs.declared.Kind.{Kind}
 use Rattle.value.specs.declared.Kind.the-variants as KV
 use Rattle.value.specs.declared.Value.{Value}
 use Rattle.value.specs.declared.Value.the-variants as VV
-use Rattle.value.proofs.Instants.{same-instant}
+use Rattle.instants.proofs.Instants.{same-instant}
 use Rattle.value.proofs.KindParts.{kept-of-kind}
 use Rattle.value.proofs.Signs.{signed-back, same-difference}
 use Rattle.numerals.specs.Writing.{longest}
@@ -98,8 +98,8 @@ moment-ok (VV.YearMonth d) g = refl
 
 Signed : Value → Type 0
 Signed v =
-    (ltb (plus (signOf v) (magnitudeOf v)) (minus (signOf v) (magnitudeOf v)) ≡ signOf v)
-    × (apart (plus (signOf v) (magnitudeOf v)) (minus (signOf v) (magnitudeOf v)) ≡ magnitudeOf v)
+    (ltb (plusHalf (signOf v) (magnitudeOf v)) (minusHalf (signOf v) (magnitudeOf v)) ≡ signOf v)
+    × (apart (plusHalf (signOf v) (magnitudeOf v)) (minusHalf (signOf v) (magnitudeOf v)) ≡ magnitudeOf v)
 
 signed-is : (v : Value) → okValue v ≡ true → Signed v
 unfolding Signed okValue
@@ -118,7 +118,7 @@ pub alike-is-same : (v w : Value) → okValue v ≡ true → okValue w ≡ true 
 unfolding Signed
 alike-is-same v w gv gw k a =
     let m : momentOf v ≡ momentOf w = same-instant utc (momentOf v) (momentOf w) utc-ok (moment-ok v gv) (moment-ok w gw) (a .zone) (a .instant) in
-    let d = same-difference (plus (signOf v) (magnitudeOf v)) (minus (signOf v) (magnitudeOf v)) (plus (signOf w) (magnitudeOf w)) (minus (signOf w) (magnitudeOf w)) (a .number) in
+    let d = same-difference (plusHalf (signOf v) (magnitudeOf v)) (minusHalf (signOf v) (magnitudeOf v)) (plusHalf (signOf w) (magnitudeOf w)) (minusHalf (signOf w) (magnitudeOf w)) (a .number) in
     let s : signOf v ≡ signOf w = sym (signed-is v gv .0) ∙ d .0 ∙ signed-is w gw .0 in
     let n : magnitudeOf v ≡ magnitudeOf w = sym (signed-is v gv .1) ∙ d .1 ∙ signed-is w gw .1 in
     sym (rebuilt-is v) ∙ (λ i. rebuilt (k i) (m i) (s i) (n i)) ∙ rebuilt-is w

@@ -3,9 +3,9 @@
 use mathlib.Core.Bool.{Bool, false}
 use mathlib.Core.Path.{_≡_}
 use Prim.Native.Nat.{ℕ, _+_}
-use Rattle.value.specs.Durations.{plus, minus}
+use Rattle.value.specs.Durations.{plusHalf, minusHalf}
 use Rattle.value.specs.Kinds.{template}
-use Rattle.value.specs.Ticks.{utc, instantOf}
+use Rattle.instants.specs.Ticks.{utc, instantOf}
 use Rattle.value.specs.declared.DateTime.{DateTime}
 use Rattle.value.specs.declared.Kind.the-variants as KV
 use Rattle.value.specs.declared.Value.{Value}
@@ -37,4 +37,4 @@ magnitudeOf (VV.YearMonth m) = m .months
 pub record Alike (v w : Value) : Type 0 where
   pub zone : momentOf v .zone ≡ momentOf w .zone
   pub instant : instantOf utc (momentOf v) ≡ instantOf utc (momentOf w)
-  pub number : plus (signOf v) (magnitudeOf v) + minus (signOf w) (magnitudeOf w) ≡ plus (signOf w) (magnitudeOf w) + minus (signOf v) (magnitudeOf v)
+  pub number : plusHalf (signOf v) (magnitudeOf v) + minusHalf (signOf w) (magnitudeOf w) ≡ plusHalf (signOf w) (magnitudeOf w) + minusHalf (signOf v) (magnitudeOf v)

@@ -1,12 +1,6 @@
 pub mod Answers
 pub mod Good
-pub mod Instants
-pub mod Locals
 pub mod Signs
-pub mod SignedNumbers
-pub mod TwoParts
 pub mod KindParts
-pub mod PartsGiven
-pub mod PlacedBy
 pub mod Numbers
 pub mod Cases

@@ -3,5 +3,3 @@ pub mod Refusals
 pub mod Values
 pub mod Durations
 pub mod Kinds
-pub mod Ticks
-pub mod Components

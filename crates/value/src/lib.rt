@@ -1,4 +1,4 @@
-// The values of the five kinds: records, bounds, makers, validity, components, and the spans of time between them.
+// The values of the five kinds: records, bounds, makers and validity.
 use calendar::Date;
 ghost use mathlib.Core.Path.{_≡_};
 ghost use Rattle.value.specs.Kinds.{made, meaning, kindOf, template};
@@ -6,10 +6,7 @@ ghost use Rattle.value.specs.declared.Kind.the-variants as KV;
 ghost use Rattle.value.specs.declared.Value.the-variants as VV;
 
 pub mod bounds; // bounds.rt: each constant is the number of the definitions
-pub mod parts; // parts.rt: the parts of a value, for library callers
 pub mod kinds; // kinds.rt: which parts a kind has
-pub mod spans; // spans.rt: spans of time, as whole seconds and a part of a second
-pub mod ticks; // ticks.rt: local time and instant of a record, and the record at a local time
 pub mod valid; // valid.rt: which records are within the bounds
 
 // Minutes from UTC. Zero minutes are east.
@@ -77,41 +74,6 @@ pub struct Span {
     pub part: u32,
 }
 
-// The record at a local time, or that the time is beyond the years.
-pub enum Placed {
-    At(DateTime),
-    Beyond,
-}
-
-// The time of day by its fields.
-pub struct Clock {
-    pub hours: u8,
-    pub minutes: u8,
-    pub seconds: u8,
-    pub micros: u32,
-}
-
-// The six parts of a duration, the seconds with their fraction beside them. None is above zero if the duration is negative,
-// none below if it is not.
-pub struct Lasting {
-    pub years: i32,
-    pub months: i32,
-    pub days: i32,
-    pub hours: i32,
-    pub minutes: i32,
-    pub seconds: i32,
-    pub micros: i32,
-}
-
-// The parts that a value's kind has.
-pub enum Components {
-    Date(Date, Zone),
-    Time(Clock, Zone),
-    DateTime(Date, Clock, Zone),
-    Duration(Lasting),
-    Refused(Refusal),
-}
-
 impl Refusal {
     pub const BAD_TEXT: u8 = 1;
 
@@ -148,7 +110,7 @@ impl Refusal {
 
 impl Span {
     // The ticks of a second: a part is below this.
-    pub const PARTS: u32 = 1_000_000;
+    pub const TICKS: u32 = 1_000_000;
 
     // The seconds of a minute, the minutes of an hour, the hours of a day.
     pub const MINUTE: u64 = 60;

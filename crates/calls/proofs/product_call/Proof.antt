@@ -4,9 +4,9 @@ use Rattle.timetable.specs.Fields.{fieldAt}
 use Rattle.value.specs.declared.Value.{Value}
 use Rattle.text.specs.Writing.{textOf}
 use Rattle.arithmetic.specs.Products.{timesOf}
-use Rattle.calls.specs.Asked.{hasMinus, magnitudeOf}
+use Rattle.asking.specs.Asked.{hasMinus, magnitudeOf}
 use Rattle.calls.specs.Answers.{said, textBy}
-use Rattle.calls.proofs.Wholes.{times-said}
+use Rattle.asking.proofs.Wholes.{times-said}
 use Rattle.calls.proofs.Saying.{was-read, was-refused, renamed}
 use borrow.Author.Needs.{needs}
 use Rattle.calls.proofs.product_call.Statement.{statement}

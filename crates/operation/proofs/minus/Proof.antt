@@ -3,7 +3,7 @@ use borrow.Author.Needs.{needs}
 use Rattle.value.specs.Values.{okOffset}
 use Rattle.value.specs.declared.Offset.{Offset}
 use Rattle.arithmetic.specs.Sums.{minusIn}
-use Rattle.operation.proofs.Zones.{utc-good}
+use Rattle.adjusting.proofs.Zones.{utc-good}
 use Rattle.operation.proofs.minus.Statement.{statement}
 use Rattle.operation.proofs.minus.Tie as tie
 

@@ -10,67 +10,52 @@ use Rattle.durations.proofs.read_day_time.Reads as read-day-time-reads
 use Rattle.durations.proofs.read_year_month.Reads as read-year-month-reads
 use Rattle.layouts.proofs.read_layout.Reads as read-layout-reads
 
--- src/lib.rt:25:44
 enum-told : tie.Need-enum-told
 enum-told c = search needs
 
--- src/lib.rt:25:23
 read-layout-requires : tie.Need-read-layout-requires
 read-layout-requires c κs = search needs
 
--- src/lib.rt:26:44
 enum-told-2 : tie.Need-enum-told-2
 enum-told-2 c = search needs
 
--- src/lib.rt:26:23
 read-layout-requires-2 : tie.Need-read-layout-requires-2
 read-layout-requires-2 c κs = search needs
 
--- src/lib.rt:27:48
 enum-told-3 : tie.Need-enum-told-3
 enum-told-3 c = search needs
 
--- src/lib.rt:27:27
 read-layout-requires-3 : tie.Need-read-layout-requires-3
 read-layout-requires-3 c κs = search needs
 
--- src/lib.rt:29:17
 enum-told-4 : tie.Need-enum-told-4
 enum-told-4 c = search needs
 
--- src/lib.rt:29:17
 read-day-time-requires : tie.Need-read-day-time-requires
 read-day-time-requires c κs = search needs
 
--- src/lib.rt:34:17
 enum-told-5 : tie.Need-enum-told-5
 enum-told-5 c = search needs
 
--- src/lib.rt:34:17
 read-year-month-requires : tie.Need-read-year-month-requires
 read-year-month-requires c κs = search needs
 
--- src/lib.rt:21:1
 returns : tie.Need-returns
 unfolding readAs
 returns c = c .read-layout .ensures ∙ ap (λ (k : Kind). readAs k (c .before .before .before .before .args .s .now)) (sym (c .before .enum-told .given .1))
 
--- src/lib.rt:21:1
 returns-2 : tie.Need-returns-2
 unfolding readAs
 returns-2 c = c .read-layout2 .ensures ∙ ap (λ (k : Kind). readAs k (c .before .before .before .before .args .s .now)) (sym (c .before .enum-told2 .given .1))
 
--- src/lib.rt:21:1
 returns-3 : tie.Need-returns-3
 unfolding readAs
 returns-3 c = c .read-layout3 .ensures ∙ ap (λ (k : Kind). readAs k (c .before .before .before .before .args .s .now)) (sym (c .before .enum-told3 .given .1))
 
--- src/lib.rt:21:1
 returns-4 : tie.Need-returns-4
 unfolding readAs
 returns-4 c = c .read-day-time .ensures .0 ∙ ap (λ (k : Kind). readAs k (c .before .before .before .before .args .s .now)) (sym (c .before .enum-told4 .given .1))
 
--- src/lib.rt:21:1
 returns-5 : tie.Need-returns-5
 unfolding readAs
 returns-5 c = c .read-year-month .ensures .0 ∙ ap (λ (k : Kind). readAs k (c .before .before .before .before .args .s .now)) (sym (c .before .enum-told5 .given .1))

@@ -9,67 +9,52 @@ use Rattle.durations.proofs.day_time_text.Reads as day-time-text-reads
 use Rattle.durations.proofs.year_month_text.Reads as year-month-text-reads
 use Rattle.layouts.proofs.layout_text.Reads as layout-text-reads
 
--- src/lib.rt:45:21
 enum-known-v : tie.Need-enum-known-v
 enum-known-v c = search needs
 
--- src/lib.rt:45:27
 layout-text-requires : tie.Need-layout-text-requires
 layout-text-requires c κs = search needs
 
--- src/lib.rt:46:21
 enum-known-v-2 : tie.Need-enum-known-v-2
 enum-known-v-2 c = search needs
 
--- src/lib.rt:46:27
 layout-text-requires-2 : tie.Need-layout-text-requires-2
 layout-text-requires-2 c κs = search needs
 
--- src/lib.rt:47:25
 enum-known-v-3 : tie.Need-enum-known-v-3
 enum-known-v-3 c = search needs
 
--- src/lib.rt:47:31
 layout-text-requires-3 : tie.Need-layout-text-requires-3
 layout-text-requires-3 c κs = search needs
 
--- src/lib.rt:48:24
 enum-known-v-4 : tie.Need-enum-known-v-4
 enum-known-v-4 c = search needs
 
--- src/lib.rt:48:30
 day-time-text-requires : tie.Need-day-time-text-requires
 day-time-text-requires c κs = search needs
 
--- src/lib.rt:49:26
 enum-known-v-5 : tie.Need-enum-known-v-5
 enum-known-v-5 c = search needs
 
--- src/lib.rt:49:32
 year-month-text-requires : tie.Need-year-month-text-requires
 year-month-text-requires c κs = search needs
 
--- src/lib.rt:41:1
 returns : tie.Need-returns
 unfolding textOf
 returns c = holds-as _ _ _ (c .before .before .v .given .1) (c .layout-text .ensures)
 
--- src/lib.rt:41:1
 returns-2 : tie.Need-returns-2
 unfolding textOf
 returns-2 c = holds-as _ _ _ (c .before .before .v2 .given .1) (c .layout-text2 .ensures)
 
--- src/lib.rt:41:1
 returns-3 : tie.Need-returns-3
 unfolding textOf
 returns-3 c = holds-as _ _ _ (c .before .before .v3 .given .1) (c .layout-text3 .ensures)
 
--- src/lib.rt:41:1
 returns-4 : tie.Need-returns-4
 unfolding textOf
 returns-4 c = holds-as _ _ _ (c .before .before .v4 .given .1) (record { text = c .day-time-text .ensures .0; own = c .day-time-text .ensures .1; fits = c .day-time-text .ensures .2 })
 
--- src/lib.rt:41:1
 returns-5 : tie.Need-returns-5
 unfolding textOf
 returns-5 c = holds-as _ _ _ (c .before .before .v5 .given .1) (record { text = c .year-month-text .ensures .0; own = c .year-month-text .ensures .1; fits = c .year-month-text .ensures .2 })

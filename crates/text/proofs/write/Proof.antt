@@ -10,39 +10,30 @@ use Rattle.bytes.proofs.copy.Reads as copy-reads
 use Rattle.text.proofs.text_of.Reads as text-of-reads
 use Rattle.value.proofs.valid.value_ok.Reads as value-ok-reads
 
--- src/lib.rt:58:9
 value-ok-requires : tie.Need-value-ok-requires
 value-ok-requires c κs = search needs
 
--- src/lib.rt:59:9
 returns : tie.Need-returns
 returns c = outside-leaves (c .before .before .before .args .v) (c .before .before .before .args .room .now) (no (c .before .value-ok .ensures) (c .if1 .taken))
 
--- src/lib.rt:61:9
 text-of-requires : tie.Need-text-of-requires
 text-of-requires c κs = search needs
 
--- src/lib.rt:65:9
 returns-2 : tie.Need-returns-2
 returns-2 c = no-room-leaves (c .before .before .before .before .before .before .args .v) (c .before .before .before .before .before .before .args .room .now) (good (c .before .before .before .before .value-ok .ensures) (c .before .before .before .if1 .left)) _ (c .before .before .text-of .ensures .own) (c .if2 .taken)
 
--- src/lib.rt:67:17
 array-share-prefix-bytes : tie.Need-array-share-prefix-bytes
 array-share-prefix-bytes c = own-length (c .before .before .text-of .result) _ (c .before .before .text-of .ensures) .1
 
--- src/lib.rt:67:17
 slice-aggregate-copy : tie.Need-slice-aggregate-copy
 slice-aggregate-copy c = own-length (c .before .before .before .text-of .result) _ (c .before .before .before .text-of .ensures) .0
 
--- src/lib.rt:67:5
 copy-requires : tie.Need-copy-requires
 copy-requires c κs = let o = own-length (c .before .before .before .before .text-of .result) _ (c .before .before .before .before .text-of .ensures) in omega (arith, o .0, c .before .before .if2 .left)
 
--- src/lib.rt:54:1
 same-length : tie.Need-same-length
 same-length c = search needs
 
--- src/lib.rt:54:1
 returns-3 : tie.Need-returns-3
 returns-3 c = copied (c .before .before .before .before .before .before .before .before .before .before .before .args .v) (c .before .before .before .before .before .before .before .before .before .before .before .args .room .now) (good (c .before .before .before .before .before .before .before .before .before .value-ok .ensures) (c .before .before .before .before .before .before .before .before .if1 .left)) _ (c .before .before .before .before .before .before .before .text-of .ensures .own) (c .before .before .before .before .before .if2 .left) _ _ (c .before .before .before .before .before .before .before .text-of .ensures .text) (c .before .before .copy .ensures .1)
 

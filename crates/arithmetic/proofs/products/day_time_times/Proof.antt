@@ -1,10 +1,10 @@
 use Prim.Native.Nat.{ℕ, _*_}
-use Rattle.value.specs.Ticks.{spanOf}
+use Rattle.instants.specs.Ticks.{spanOf}
 use Rattle.arithmetic.specs.Products.{productOf}
-use Rattle.shifting.specs.Results.{inTicks}
+use Rattle.quantities.specs.Results.{inTicks}
 use native.Mathlib.Omega.{arith}
 use mathlib.Core.Path.{_≡_, ap, _∙_}
-use Rattle.shifting.proofs.Spanned.{part-of, spans-in-ticks}
+use Rattle.quantities.proofs.Spanned.{part-of, spans-in-ticks}
 use Rattle.shifting.proofs.Halves.{plus-to, minus-to}
 use Rattle.arithmetic.proofs.Opposites.{times-minus, times-plus}
 use borrow.Author.Needs.{needs}

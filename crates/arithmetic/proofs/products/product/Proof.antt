@@ -1,4 +1,4 @@
-use Rattle.shifting.proofs.Shapes.{day-time-within}
+use Rattle.quantities.proofs.Shapes.{day-time-within}
 use Rattle.arithmetic.specs.Products.{productOf}
 use borrow.Author.Needs.{needs}
 use Rattle.arithmetic.proofs.products.product.Statement.{statement}

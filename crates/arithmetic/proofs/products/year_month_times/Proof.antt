@@ -1,6 +1,6 @@
 use Prim.Native.Nat.{_*_, _≤_}
 use Rattle.arithmetic.specs.Products.{productOf}
-use Rattle.shifting.specs.Results.{inMonths}
+use Rattle.quantities.specs.Results.{inMonths}
 use native.Mathlib.Nat.{mul-le-mul-right}
 use native.Mathlib.Omega.{arith}
 use mathlib.Core.Path.{_≡_, _∙_}

@@ -1,7 +1,7 @@
-use Rattle.shifting.specs.declared.Operand.the-variants.{DayTime}
+use Rattle.quantities.specs.declared.Operand.the-variants.{DayTime}
 use mathlib.Core.Path.{_≡_, ap, sym, _∙_}
-use Rattle.shifting.proofs.Spanned.{part-of, spans-in-ticks}
-use Rattle.shifting.proofs.Shapes.{moment-good, day-time-within}
+use Rattle.quantities.proofs.Spanned.{part-of, spans-in-ticks}
+use Rattle.quantities.proofs.Shapes.{moment-good, day-time-within}
 use Rattle.arithmetic.specs.Sums.{sumOf}
 use borrow.Author.Needs.{needs}
 use Rattle.arithmetic.proofs.sums.day_time_plus.Statement.{statement}

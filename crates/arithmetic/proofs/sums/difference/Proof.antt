@@ -4,7 +4,7 @@ use Rattle.value.specs.declared.YearMonth as Y
 use Rattle.value.specs.declared.DayTime as D
 use mathlib.Core.Path.{_≡_, ap, _∙_}
 use Rattle.arithmetic.proofs.Opposites.{opposite-ok, opposite-months-ok}
-use Rattle.shifting.proofs.Shapes.{moment-good, day-time-ok, year-month-ok}
+use Rattle.quantities.proofs.Shapes.{moment-good, day-time-ok, year-month-ok}
 use Rattle.arithmetic.specs.Sums.{differenceIn}
 use borrow.Author.Needs.{needs}
 use Rattle.arithmetic.proofs.sums.difference.Statement.{statement}

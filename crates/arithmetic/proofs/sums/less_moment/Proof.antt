@@ -1,7 +1,7 @@
 use mathlib.Core.Path.{_≡_, sym, _∙_}
 use Rattle.arithmetic.proofs.Differences.{moments-less}
-use Rattle.shifting.proofs.Spanned.{part-of, spans-in-ticks}
-use Rattle.shifting.proofs.Shapes.{moment-good}
+use Rattle.quantities.proofs.Spanned.{part-of, spans-in-ticks}
+use Rattle.quantities.proofs.Shapes.{moment-good}
 use Rattle.basis.proofs.Tests.{no, yes as good}
 use Rattle.arithmetic.specs.Sums.{lessMoment}
 use borrow.Author.Needs.{needs}

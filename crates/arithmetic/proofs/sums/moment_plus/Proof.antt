@@ -1,4 +1,4 @@
-use Rattle.shifting.proofs.Shapes.{day-time-within, year-month-within}
+use Rattle.quantities.proofs.Shapes.{day-time-within, year-month-within}
 use Rattle.arithmetic.specs.Sums.{sumOf}
 use borrow.Author.Needs.{needs}
 use Rattle.arithmetic.proofs.sums.moment_plus.Statement.{statement}

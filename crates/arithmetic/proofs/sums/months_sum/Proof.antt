@@ -1,6 +1,6 @@
 use Prim.Native.Nat.{_+_}
 use Rattle.arithmetic.specs.Sums.{sumOf}
-use Rattle.shifting.specs.Results.{inMonths}
+use Rattle.quantities.specs.Results.{inMonths}
 use native.Mathlib.Omega.{arith}
 use mathlib.Core.Path.{_≡_, _∙_}
 use Rattle.shifting.proofs.Halves.{plus-to, minus-to}

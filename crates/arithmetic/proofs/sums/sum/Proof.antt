@@ -1,4 +1,4 @@
-use Rattle.shifting.proofs.Shapes.{moment-good, day-time-within, year-month-within}
+use Rattle.quantities.proofs.Shapes.{moment-good, day-time-within, year-month-within}
 use borrow.Author.Needs.{needs}
 use Rattle.arithmetic.proofs.sums.sum.Statement.{statement}
 use Rattle.arithmetic.proofs.sums.sum.Tie as tie

@@ -1,4 +1,4 @@
-use Rattle.shifting.proofs.Shapes.{moment-good}
+use Rattle.quantities.proofs.Shapes.{moment-good}
 use Rattle.arithmetic.specs.Sums.{sumOf}
 use borrow.Author.Needs.{needs}
 use Rattle.arithmetic.proofs.sums.year_month_plus.Statement.{statement}

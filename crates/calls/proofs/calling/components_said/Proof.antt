@@ -1,6 +1,6 @@
 use mathlib.Core.Path.{ap, sym}
-use Rattle.value.specs.Components.{meaning}
-use Rattle.calls.specs.Parts.{partsText}
+use Rattle.components.specs.Components.{meaning}
+use Rattle.replies.specs.Parts.{partsText}
 use Rattle.calls.proofs.Saying.{renamed}
 use borrow.Author.Needs.{needs}
 use Rattle.calls.proofs.calling.components_said.Statement.{statement}

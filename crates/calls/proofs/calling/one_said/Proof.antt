@@ -1,7 +1,7 @@
 use mathlib.Core.Path.{ap, sym}
 use Rattle.text.specs.Writing.{textOf}
-use Rattle.calls.specs.Parts.{partsText}
-use Rattle.calls.specs.declared.One.{One}
+use Rattle.replies.specs.Parts.{partsText}
+use Rattle.asking.specs.declared.One.{One}
 use Rattle.calls.specs.Answers.{oneText}
 use Rattle.calls.proofs.Saying.{renamed, as-text}
 use borrow.Author.Needs.{needs}
@@ -26,8 +26,8 @@ value-said-requires c κs = search needs
 enum-told-3 : tie.Need-enum-told-3
 enum-told-3 c = search needs
 
-components-requires : tie.Need-components-requires
-components-requires c κs = search needs
+of-value-requires : tie.Need-of-value-requires
+of-value-requires c κs = search needs
 
 components-said-requires : tie.Need-components-said-requires
 components-said-requires c κs = search needs
@@ -42,7 +42,7 @@ returns-2 c = as-text (ap (λ (x : One). oneText x (c .before .before .before .b
 
 returns-3 : tie.Need-returns-3
 unfolding oneText
-returns-3 c = as-text (ap (λ (x : One). oneText x (c .before .before .before .before .args .a)) (sym (c .before .before .enum-told3 .given .1))) (renamed partsText (c .before .components .ensures) (c .components-said .ensures))
+returns-3 c = as-text (ap (λ (x : One). oneText x (c .before .before .before .before .args .a)) (sym (c .before .before .enum-told3 .given .1))) (renamed partsText (c .before .of-value .ensures) (c .components-said .ensures))
 
 pub one-said-spec : {M : Type 1} → statement M
 one-said-spec =
@@ -54,7 +54,7 @@ one-said-spec =
     unzone-requires
     value-said-requires
     enum-told-3
-    components-requires
+    of-value-requires
     components-said-requires
     returns
     returns-2

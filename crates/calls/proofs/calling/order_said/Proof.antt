@@ -1,7 +1,7 @@
 use mathlib.Core.Path.{ap, sym}
-use Rattle.operation.specs.Order.{meaning}
+use Rattle.ordering.specs.Order.{meaning}
 use Rattle.calls.specs.Answers.{orderText}
-use Rattle.calls.proofs.Growing.{of-nothing}
+use Rattle.replies.proofs.Growing.{of-nothing}
 use Rattle.calls.proofs.Saying.{renamed}
 use borrow.Author.Needs.{needs}
 use Rattle.calls.proofs.calling.order_said.Statement.{statement}

@@ -1,7 +1,7 @@
 use mathlib.Core.Path.{ap, sym, _∙_}
 use native.Mathlib.Omega.{arith}
 use lib.ListN.{length}
-use Rattle.calls.proofs.Growing.{named, of-nothing}
+use Rattle.replies.proofs.Growing.{named, of-nothing}
 use borrow.Author.Needs.{needs}
 use Rattle.calls.proofs.calling.written.Statement.{statement}
 use Rattle.calls.proofs.calling.written.Tie as tie

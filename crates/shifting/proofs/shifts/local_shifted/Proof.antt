@@ -1,12 +1,12 @@
-use Rattle.value.proofs.Good.{timed}
-use Rattle.shifting.specs.Results.{atTicks}
+use Rattle.instants.proofs.Within.{timed}
+use Rattle.quantities.specs.Results.{atTicks}
 use Prim.Native.Nat.{ℕ, _-_}
-use Rattle.value.specs.Ticks.{spanOf}
+use Rattle.instants.specs.Ticks.{spanOf}
 use borrow.Author.Tests.{ltb-true, ltb-false}
 use native.Mathlib.Omega.{arith}
 use mathlib.Core.Path.{_≡_, ap, sym, _∙_}
 use Rattle.shifting.proofs.Halves.{taken-off, added-on}
-use Rattle.shifting.proofs.Spanned.{part-of, seconds-of, ticks-of, spans-order, spans-sum, span-at-ticks}
+use Rattle.quantities.proofs.Spanned.{part-of, seconds-of, ticks-of, spans-order, spans-sum, span-at-ticks}
 use Rattle.shifting.proofs.Steps.{before-ticks}
 use borrow.Author.Needs.{needs}
 use Rattle.shifting.proofs.shifts.local_shifted.Statement.{statement}

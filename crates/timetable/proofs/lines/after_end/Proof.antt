@@ -5,16 +5,13 @@ use Rattle.timetable.specs.Lines.{afterEnd}
 use Rattle.timetable.proofs.lines.after_end.Statement.{statement}
 use Rattle.timetable.proofs.lines.after_end.Tie as tie
 
--- src/lines.rt:20:16
 add-result : tie.Need-add-result
 add-result c = search needs
 
--- src/lines.rt:20:9
 returns : tie.Need-returns
 unfolding afterEnd
 returns c = simp (lt-ltb _ _ (c .if1 .taken))
 
--- src/lines.rt:16:1
 returns-2 : tie.Need-returns-2
 unfolding afterEnd
 returns-2 c = simp (le-ltb _ _ (c .if1 .left))

@@ -10,15 +10,12 @@ use Rattle.value.proofs.DateTime.time.Lts as lts
 use Rattle.value.proofs.kinds.template.Reads as template-reads
 use Rattle.value.proofs.valid.checked.Reads as checked-reads
 
--- src/lib.rt:191:13
 template-requires : tie.Need-template-requires
 template-requires c κs = search needs
 
--- src/lib.rt:192:9
 checked-requires : tie.Need-checked-requires
 checked-requires c κs = search needs
 
--- src/lib.rt:188:5
 returns : tie.Need-returns
 returns c =
     c .checked .ensures

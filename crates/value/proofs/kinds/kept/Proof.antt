@@ -10,35 +10,27 @@ use Rattle.value.proofs.kinds.has_date.Reads as has-date-reads
 use Rattle.value.proofs.kinds.has_time.Reads as has-time-reads
 use Rattle.value.proofs.kinds.template.Reads as template-reads
 
--- src/kinds.rt:49:9
 template-requires : tie.Need-template-requires
 template-requires c κs = search needs
 
--- src/kinds.rt:50:8
 has-date-requires : tie.Need-has-date-requires
 has-date-requires c κs = search needs
 
--- src/kinds.rt:51:12
 has-time-requires : tie.Need-has-time-requires
 has-time-requires c κs = search needs
 
--- src/kinds.rt:52:13
 returns : tie.Need-returns
 returns c = kept-by (c .before .before .before .before .before .args .kind) (c .before .before .before .before .before .args .d) (c .before .before .before .before .template .result) true true (sym (c .before .before .before .has-date .ensures) ∙ c .before .before .if1 .taken) (sym (c .before .has-time .ensures) ∙ c .if2 .taken) (c .before .before .before .before .template .ensures)
 
--- src/kinds.rt:54:9
 returns-2 : tie.Need-returns-2
 returns-2 c = kept-by (c .before .before .before .before .before .args .kind) (c .before .before .before .before .before .args .d) (c .before .before .before .before .template .result) true false (sym (c .before .before .before .has-date .ensures) ∙ c .before .before .if1 .taken) (sym (c .before .has-time .ensures) ∙ c .if2 .left) (c .before .before .before .before .template .ensures)
 
--- src/kinds.rt:62:8
 has-time-requires-2 : tie.Need-has-time-requires-2
 has-time-requires-2 c κs = search needs
 
--- src/kinds.rt:63:9
 returns-3 : tie.Need-returns-3
 returns-3 c = kept-by (c .before .before .before .before .before .args .kind) (c .before .before .before .before .before .args .d) (c .before .before .before .before .template .result) false true (sym (c .before .before .before .has-date .ensures) ∙ c .before .before .if1 .left) (sym (c .before .has-time2 .ensures) ∙ c .if3 .taken) (c .before .before .before .before .template .ensures)
 
--- src/kinds.rt:45:1
 returns-4 : tie.Need-returns-4
 returns-4 c = kept-by (c .before .before .before .before .before .args .kind) (c .before .before .before .before .before .args .d) (c .before .before .before .before .template .result) false false (sym (c .before .before .before .has-date .ensures) ∙ c .before .before .if1 .left) (sym (c .before .has-time2 .ensures) ∙ c .if3 .left) (c .before .before .before .before .template .ensures)
 

@@ -11,23 +11,18 @@ use Rattle.value.proofs.kinds.of_kind.Reads as reads
 use Rattle.value.proofs.kinds.of_kind.Lts as lts
 use Rattle.value.proofs.kinds.kept.Reads as kept-reads
 
--- src/kinds.rt:83:9
 kept-requires : tie.Need-kept-requires
 kept-requires c κs = search needs
 
--- src/kinds.rt:85:9
 returns : tie.Need-returns
 returns c = sym (every-fails _ _ (ne-eqb _ _ (c .if1 .taken))) ∙ of-kind-by _ _ _ (c .before .before .before .kept .ensures)
 
--- src/kinds.rt:88:9
 returns-2 : tie.Need-returns-2
 returns-2 c = sym (every-goes _ _ (eq-eqb _ _ (c .before .before .before .if1 .left)) ∙ every-fails _ _ (ne-eqb _ _ (c .if2 .taken))) ∙ of-kind-by _ _ _ (c .before .before .before .before .before .before .kept .ensures)
 
--- src/kinds.rt:91:9
 returns-3 : tie.Need-returns-3
 returns-3 c = sym (every-goes _ _ (eq-eqb _ _ (c .before .before .before .before .before .before .if1 .left)) ∙ every-goes _ _ (eq-eqb _ _ (c .before .before .before .if2 .left)) ∙ every-fails _ _ (ne-eqb _ _ (c .if3 .taken))) ∙ of-kind-by _ _ _ (c .before .before .before .before .before .before .before .before .before .kept .ensures)
 
--- src/kinds.rt:80:1
 returns-4 : tie.Need-returns-4
 returns-4 c = sym (every-goes _ _ (eq-eqb _ _ (c .before .before .before .before .before .before .before .before .if1 .left)) ∙ every-goes _ _ (eq-eqb _ _ (c .before .before .before .before .before .if2 .left)) ∙ every-goes _ _ (eq-eqb _ _ (c .before .before .if3 .left)) ∙ every-ends _) ∙ of-kind-by _ _ _ (c .before .before .before .before .before .before .before .before .before .before .before .kept .ensures)
 

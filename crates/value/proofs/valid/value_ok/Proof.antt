@@ -10,93 +10,72 @@ use Rattle.value.proofs.kinds.of_kind.Reads as of-kind-reads
 use Rattle.value.proofs.valid.date_time_ok.Reads as date-time-ok-reads
 use Rattle.value.proofs.valid.signed_ok.Reads as signed-ok-reads
 
--- src/valid.rt:87:21
 enum-known-v : tie.Need-enum-known-v
 enum-known-v c = search needs
 
--- src/valid.rt:88:17
 date-time-ok-requires : tie.Need-date-time-ok-requires
 date-time-ok-requires c κs = search needs
 
--- src/valid.rt:89:17
 returns : tie.Need-returns
 unfolding both okValue
 returns c = simp (no (c .before .date-time-ok .ensures) (c .if1 .taken), c .before .before .before .v .given .1)
 
--- src/valid.rt:91:13
 of-kind-requires : tie.Need-of-kind-requires
 of-kind-requires c κs = search needs
 
--- src/valid.rt:93:21
 enum-known-v-2 : tie.Need-enum-known-v-2
 enum-known-v-2 c = search needs
 
--- src/valid.rt:94:17
 date-time-ok-requires-2 : tie.Need-date-time-ok-requires-2
 date-time-ok-requires-2 c κs = search needs
 
--- src/valid.rt:95:17
 returns-2 : tie.Need-returns-2
 unfolding both okValue
 returns-2 c = simp (no (c .before .date-time-ok2 .ensures) (c .if2 .taken), c .before .before .before .v2 .given .1)
 
--- src/valid.rt:97:13
 of-kind-requires-2 : tie.Need-of-kind-requires-2
 of-kind-requires-2 c κs = search needs
 
--- src/valid.rt:99:25
 enum-known-v-3 : tie.Need-enum-known-v-3
 enum-known-v-3 c = search needs
 
--- src/valid.rt:99:31
 date-time-ok-requires-3 : tie.Need-date-time-ok-requires-3
 date-time-ok-requires-3 c κs = search needs
 
--- src/valid.rt:100:24
 enum-known-v-4 : tie.Need-enum-known-v-4
 enum-known-v-4 c = search needs
 
--- src/valid.rt:100:30
 signed-ok-requires : tie.Need-signed-ok-requires
 signed-ok-requires c κs = search needs
 
--- src/valid.rt:101:26
 enum-known-v-5 : tie.Need-enum-known-v-5
 enum-known-v-5 c = search needs
 
--- src/valid.rt:101:42
 cast-signed-ok : tie.Need-cast-signed-ok
 cast-signed-ok c = search needs
 
--- src/valid.rt:101:77
 cast-signed-ok-2 : tie.Need-cast-signed-ok-2
 cast-signed-ok-2 c = search needs
 
--- src/valid.rt:101:32
 signed-ok-requires-2 : tie.Need-signed-ok-requires-2
 signed-ok-requires-2 c κs = search needs
 
--- src/valid.rt:83:1
 returns-3 : tie.Need-returns-3
 unfolding both okValue
 returns-3 c = simp (← c .of-kind .ensures, good (c .before .before .date-time-ok .ensures) (c .before .if1 .left), c .before .before .before .before .v .given .1)
 
--- src/valid.rt:83:1
 returns-4 : tie.Need-returns-4
 unfolding both okValue
 returns-4 c = simp (← c .of-kind2 .ensures, good (c .before .before .date-time-ok2 .ensures) (c .before .if2 .left), c .before .before .before .before .v2 .given .1)
 
--- src/valid.rt:83:1
 returns-5 : tie.Need-returns-5
 unfolding both okValue
 returns-5 c = simp (← c .date-time-ok3 .ensures, c .before .before .v3 .given .1)
 
--- src/valid.rt:83:1
 returns-6 : tie.Need-returns-6
 unfolding both okValue
 returns-6 c = simp (← c .signed-ok .ensures, c .before .before .v4 .given .1)
 
--- src/valid.rt:83:1
 returns-7 : tie.Need-returns-7
 unfolding both okValue
 returns-7 c = simp (← c .signed-ok2 .ensures, c .before .before .before .v5 .given .1)

@@ -1,0 +1,5 @@
+pub mod Within
+pub mod Instants
+pub mod Locals
+pub mod TwoParts
+pub mod PlacedBy

@@ -1,0 +1,3 @@
+pub mod Reach
+pub mod Answers
+pub mod OrderLaws

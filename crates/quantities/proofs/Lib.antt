@@ -1,0 +1,5 @@
+pub mod Shapes
+pub mod Spanned
+pub mod Bounded
+pub mod Given
+pub mod Numbers

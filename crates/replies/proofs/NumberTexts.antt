@@ -1,0 +1,68 @@
+-- A number's text is its sign, its digits and its fraction, and never wider than the numbers of a reply.
+use mathlib.Core.Path.{_≡_, ap, sym, _∙_}
+use mathlib.Core.Bool.{Bool, true}
+use mathlib.Core.List.{List, [], _∷_, _++_}
+use Prim.Native.Nat.{ℕ, _+_, _^_, _≤_, _<_}
+use native.Mathlib.Omega.{arith}
+use lib.ListN.{length, length-append}
+use Rattle.basis.specs.Choice.{pick}
+use Rattle.numerals.specs.declared.Text.{Text}
+use Rattle.numerals.specs.Writing.{textIn, Added, decimal, fractionText, longest}
+use Rattle.numerals.proofs.Decimals.{decimal-le}
+use Rattle.numerals.proofs.Fractions.{fraction-short}
+use Rattle.numerals.proofs.Texts as texts
+use Rattle.replies.specs.declared.Reply.{Reply}
+use Rattle.replies.specs.Replies.{signText, numberText, numberWidth, Grown}
+use lib.IntN.{ℤ, natAbs}
+use lib.Signed.{mag}
+use mir.Syntax.{w32}
+use mir.Val.{toZ, ofZ}
+use mir.ValLaws.{toZ-ofZ}
+use Rattle.replies.specs.Parts.{isNegative, signedText}
+use Rattle.replies.proofs.Growing.{then, named}
+
+abbrev pub Signed : Bool → Text → Type 0
+Signed negative s = (textIn s ≡ signText negative) × (s .len ≡ length (signText negative)) × (s .len ≤ 1)
+
+pub minus-sign : (negative : Bool) {n r : Text} → negative ≡ true → (textIn n ≡ []) × (n .len ≡ 0) → Added n r (45 ∷ []) 1 → Signed negative r
+minus-sign negative e z a =
+    rw e (a .text ∙ ap (λ (q : List ℕ). q ++ 45 ∷ []) (z .0), omega (arith, a .more, z .1), omega (arith, a .more, z .1))
+
+pub digits-fit : (n : ℕ) → n < 2 ^ 32 → length (decimal n) ≤ 10
+digits-fit n h = decimal-le 10 n (omega arith) (omega arith)
+
+module _ (negative : Bool) (n ticks : ℕ) (h : n < 2 ^ 32) {s d : Text} (z : Signed negative s) (a : Added s d (decimal n) (length (decimal n))) where
+  pub room-after : d .len + length (fractionText ticks) ≤ longest
+  room-after = omega (arith, z .2, a .more, digits-fit n h, fraction-short ticks)
+
+  module _ {t : Text} (b : Added d t (fractionText ticks) (length (fractionText ticks))) where
+    pub number-text : textIn t ≡ numberText negative n ticks
+    unfolding numberText
+    number-text = texts.then a b .text ∙ ap (λ (q : List ℕ). q ++ (decimal n ++ fractionText ticks)) (z .0)
+
+    pub number-length : t .len ≡ length (numberText negative n ticks)
+    unfolding numberText
+    number-length =
+        omega (arith, b .more, a .more, z .1, length-append (signText negative) (decimal n ++ fractionText ticks), length-append (decimal n) (fractionText ticks))
+
+    pub number-fits : (t .len ≡ length (textIn t)) × (t .len ≤ numberWidth)
+    number-fits = (number-length ∙ sym (ap length number-text), omega (arith, z .2, a .more, b .more, digits-fit n h, fraction-short ticks))
+
+    pub number-grown : {r j q : Reply} {name : List ℕ} → Grown r j name → Grown j q (textIn t)
+        → (Grown r q (name ++ numberText negative n ticks)) × (q .len ≤ r .len + length name + numberWidth)
+    number-grown {r} {j} {q} {name} g k =
+        (then g (named number-text k), omega (arith, g .more, k .more, number-fits .0, number-fits .1))
+
+-- the same number by its sign and its magnitude
+pub signed-grown : (name : List ℕ) (z u : ℤ) {b : Bool} {m k : ℕ} {r q : Reply} → b ≡ pick (isNegative z) true (isNegative u) → m ≡ natAbs z → k ≡ natAbs u
+    → (Grown r q (name ++ numberText b m k)) × (q .len ≤ r .len + length name + numberWidth)
+    → (Grown r q (name ++ signedText z u)) × (q .len ≤ r .len + length name + numberWidth)
+signed-grown name z u {b} {m} {k} {r} {q} eb em ek g = (named (λ i. name ++ numberText (eb i) (em i) (ek i)) (g .0), g .1)
+
+-- the same of a number that a record keeps
+module _ (name : List ℕ) (z u : ℤ) {r q : Reply} (h : mag z < 2 ^ 31) where
+  pub kept : Grown r q (name ++ signedText (toZ w32 (ofZ w32 z)) u) → Grown r q (name ++ signedText z u)
+  kept g = named (λ i. name ++ signedText (toZ-ofZ w32 z (record { sfits = h }) i) u) g
+
+  pub kept-both : mag u < 2 ^ 31 → Grown r q (name ++ signedText (toZ w32 (ofZ w32 z)) (toZ w32 (ofZ w32 u))) → Grown r q (name ++ signedText z u)
+  kept-both k g = named (λ i. name ++ signedText (toZ-ofZ w32 z (record { sfits = h }) i) (toZ-ofZ w32 u (record { sfits = k }) i)) g
