@@ -20,9 +20,13 @@ pub enum Part {
 
 pub const PARTS: [(Part, &str); 6] = [
     (Part::YearWalk, "the walk over the years: `calendar`"),
-    (Part::ConditionText, "the condition's text, its symbols and grammar: `condition`, `words`"),
-    (Part::Values, "values read, fields and literals: `text`, `layouts`, `scan`, `durations`, `numerals`"),
-    (Part::Computing, "comparing and computing: `operation`, `arithmetic`, `shifting`, `value`, `results`"),
+    (Part::ConditionText, "the condition's text, its symbols and grammar: `condition`, `reading`, `symbols`, `depth`, `words`"),
+    (Part::Values, "values read, fields and literals: `text`, `layouts`, `judging`, `scan`, `durations`, `numerals`"),
+    (
+        Part::Computing,
+        "comparing and computing: `operation`, `arithmetic`, `ordering`, `adjusting`, `shifting`, `quantities`, `instants`, `value`, \
+         `results`, `givens`, `sorts`",
+    ),
     (Part::Copying, "bytes copied, above all the desk handed on by value: `memcpy`, `memset`"),
     (Part::Desk, "all else: seats, lines found, output lines"),
 ];
@@ -59,10 +63,11 @@ fn part_of(name: &str) -> Part {
     let krate = name.split("::").next().unwrap_or("");
     match krate {
         "calendar" => Part::YearWalk,
-        "condition" | "words" => Part::ConditionText,
+        "condition" | "reading" | "symbols" | "depth" | "words" => Part::ConditionText,
         "numerals" if name.contains("decimal") => Part::Desk,
-        "text" | "layouts" | "scan" | "durations" | "numerals" => Part::Values,
-        "operation" | "arithmetic" | "shifting" | "value" | "results" => Part::Computing,
+        "text" | "layouts" | "judging" | "scan" | "durations" | "numerals" => Part::Values,
+        "operation" | "arithmetic" | "ordering" | "adjusting" | "shifting" | "quantities" => Part::Computing,
+        "instants" | "value" | "results" | "givens" | "sorts" => Part::Computing,
         _ if name.contains("memcpy") || name.contains("memmove") || name.contains("memset") => Part::Copying,
         _ => Part::Desk,
     }
@@ -103,7 +108,7 @@ mod tests {
 
     #[test]
     fn what_is_called_does_not_count_for_its_caller() {
-        let file = "summary: 37\n\nfn=(1) condition::reading::test\n0 5\ncfn=(2) calendar::day_number\ncalls=3 0\n0 30\n+1 1\n\n\
+        let file = "summary: 37\n\nfn=(1) reading::test\n0 5\ncfn=(2) calendar::day_number\ncalls=3 0\n0 30\n+1 1\n\n\
                     fn=(2)\n0 30\n\nfn=(3) memcpy\n* 1\n";
         let profile = Profile { counts: own_counts(file) };
         assert_eq!(profile.total(), 37);
