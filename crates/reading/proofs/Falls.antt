@@ -1,15 +1,12 @@
 -- What falls at each call of a reader by a reader: the text that is left, and at the same place the reader's rank.
 use mathlib.Core.Path.{_≡_, refl, sym, subst, _∙_}
-use mathlib.Core.Bool.{Bool, true}
-use mathlib.Core.List.{List, []}
+use mathlib.Core.Bool.{Bool}
+use mathlib.Core.List.{List}
 use lib.ListN.{length}
-use lib.Dec.{ltb}
-use borrow.Author.Tests.{ltb-true}
 use Prim.Native.Nat.{ℕ, _+_, _-_, _*_, _<_, _≤_}
 use native.Mathlib.Omega.{arith}
 use Rattle.value.specs.declared.Kind.{Kind}
-use Rattle.symbols.specs.Symbols.{orAt, andAt, comparisonAt, signAt, startAt, multiplierAt}
-use Rattle.grammar.proofs.Ends.{Past, PastJoint, PastStart, PastMultiplier, or-past, and-past, comparison-past, sign-past, start-past, multiplier-past}
+use Rattle.symbols.specs.Symbols.{comparisonAt, startAt, multiplierAt}
 use Rattle.symbols.specs.declared.Op.{Op}
 use Rattle.symbols.specs.declared.Joint.{Joint}
 use Rattle.symbols.specs.declared.Joint.the-variants as J
@@ -20,14 +17,33 @@ use Rattle.symbols.specs.declared.Multiplier.the-variants as T
 use Rattle.results.specs.declared.Part.{Part}
 use Rattle.givens.specs.declared.Mode.{Mode}
 use Rattle.grammar.specs.Grammar.{Parsed, none, got}
-use Rattle.reading.specs.Readers.{told, parts, inside, clauseRead, testRead, sumRead, termRead, factorRead}
+use Rattle.grammar.proofs.Ends.{Past, PastJoint, PastStart, PastMultiplier, or-past, and-past, comparison-past, sign-past, start-past, multiplier-past}
+use Rattle.grammar.proofs.Good.{Good, inner-good, condition-good, clause-good, test-good, sum-good, term-good}
+use Rattle.reading.specs.Readers.{told, parts, inside, jointAt, joinedRead, chainRead, operandRead}
 use Rattle.reading.specs.declared.Read.{Read}
 use Rattle.reading.specs.declared.Read.the-variants.{Bad, Got}
-use Rattle.grammar.proofs.Good.{Good, inner-good, clause-good, test-good, sum-good, term-good}
+use Rattle.reading.specs.declared.Rule.{Rule}
+use Rattle.reading.specs.declared.Rule.the-variants.{Condition, Clause, Sum}
 
 -- the text that is left, then the rank: ranks order the calls at one place
 abbrev pub measure : List ℕ → ℕ → ℕ → ℕ
-measure s at rank = 8 * (length s - at) + rank
+measure s at rank = 16 * (length s - at) + rank
+
+-- the rank of an operand; that of its chain is the next. A factor has 1, a test 4.
+abbrev pub rank : Rule → ℕ
+rank Condition = 7
+rank Clause = 5
+rank Sum = 2
+
+rank-small : (x : Rule) → rank x < 8
+rank-small Condition = omega arith
+rank-small Clause = omega arith
+rank-small Sum = omega arith
+
+-- the text that is left after what was read
+abbrev pub left : List ℕ → Read → ℕ
+left s Bad = 0
+left s (Got v n) = measure s n 0
 
 abbrev Ends : ℕ → ℕ → Read → Type 0
 Ends L at Bad = Unit {0}
@@ -38,67 +54,97 @@ unfolding Good
 told-ends L at none g = tt
 told-ends L at (got v n) g = g
 
-module _ (d : ℕ) (s line : List ℕ) (at : ℕ) (m : Mode) (n : ℕ) (g : Read) (v : Part) where
-  pub clause-past : g ≡ clauseRead d s line at m → g ≡ Got v n → Past (length s) at n
-  unfolding clauseRead
-  clause-past e b = subst (Ends (length s) at) (sym e ∙ b)
-      (told-ends (length s) at _ (clause-good Part Mode (parts s line) s (inside d s line) (inner-good Part Mode (parts s line) s d) at m))
+joined-ends : (L at : ℕ) (o : Op) (v : Part) (g : Read) → Ends L at g → Ends L at (joinedRead o v g)
+unfolding joinedRead
+joined-ends L at o v Bad e = tt
+joined-ends L at o v (Got w n) e = e
 
-  pub test-past : g ≡ testRead d s line at m → g ≡ Got v n → Past (length s) at n
-  unfolding testRead
-  test-past e b = subst (Ends (length s) at) (sym e ∙ b)
-      (told-ends (length s) at _ (test-good Part Mode (parts s line) s (inside d s line) (inner-good Part Mode (parts s line) s d) at m))
+ends-left : (s : List ℕ) (at t : ℕ) (g : Read) → 0 < t → measure s at 0 ≤ t → Ends (length s) at g → left s g < t
+ends-left s at t Bad z h e = z
+ends-left s at t (Got v n) z h e = omega arith
 
-  pub sum-past : g ≡ sumRead d s line at m → g ≡ Got v n → Past (length s) at n
-  unfolding sumRead
-  sum-past e b = subst (Ends (length s) at) (sym e ∙ b)
-      (told-ends (length s) at _ (sum-good Part Mode (parts s line) s (inside d s line) (inner-good Part Mode (parts s line) s d) at m))
+joint-past : (x : Rule) (s : List ℕ) (at : ℕ) → PastJoint (length s) at (jointAt x s at)
+unfolding jointAt
+joint-past Condition s at = or-past s at
+joint-past Clause s at = and-past s at
+joint-past Sum s at = sign-past s at
 
-  pub term-past : g ≡ termRead d s line at m → g ≡ Got v n → Past (length s) at n
-  unfolding termRead
-  term-past e b = subst (Ends (length s) at) (sym e ∙ b)
-      (told-ends (length s) at _ (term-good Part Mode (parts s line) s (inside d s line) (inner-good Part Mode (parts s line) s d) at m))
+module _ (d : ℕ) (s line : List ℕ) (at : ℕ) (m : Mode) where
+  operand-ends : (x : Rule) → Ends (length s) at (operandRead d s line x at m)
+  unfolding operandRead
+  operand-ends Condition = told-ends (length s) at _ (clause-good Part Mode (parts s line) s (inside d s line) (inner-good Part Mode (parts s line) s d) at m)
+  operand-ends Clause = told-ends (length s) at _ (test-good Part Mode (parts s line) s (inside d s line) (inner-good Part Mode (parts s line) s d) at m)
+  operand-ends Sum = told-ends (length s) at _ (term-good Part Mode (parts s line) s (inside d s line) (inner-good Part Mode (parts s line) s d) at m)
 
-module _ (s : List ℕ) (at n : ℕ) where
-  module _ (x : Joint) (o : Op) (p : ℕ) where
-    pub or-on : x ≡ orAt s at → x ≡ J.At o p n → Past (length s) at n
-    or-on e h = subst (PastJoint (length s) at) (sym e ∙ h) (or-past s at)
+  chain-ends : (x : Rule) → Ends (length s) at (chainRead d s line x at m)
+  unfolding chainRead
+  chain-ends Condition = told-ends (length s) at _ (condition-good Part Mode (parts s line) s (inside d s line) (inner-good Part Mode (parts s line) s d) at m)
+  chain-ends Clause = told-ends (length s) at _ (clause-good Part Mode (parts s line) s (inside d s line) (inner-good Part Mode (parts s line) s d) at m)
+  chain-ends Sum = told-ends (length s) at _ (sum-good Part Mode (parts s line) s (inside d s line) (inner-good Part Mode (parts s line) s d) at m)
 
-    pub and-on : x ≡ andAt s at → x ≡ J.At o p n → Past (length s) at n
-    and-on e h = subst (PastJoint (length s) at) (sym e ∙ h) (and-past s at)
+-- what follows a first operand
+pub falls-first : (d : ℕ) (s line : List ℕ) (at t : ℕ) (m : Mode) (x : Rule) (g : Read) → measure s at (rank x + 1) ≡ t → g ≡ operandRead d s line x at m → left s g < t
+falls-first d s line at t m x g e h = ends-left s at t g (omega arith) (omega arith) (subst (Ends (length s) at) (sym h) (operand-ends d s line at m x))
 
-    pub comparison-on : x ≡ comparisonAt s at → x ≡ J.At o p n → Past (length s) at n
-    comparison-on e h = subst (PastJoint (length s) at) (sym e ∙ h) (comparison-past s at)
+-- an operand after an operator, and what follows both
+module _ (s : List ℕ) (t : ℕ) (x : Rule) (g : Read) (e : left s g ≡ t) (v : Part) (at : ℕ) (b : g ≡ Got v at) (y : Joint) (q : y ≡ jointAt x s at) (o : Op) (p n : ℕ) (h : y ≡ J.At o p n) where
+  past : Past (length s) at n
+  past = subst (PastJoint (length s) at) (sym q ∙ h) (joint-past x s at)
 
-    pub sign-on : x ≡ signAt s at → x ≡ J.At o p n → Past (length s) at n
-    sign-on e h = subst (PastJoint (length s) at) (sym e ∙ h) (sign-past s at)
+  whole : measure s at 0 ≡ t
+  whole = subst (λ z. left s z ≡ t) b e
 
-  pub open-on : (x : Start) → x ≡ startAt s at → x ≡ S.Open n → Past (length s) at n
-  open-on x e h = subst (PastStart (length s) at) (sym e ∙ h) (start-past s at)
+  pub falls-operand : measure s n (rank x) < t
+  falls-operand = omega (arith, past, whole, rank-small x)
 
-  pub make-on : (x : Start) (k : Kind) (p : ℕ) → x ≡ startAt s at → x ≡ S.Make k p n → Past (length s) at n
-  make-on x k p e h = subst (PastStart (length s) at) (sym e ∙ h) (start-past s at)
+  pub falls-more : (d : ℕ) (line : List ℕ) (c : Mode) (f j : Read) → f ≡ operandRead d s line x n c → j ≡ joinedRead o v f → left s j < t
+  falls-more d line c f j i k = ends-left s n t j (omega (arith, past, whole)) (omega (arith, past, whole))
+      (subst (Ends (length s) n) (sym k) (joined-ends (length s) n o v f (subst (Ends (length s) n) (sym i) (operand-ends d s line n c x))))
 
-  pub falls-star : (t : ℕ) (x : Multiplier) (b : Bool) (v p : ℕ) → length s - at ≡ t → x ≡ multiplierAt s at → x ≡ T.At b v p n → length s - n < t
-  falls-star t x b v p q e h = let k : Past (length s) at n = subst (PastMultiplier (length s) at) (sym e ∙ h) (multiplier-past s at) in omega arith
+-- the operands
+module _ (s : List ℕ) (t at : ℕ) (x : Rule) (e : measure s at (rank x) ≡ t) where
+  ranked : (z : Rule) → x ≡ z → measure s at (rank z) ≡ t
+  ranked z h = subst (λ y. measure s at (rank y) ≡ t) h e
 
--- a call after one thing was read, and after two
-module _ (s : List ℕ) (t r q at n : ℕ) (e : measure s at r ≡ t) (k : ltb q 8 ≡ true) where
-  pub falls-1 : Past (length s) at n → measure s n q < t
-  falls-1 h = let z : q < 8 = ltb-true _ _ k in omega arith
+  pub falls-clause : x ≡ Condition → measure s at 6 < t
+  falls-clause h = omega (arith, ranked Condition h)
 
-  falls-2 : (m : ℕ) → Past (length s) at m → Past (length s) m n → measure s n q < t
-  falls-2 m h i = let z : q < 8 = ltb-true _ _ k in omega arith
+  pub falls-test : x ≡ Clause → measure s at 4 < t
+  falls-test h = omega (arith, ranked Clause h)
 
-module _ (s line : List ℕ) (t r q at n m d : ℕ) (l : Mode) (g : Read) (v : Part) (x : Joint) (o : Op) (p : ℕ) (e : measure s at r ≡ t) (k : ltb q 8 ≡ true) where
-  pub falls-or-clause : x ≡ orAt s at → x ≡ J.At o p n → g ≡ clauseRead d s line n l → g ≡ Got v m → measure s m q < t
-  falls-or-clause h i j u = falls-2 s t r q at m e k n (or-on s at n x o p h i) (clause-past d s line n l m g v j u)
+  pub falls-factor : x ≡ Sum → measure s at 1 < t
+  falls-factor h = omega (arith, ranked Sum h)
 
-  pub falls-and-test : x ≡ andAt s at → x ≡ J.At o p n → g ≡ testRead d s line n l → g ≡ Got v m → measure s m q < t
-  falls-and-test h i j u = falls-2 s t r q at m e k n (and-on s at n x o p h i) (test-past d s line n l m g v j u)
+-- the second sum of a test
+pub falls-second : (d : ℕ) (s line : List ℕ) (t at n k : ℕ) (m : Mode) (g : Read) (v : Part) (y : Joint) (o : Op) (p : ℕ) → measure s at 4 ≡ t →
+    g ≡ chainRead d s line Sum at m → g ≡ Got v n → y ≡ comparisonAt s n → y ≡ J.At o p k → measure s k 3 < t
+falls-second d s line t at n k m g v y o p e h b q i = omega (
+  arith,
+  subst (Ends (length s) at) (sym h ∙ b) (chain-ends d s line at m Sum),
+  subst (PastJoint (length s) n) (sym q ∙ i) (comparison-past s n),
+)
 
-  pub falls-sign-term : x ≡ signAt s at → x ≡ J.At o p n → g ≡ termRead d s line n l → g ≡ Got v m → measure s m q < t
-  falls-sign-term h i j u = falls-2 s t r q at m e k n (sign-on s at n x o p h i) (term-past d s line n l m g v j u)
+-- what stands in parentheses: the text that is left after the one with which a factor starts
+abbrev pub behind : List ℕ → Start → ℕ
+behind s S.No = 0
+behind s (S.Open n) = measure s n 9
+behind s (S.Make k p n) = measure s n 9
 
-  pub falls-sum-comparison : g ≡ sumRead d s line at l → g ≡ Got v n → x ≡ comparisonAt s n → x ≡ J.At o p m → measure s m q < t
-  falls-sum-comparison h i j u = falls-2 s t r q at m e k n (sum-past d s line at l n g v h i) (comparison-on s n m x o p j u)
+starts-behind : (s : List ℕ) (at t : ℕ) (x : Start) → measure s at 1 ≡ t → PastStart (length s) at x → behind s x < t
+starts-behind s at t S.No e h = omega arith
+starts-behind s at t (S.Open n) e h = omega arith
+starts-behind s at t (S.Make k p n) e h = omega arith
+
+pub falls-inner : (s : List ℕ) (t at : ℕ) (y : Start) → measure s at 1 ≡ t → y ≡ startAt s at → behind s y < t
+falls-inner s t at y e q = starts-behind s at t y e (subst (PastStart (length s) at) (sym q) (start-past s at))
+
+module _ (s : List ℕ) (t : ℕ) (x : Start) (e : behind s x ≡ t) where
+  pub falls-open : (n : ℕ) → x ≡ S.Open n → measure s n 8 < t
+  falls-open n h = omega (arith, subst (λ y. behind s y ≡ t) h e)
+
+  pub falls-cast : (k : Kind) (p n : ℕ) → x ≡ S.Make k p n → measure s n 3 < t
+  falls-cast k p n h = omega (arith, subst (λ y. behind s y ≡ t) h e)
+
+-- a multiplier
+pub falls-star : (s : List ℕ) (t at n : ℕ) (y : Multiplier) (b : Bool) (k p : ℕ) → length s - at ≡ t → y ≡ multiplierAt s at → y ≡ T.At b k p n → length s - n < t
+falls-star s t at n y b k p e q i = omega (arith, subst (PastMultiplier (length s) at) (sym q ∙ i) (multiplier-past s at))

@@ -1,4 +1,3 @@
-pub mod Rules
 pub mod Steps
 pub mod Falls
 pub mod Carried

@@ -11,9 +11,10 @@ use Rattle.results.specs.declared.Part.{Part}
 use Rattle.givens.specs.declared.Mode.{Mode}
 use Rattle.grammar.specs.Grammar.{Parsed, none, got, condition}
 use Rattle.grammar.specs.Trees.{Tree, trees, whole, parse}
-use Rattle.reading.specs.Readers.{told, parts, conditionRead, partOf, readOf}
+use Rattle.reading.specs.Readers.{told, parts, chainRead, partOf, readOf}
 use Rattle.reading.specs.declared.Read.{Read}
 use Rattle.reading.specs.declared.Read.the-variants.{Bad, Got}
+use Rattle.reading.specs.declared.Rule.the-variants.{Condition}
 use Rattle.grammar.proofs.Folds.{each, grammar-folds}
 use Rattle.reading.proofs.Carried.{code-meets}
 
@@ -22,8 +23,8 @@ no-part v n e = let z : _≡_ {A = ℕ} 0 1 = cc in absurd (omega arith)
 
 -- the reader of the whole text
 module _ (s line : List ℕ) (m : Mode) where
-  carried : conditionRead maxDepth s line 0 m ≡ told (each (partOf s line m) (condition Tree (Unit {0}) trees s maxDepth 0 tt))
-  unfolding conditionRead
+  carried : chainRead maxDepth s line Condition 0 m ≡ told (each (partOf s line m) (condition Tree (Unit {0}) trees s maxDepth 0 tt))
+  unfolding chainRead
   carried = ap told (grammar-folds Part Mode (parts s line) s (partOf s line) (code-meets s line) maxDepth 0 m)
 
   fails : (p : Parsed Tree) → Bad ≡ told (each (partOf s line m) p) → Bad ≡ readOf s line m (whole s p)
@@ -41,7 +42,7 @@ module _ (s line : List ℕ) (m : Mode) where
   ends v n none e h = no-part v n (sym e)
   ends v n (got t k) e h = let q : n ≡ k = cc in let h′ : length s ≤ skipped s k = rw q at h in rw (le-leb _ _ h′) e
 
-  module _ (g : Read) (e : g ≡ conditionRead maxDepth s line 0 m) where
+  module _ (g : Read) (e : g ≡ chainRead maxDepth s line Condition 0 m) where
     pub whole-bad : g ≡ Bad → Bad ≡ readOf s line m (parse s)
     unfolding parse
     whole-bad b = fails (condition Tree (Unit {0}) trees s maxDepth 0 tt) (sym b ∙ e ∙ carried)

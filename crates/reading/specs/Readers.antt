@@ -1,8 +1,14 @@
 -- What the code's readers give: the grammar at the parts that the code carries. No contract of a public call of `condition` rests on
--- this file, but on the tree that a text states (Trees.antt of the crate grammar): `readOf` says what the reader of a whole text gives of that tree.
+-- this file, but on the tree that a text states (Trees.antt of the crate grammar): `readOf` says what the reader of a whole text gives of
+-- that tree.
 use Prim.Native.Nat.{ℕ}
 use mathlib.Core.List.{List, []}
 use Rattle.value.specs.declared.Kind.{Kind}
+use Rattle.symbols.specs.Symbols.{orAt, andAt, signAt, heldAt}
+use Rattle.symbols.specs.declared.Op.{Op}
+use Rattle.symbols.specs.declared.Joint.{Joint}
+use Rattle.symbols.specs.declared.Start.{Start}
+use Rattle.symbols.specs.declared.Start.the-variants as S
 use Rattle.givens.specs.Givens.{givenOf, badOf}
 use Rattle.results.specs.Parts.{literalPart, fieldPart, castPart, timesPart, twoPart, afterPart}
 use Rattle.givens.specs.declared.Given.{Given}
@@ -10,11 +16,13 @@ use Rattle.givens.specs.declared.Given.the-variants as G
 use Rattle.results.specs.declared.Part.{Part}
 use Rattle.givens.specs.declared.Mode.{Mode}
 use Rattle.givens.specs.declared.Mode.the-variants as M
-use Rattle.grammar.specs.Grammar.{Parsed, none, got, Parts, Inside, closedAt, inner, conditionIn, conditionMoreIn, clauseIn, clauseMoreIn, testIn, sumIn, sumMoreIn, termIn, termMoreIn, factorIn, heldIn}
+use Rattle.grammar.specs.Grammar.{Parsed, none, got, then, holding, Parts, Inside, closedAt, inner, conditionIn, conditionMoreIn, clauseIn, clauseMoreIn, testIn, sumIn, sumMoreIn, termIn, termMoreIn, factorIn}
 use Rattle.grammar.specs.Trees.{Tree}
 use Rattle.reading.specs.Meaning.{sortOf, firstBad, eval}
 use Rattle.reading.specs.declared.Read.{Read}
 use Rattle.reading.specs.declared.Read.the-variants.{Bad, Got}
+use Rattle.reading.specs.declared.Rule.{Rule}
+use Rattle.reading.specs.declared.Rule.the-variants.{Condition, Clause, Sum}
 
 abbrev pub parts : List ℕ → List ℕ → Parts Part Mode
 parts s line =
@@ -34,42 +42,66 @@ told (got a n) = Got a n
 abbrev pub inside : ℕ → List ℕ → List ℕ → Inside Part Mode
 inside d s line = inner Part Mode (parts s line) s d
 
-unfoldable pub closedRead : List ℕ → ℕ → Part → Read
-closedRead s at a = told (closedAt s at a)
+-- the operator of a rule
+unfoldable pub jointAt : Rule → List ℕ → ℕ → Joint
+jointAt Condition s at = orAt s at
+jointAt Clause s at = andAt s at
+jointAt Sum s at = signAt s at
+
+-- what is made of what was read
+unfoldable pub joinedRead : Op → Part → Read → Read
+joinedRead o left Bad = Bad
+joinedRead o left (Got a n) = Got (twoPart o left a) n
+
+unfoldable pub castRead : Kind → Read → Read
+castRead k Bad = Bad
+castRead k (Got a n) = Got (castPart k a) n
+
+unfoldable pub closedRead : List ℕ → Read → Read
+closedRead s Bad = Bad
+closedRead s (Got a at) = told (closedAt s at a)
 
 unfoldable pub termMoreRead : List ℕ → ℕ → Part → Read
 termMoreRead s at left = told (termMoreIn Part Mode (parts s []) s (inside 0 s []) at left)
 
+unfoldable pub termRead : List ℕ → Read → Read
+termRead s Bad = Bad
+termRead s (Got a n) = termMoreRead s n a
+
 module _ (d : ℕ) (s line : List ℕ) where
-  unfoldable pub conditionRead : ℕ → Mode → Read
-  conditionRead at m = told (conditionIn Part Mode (parts s line) s (inside d s line) at m)
+  unfoldable pub chainRead : Rule → ℕ → Mode → Read
+  chainRead Condition at m = told (conditionIn Part Mode (parts s line) s (inside d s line) at m)
+  chainRead Clause at m = told (clauseIn Part Mode (parts s line) s (inside d s line) at m)
+  chainRead Sum at m = told (sumIn Part Mode (parts s line) s (inside d s line) at m)
 
-  unfoldable pub conditionMoreRead : ℕ → Mode → Part → Read
-  conditionMoreRead at m left = told (conditionMoreIn Part Mode (parts s line) s (inside d s line) 0 at m left)
+  unfoldable pub moreIn : Rule → ℕ → Mode → Part → Parsed Part
+  moreIn Condition at m left = conditionMoreIn Part Mode (parts s line) s (inside d s line) 0 at m left
+  moreIn Clause at m left = clauseMoreIn Part Mode (parts s line) s (inside d s line) 0 at m left
+  moreIn Sum at m left = sumMoreIn Part Mode (parts s line) s (inside d s line) 0 at m left
 
-  unfoldable pub clauseRead : ℕ → Mode → Read
-  clauseRead at m = told (clauseIn Part Mode (parts s line) s (inside d s line) at m)
+  unfoldable pub moreRead : Rule → Mode → Read → Read
+  moreRead r m Bad = Bad
+  moreRead r m (Got left at) = told (moreIn r at m left)
 
-  unfoldable pub clauseMoreRead : ℕ → Mode → Part → Read
-  clauseMoreRead at m left = told (clauseMoreIn Part Mode (parts s line) s (inside d s line) 0 at m left)
+  unfoldable pub operandRead : Rule → ℕ → Mode → Read
+  operandRead Condition at m = told (clauseIn Part Mode (parts s line) s (inside d s line) at m)
+  operandRead Clause at m = told (testIn Part Mode (parts s line) s (inside d s line) at m)
+  operandRead Sum at m = told (termIn Part Mode (parts s line) s (inside d s line) at m)
 
   unfoldable pub testRead : ℕ → Mode → Read
   testRead at m = told (testIn Part Mode (parts s line) s (inside d s line) at m)
 
-  unfoldable pub sumRead : ℕ → Mode → Read
-  sumRead at m = told (sumIn Part Mode (parts s line) s (inside d s line) at m)
-
-  unfoldable pub sumMoreRead : ℕ → Mode → Part → Read
-  sumMoreRead at m left = told (sumMoreIn Part Mode (parts s line) s (inside d s line) 0 at m left)
-
-  unfoldable pub termRead : ℕ → Mode → Read
-  termRead at m = told (termIn Part Mode (parts s line) s (inside d s line) at m)
-
   unfoldable pub factorRead : ℕ → Mode → Read
   factorRead at m = told (factorIn Part Mode (parts s line) s (inside d s line) at m)
 
-  unfoldable pub heldRead : Kind → ℕ → Mode → Read
-  heldRead k at m = told (heldIn Part Mode (parts s line) s (inside d s line) k 0 at m)
+  -- what stands in the parentheses with which a factor starts, up to the closing one
+  unfoldable pub innerRead : Start → Mode → Read
+  innerRead S.No m = Bad
+  innerRead (S.Open at) m = told (conditionIn Part Mode (parts s line) s (inside d s line) at m)
+  innerRead (S.Make k w at) m = told (holding (heldAt s at)
+      (λ from to n. got (literalPart m k s from to) n)
+      (λ i p n. got (fieldPart m k line i) n)
+      (then (sumIn Part Mode (parts s line) s (inside d s line) at m) (λ x n. got (castPart k x) n)))
 
 -- what the code carries of a tree, in each mode
 unfoldable pub givenIn : List ℕ → List ℕ → Mode → Tree → Given

@@ -1,6 +1,7 @@
 // The readers of a condition, straight on its text: each reads its part from a place on and gives what it carries and where
 // it ends. A factor may hold a whole condition again, so they call one another in a cycle; at each turn of it text has been
-// read or fewer parentheses may be opened (document 01, "Conditions").
+// read or fewer parentheses may be opened (document 01, "Conditions"). Every arm of a `match` on what was read returns: a `match` that has
+// a value has a place for it, and the proof writes out the type of every place at every step.
 use depth::MAX_DEPTH;
 use givens::Mode;
 use results::Part;
@@ -14,6 +15,7 @@ use symbols::Held;
 use symbols::Joint;
 use symbols::Mark;
 use symbols::Multiplier;
+use symbols::Op;
 use symbols::Start;
 use value::Kind;
 use words::skip;
@@ -27,100 +29,65 @@ pub enum Read {
     Got(Part, usize),
 }
 
+// The rules that are operands with operators between: a condition is clauses with `or`, a clause is tests with `and`, a sum is
+// terms with `+` or `-`.
+pub enum Rule {
+    Condition,
+    Clause,
+    Sum,
+}
+
+// The operator of a rule.
+fn joint(rule: Rule, s: &[u8], at: usize) -> Joint
+    ensures { λ r. ⌜ r ≡ the.jointAt rule (now (s .entry)) at ⌝ }
+{
+    match rule {
+        Rule::Condition => symbols::or(s, at),
+        Rule::Clause => symbols::and(s, at),
+        Rule::Sum => symbols::sign(s, at),
+    }
+}
+
+// What was read after an operator, joined to what is left of it.
+fn joined(op: Op, left: Part, read: Read) -> Read
+    ensures { λ r. ⌜ r ≡ the.joinedRead op left read ⌝ }
+{
+    match read {
+        Read::Bad => return Read::Bad,
+        Read::Got(right, n) => return Read::Got(two(op, left, right), n),
+    }
+}
+
+// What was read, cast to a kind.
+fn cast_to(kind: Kind, read: Read) -> Read
+    ensures { λ r. ⌜ r ≡ the.castRead kind read ⌝ }
+{
+    match read {
+        Read::Bad => return Read::Bad,
+        Read::Got(part, n) => return Read::Got(cast(kind, part), n),
+    }
+}
+
 // What was read, where a closing parenthesis follows it.
-fn closed(s: &[u8], at: usize, part: Part) -> Read
-    ensures { λ r. ⌜ r ≡ the.closedRead (now (s .entry)) at part ⌝ }
+fn closed(s: &[u8], read: Read) -> Read
+    ensures { λ r. ⌜ r ≡ the.closedRead (now (s .entry)) read ⌝ }
 {
-    match symbols::closing(s, at) {
-        Mark::No => Read::Bad,
-        Mark::At(n) => Read::Got(part, n),
-    }
-}
-
-fn condition(s: &[u8], line: &[u8], at: usize, depth: usize, mode: Mode) -> Read
-    ensures { λ r. ⌜ r ≡ the.conditionRead depth (now (s .entry)) (now (line .entry)) at mode ⌝ }
-{
-    match clause(s, line, at, depth, mode) {
-        Read::Bad => Read::Bad,
-        Read::Got(part, n) => condition_more(s, line, n, depth, mode, part),
-    }
-}
-
-fn condition_more(s: &[u8], line: &[u8], at: usize, depth: usize, mode: Mode, left: Part) -> Read
-    ensures { λ r. ⌜ r ≡ the.conditionMoreRead depth (now (s .entry)) (now (line .entry)) at mode left ⌝ }
-{
-    match symbols::or(s, at) {
-        Joint::No => Read::Got(left, at),
-        Joint::At(op, _, n) => match clause(s, line, n, depth, after(op, mode, left)) {
-            Read::Bad => Read::Bad,
-            Read::Got(part, m) => condition_more(s, line, m, depth, mode, two(op, left, part)),
+    match read {
+        Read::Bad => return Read::Bad,
+        Read::Got(part, at) => match symbols::closing(s, at) {
+            Mark::No => return Read::Bad,
+            Mark::At(n) => return Read::Got(part, n),
         },
     }
 }
 
-fn clause(s: &[u8], line: &[u8], at: usize, depth: usize, mode: Mode) -> Read
-    ensures { λ r. ⌜ r ≡ the.clauseRead depth (now (s .entry)) (now (line .entry)) at mode ⌝ }
+// A factor that was read, with the whole numbers that follow it after `*`.
+fn term(s: &[u8], read: Read) -> Read
+    ensures { λ r. ⌜ r ≡ the.termRead (now (s .entry)) read ⌝ }
 {
-    match test(s, line, at, depth, mode) {
-        Read::Bad => Read::Bad,
-        Read::Got(part, n) => clause_more(s, line, n, depth, mode, part),
-    }
-}
-
-fn clause_more(s: &[u8], line: &[u8], at: usize, depth: usize, mode: Mode, left: Part) -> Read
-    ensures { λ r. ⌜ r ≡ the.clauseMoreRead depth (now (s .entry)) (now (line .entry)) at mode left ⌝ }
-{
-    match symbols::and(s, at) {
-        Joint::No => Read::Got(left, at),
-        Joint::At(op, _, n) => match test(s, line, n, depth, after(op, mode, left)) {
-            Read::Bad => Read::Bad,
-            Read::Got(part, m) => clause_more(s, line, m, depth, mode, two(op, left, part)),
-        },
-    }
-}
-
-fn test(s: &[u8], line: &[u8], at: usize, depth: usize, mode: Mode) -> Read
-    ensures { λ r. ⌜ r ≡ the.testRead depth (now (s .entry)) (now (line .entry)) at mode ⌝ }
-{
-    match sum(s, line, at, depth, mode) {
-        Read::Bad => Read::Bad,
-        Read::Got(left, n) => match symbols::comparison(s, n) {
-            Joint::No => Read::Got(left, n),
-            Joint::At(op, _, m) => match sum(s, line, m, depth, after(op, mode, left)) {
-                Read::Bad => Read::Bad,
-                Read::Got(part, k) => Read::Got(two(op, left, part), k),
-            },
-        },
-    }
-}
-
-fn sum(s: &[u8], line: &[u8], at: usize, depth: usize, mode: Mode) -> Read
-    ensures { λ r. ⌜ r ≡ the.sumRead depth (now (s .entry)) (now (line .entry)) at mode ⌝ }
-{
-    match term(s, line, at, depth, mode) {
-        Read::Bad => Read::Bad,
-        Read::Got(part, n) => sum_more(s, line, n, depth, mode, part),
-    }
-}
-
-fn sum_more(s: &[u8], line: &[u8], at: usize, depth: usize, mode: Mode, left: Part) -> Read
-    ensures { λ r. ⌜ r ≡ the.sumMoreRead depth (now (s .entry)) (now (line .entry)) at mode left ⌝ }
-{
-    match symbols::sign(s, at) {
-        Joint::No => Read::Got(left, at),
-        Joint::At(op, _, n) => match term(s, line, n, depth, after(op, mode, left)) {
-            Read::Bad => Read::Bad,
-            Read::Got(part, m) => sum_more(s, line, m, depth, mode, two(op, left, part)),
-        },
-    }
-}
-
-fn term(s: &[u8], line: &[u8], at: usize, depth: usize, mode: Mode) -> Read
-    ensures { λ r. ⌜ r ≡ the.termRead depth (now (s .entry)) (now (line .entry)) at mode ⌝ }
-{
-    match factor(s, line, at, depth, mode) {
-        Read::Bad => Read::Bad,
-        Read::Got(part, n) => term_more(s, n, part),
+    match read {
+        Read::Bad => return Read::Bad,
+        Read::Got(part, at) => return term_more(s, at, part),
     }
 }
 
@@ -128,46 +95,100 @@ fn term_more(s: &[u8], at: usize, left: Part) -> Read
     ensures { λ r. ⌜ r ≡ the.termMoreRead (now (s .entry)) at left ⌝ }
 {
     match symbols::star(s, at) {
-        Multiplier::No => Read::Got(left, at),
-        Multiplier::Bad => Read::Bad,
-        Multiplier::At(negative, number, _, n) => term_more(s, n, times(negative, number, left)),
+        Multiplier::No => return Read::Got(left, at),
+        Multiplier::Bad => return Read::Bad,
+        Multiplier::At(negative, number, _, n) => return term_more(
+            s,
+            n,
+            times(negative, number, left),
+        ),
     }
 }
 
+// Operands with operators between, taken from the left.
+fn chain(rule: Rule, s: &[u8], line: &[u8], at: usize, depth: usize, mode: Mode) -> Read
+    ensures { λ r. ⌜ r ≡ the.chainRead depth (now (s .entry)) (now (line .entry)) rule at mode ⌝ }
+{
+    more(
+        rule,
+        s,
+        line,
+        depth,
+        mode,
+        operand(rule, s, line, at, depth, mode),
+    )
+}
+
+// What was read, with the operators and operands that follow it.
+fn more(rule: Rule, s: &[u8], line: &[u8], depth: usize, mode: Mode, read: Read) -> Read
+    ensures { λ r. ⌜ r ≡ the.moreRead depth (now (s .entry)) (now (line .entry)) rule mode read ⌝ }
+{
+    match read {
+        Read::Bad => return Read::Bad,
+        Read::Got(left, at) => match joint(rule, s, at) {
+            Joint::No => return read,
+            Joint::At(op, _, n) => {
+                let right = operand(rule, s, line, n, depth, after(op, mode, left));
+                return more(rule, s, line, depth, mode, joined(op, left, right));
+            }
+        },
+    }
+}
+
+// A clause, a test or a term.
+fn operand(rule: Rule, s: &[u8], line: &[u8], at: usize, depth: usize, mode: Mode) -> Read
+    ensures { λ r. ⌜ r ≡ the.operandRead depth (now (s .entry)) (now (line .entry)) rule at mode ⌝ }
+{
+    match rule {
+        Rule::Condition => return chain(Rule::Clause, s, line, at, depth, mode),
+        Rule::Clause => return test(s, line, at, depth, mode),
+        Rule::Sum => return term(s, factor(s, line, at, depth, mode)),
+    }
+}
+
+// One sum, or two with a comparison between.
+fn test(s: &[u8], line: &[u8], at: usize, depth: usize, mode: Mode) -> Read
+    ensures { λ r. ⌜ r ≡ the.testRead depth (now (s .entry)) (now (line .entry)) at mode ⌝ }
+{
+    let read = chain(Rule::Sum, s, line, at, depth, mode);
+    match read {
+        Read::Bad => return Read::Bad,
+        Read::Got(left, n) => match symbols::comparison(s, n) {
+            Joint::No => return read,
+            Joint::At(op, _, m) => {
+                let right = chain(Rule::Sum, s, line, m, depth, after(op, mode, left));
+                return joined(op, left, right);
+            }
+        },
+    }
+}
+
+// A condition in parentheses, or a kind's word with what stands in the parentheses after it.
 fn factor(s: &[u8], line: &[u8], at: usize, depth: usize, mode: Mode) -> Read
     ensures { λ r. ⌜ r ≡ the.factorRead depth (now (s .entry)) (now (line .entry)) at mode ⌝ }
 {
-    match symbols::factor_start(s, at) {
-        Start::No => Read::Bad,
-        Start::Open(n) => {
-            if depth == 0 {
-                return Read::Bad;
-            }
-            match condition(s, line, n, depth - 1, mode) {
-                Read::Bad => Read::Bad,
-                Read::Got(part, m) => closed(s, m, part),
-            }
-        }
-        Start::Make(kind, _, n) => {
-            if depth == 0 {
-                return Read::Bad;
-            }
-            held(s, line, n, kind, depth - 1, mode)
-        }
+    if depth == 0 {
+        return Read::Bad;
     }
+    closed(
+        s,
+        inner(s, line, symbols::factor_start(s, at), depth - 1, mode),
+    )
 }
 
-// What stands in the parentheses after a kind's word.
-fn held(s: &[u8], line: &[u8], at: usize, kind: Kind, depth: usize, mode: Mode) -> Read
-    ensures { λ r. ⌜ r ≡ the.heldRead depth (now (s .entry)) (now (line .entry)) kind at mode ⌝ }
+// What stands in the parentheses with which a factor starts: a condition; or after a kind's word a text, a field, or a sum to be
+// cast.
+fn inner(s: &[u8], line: &[u8], start: Start, depth: usize, mode: Mode) -> Read
+    ensures { λ r. ⌜ r ≡ the.innerRead depth (now (s .entry)) (now (line .entry)) start mode ⌝ }
 {
-    match symbols::contents(s, at) {
-        Held::Text(from, to, n) => closed(s, n, literal(mode, kind, s, from, to)),
-        Held::Field(number, _, n) => closed(s, n, field(mode, kind, line, number)),
-        Held::Bad => Read::Bad,
-        Held::Sum => match sum(s, line, at, depth, mode) {
-            Read::Bad => Read::Bad,
-            Read::Got(part, n) => closed(s, n, cast(kind, part)),
+    match start {
+        Start::No => return Read::Bad,
+        Start::Open(at) => return chain(Rule::Condition, s, line, at, depth, mode),
+        Start::Make(kind, _, at) => match symbols::contents(s, at) {
+            Held::Text(from, to, n) => return Read::Got(literal(mode, kind, s, from, to), n),
+            Held::Field(number, _, n) => return Read::Got(field(mode, kind, line, number), n),
+            Held::Bad => return Read::Bad,
+            Held::Sum => return cast_to(kind, chain(Rule::Sum, s, line, at, depth, mode)),
         },
     }
 }
@@ -176,13 +197,14 @@ fn held(s: &[u8], line: &[u8], at: usize, kind: Kind, depth: usize, mode: Mode) 
 pub fn whole(s: &[u8], line: &[u8], mode: Mode) -> Read
     ensures { λ r. ⌜ r ≡ the.readOf (now (s .entry)) (now (line .entry)) mode (parse (now (s .entry))) ⌝ }
 {
-    match condition(s, line, 0, MAX_DEPTH, mode) {
-        Read::Bad => Read::Bad,
-        Read::Got(part, n) => {
+    let read = chain(Rule::Condition, s, line, 0, MAX_DEPTH, mode);
+    match read {
+        Read::Bad => return Read::Bad,
+        Read::Got(_, n) => {
             if skip(s, n) < s.len() {
                 return Read::Bad;
             }
-            Read::Got(part, n)
+            return read;
         }
     }
 }

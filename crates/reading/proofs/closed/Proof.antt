@@ -1,4 +1,4 @@
-use Rattle.reading.proofs.Steps.{closed-by, ways}
+use Rattle.reading.proofs.Steps.{closed-bad, closed-no, closed-at}
 use borrow.Author.Needs.{needs}
 use Rattle.reading.proofs.closed.Statement.{statement}
 use Rattle.reading.proofs.closed.Tie as tie
@@ -6,20 +6,39 @@ use Rattle.reading.proofs.closed.Reads as reads
 use Rattle.reading.proofs.closed.Lts as lts
 use Rattle.symbols.proofs.closing.Reads as closing-reads
 
+enum-told : tie.Need-enum-told
+enum-told c = search needs
+
+returns : tie.Need-returns
+returns c = search closed-bad
+
+enum-known-read : tie.Need-enum-known-read
+enum-known-read c = search needs
+
 closing-requires : tie.Need-closing-requires
 closing-requires c κs = search needs
 
-enum-told : tie.Need-enum-told
-enum-told c = search needs
+enum-told-2 : tie.Need-enum-told-2
+enum-told-2 c = search needs
+
+returns-2 : tie.Need-returns-2
+returns-2 c = search closed-no
 
 enum-known-n : tie.Need-enum-known-n
 enum-known-n c = search needs
 
-returns : tie.Need-returns
-returns c = search (closed-by, ways) depth 9
-
-returns-2 : tie.Need-returns-2
-returns-2 c = search (closed-by, ways) depth 9
+returns-3 : tie.Need-returns-3
+returns-3 c = search closed-at
 
 pub closed-spec : {M : Type 1} → statement M
-closed-spec = tie.close (tie.spec closing-requires enum-told enum-known-n returns returns-2)
+closed-spec =
+    tie.close
+    (tie.spec
+    enum-told
+    returns
+    enum-known-read
+    closing-requires
+    enum-told-2
+    returns-2
+    enum-known-n
+    returns-3)

@@ -3,35 +3,35 @@ use Rattle.reading.proofs.Wholes.{whole-bad, whole-more, whole-got}
 use Rattle.reading.proofs.whole.Statement.{statement}
 use Rattle.reading.proofs.whole.Tie as tie
 
-condition-requires : tie.Need-condition-requires
-condition-requires c κs = search needs
+chain-requires : tie.Need-chain-requires
+chain-requires c κs = search needs
 
 enum-told : tie.Need-enum-told
 enum-told c = search needs
 
-enum-known-part : tie.Need-enum-known-part
-enum-known-part c = search needs
+returns : tie.Need-returns
+returns c = search whole-bad
+
+enum-known-read : tie.Need-enum-known-read
+enum-known-read c = search needs
 
 skip-requires : tie.Need-skip-requires
 skip-requires c κs = search needs
 
-returns : tie.Need-returns
-returns c = search (whole-bad, whole-more, whole-got)
-
 returns-2 : tie.Need-returns-2
-returns-2 c = search (whole-bad, whole-more, whole-got)
+returns-2 c = search whole-more
 
 returns-3 : tie.Need-returns-3
-returns-3 c = search (whole-bad, whole-more, whole-got)
+returns-3 c = search whole-got
 
 pub whole-spec : {M : Type 1} → statement M
 whole-spec =
     tie.close
     (tie.spec
-    condition-requires
+    chain-requires
     enum-told
-    enum-known-part
-    skip-requires
     returns
+    enum-known-read
+    skip-requires
     returns-2
     returns-3)
