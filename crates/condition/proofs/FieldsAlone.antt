@@ -4,7 +4,8 @@ use mathlib.Core.List.{List}
 use Prim.Native.Nat.{ℕ}
 use Rattle.value.specs.declared.Kind.{Kind}
 use Rattle.timetable.specs.Fields.{fieldsOf, hasField, fieldAt}
-use Rattle.givens.specs.Data.{valued, readField, onto, joined, castDatum, timesDatum}
+use Rattle.givens.specs.Data.{valued, readField}
+use Rattle.results.specs.Evaluation.{onto, joined, castDatum, timesDatum}
 use Rattle.grammar.specs.Grammar.{Parsed, none, got}
 use Rattle.grammar.specs.Trees.{Tree, leaf, one, two, literal, field, cast, times, parse}
 use Rattle.reading.specs.Meaning.{eval}

@@ -25,9 +25,12 @@ use Rattle.arithmetic.proofs.Validity.{plus-within, minus-within, times-within}
 use Rattle.operation.proofs.Validity.{cast-within}
 use Rattle.words.specs.Runs.{between}
 use Rattle.symbols.specs.declared.Op.{Op}
-use Rattle.symbols.specs.declared.Op.the-variants as O
-use Rattle.sorts.specs.Sorts.{comparedKinds, addedKinds, lessKinds, kindsOf, joins, sortTwo, sortCast, sortTimes}
-use Rattle.givens.specs.Data.{Datum, value, truth, valued, readField, tested, ofValues, applied, settles, onto, joined, castDatum, timesDatum}
+use Rattle.operators.specs.Roles.{roleOf, joins, settles}
+use Rattle.operators.specs.declared.Role.{Role}
+use Rattle.operators.specs.declared.Role.the-variants as R
+use Rattle.sorts.specs.Sorts.{comparedKinds, addedKinds, lessKinds, kindsOf, sortTwo, sortCast, sortTimes}
+use Rattle.givens.specs.Data.{Datum, value, truth, valued, readField}
+use Rattle.results.specs.Evaluation.{tested, ofValues, applied, onto, joined, castDatum, timesDatum}
 use Rattle.sorts.specs.declared.Sort.{Sort}
 use Rattle.sorts.specs.declared.Sort.the-variants as S
 use Rattle.results.specs.Numbers.{atLine}
@@ -102,27 +105,21 @@ times-typed b v x (gives (truth c)) l n h = absurd (n (ap sortTimes h))
 times-typed b v x (refuses m) l n h = h
 
 -- two parts
-compared-typed : (o : Op) (v w : Value) → okValue v ≡ true → okValue w ≡ true → (comparedKinds (kindOf v) (kindOf w) ≡ S.Clash → ⊥) →
-    Typed (comparedKinds (kindOf v) (kindOf w)) (tested o (orderIn utc v w))
+compared-typed : (l e g : Bool) (v w : Value) → okValue v ≡ true → okValue w ≡ true → (comparedKinds (kindOf v) (kindOf w) ≡ S.Clash → ⊥) →
+    Typed (comparedKinds (kindOf v) (kindOf w)) (tested l e g (orderIn utc v w))
 unfolding comparedKinds
-compared-typed o v w p q n = by (sameKind (kindOf v) (kindOf w)) refl n
+compared-typed l e g v w p q n = by (sameKind (kindOf v) (kindOf w)) refl n
   where
-    by : (b : Bool) → sameKind (kindOf v) (kindOf w) ≡ b → (pick b S.Truth S.Clash ≡ S.Clash → ⊥) → Typed (pick b S.Truth S.Clash) (tested o (orderIn utc v w))
-    by true e m = rw (order-settled v p w q utc e) refl
-    by false e m = absurd (m refl)
+    by : (b : Bool) → sameKind (kindOf v) (kindOf w) ≡ b → (pick b S.Truth S.Clash ≡ S.Clash → ⊥) → Typed (pick b S.Truth S.Clash) (tested l e g (orderIn utc v w))
+    by true s m = rw (order-settled v p w q utc s) refl
+    by false s m = absurd (m refl)
 
-values-typed : (o : Op) (v w : Value) → okValue v ≡ true → okValue w ≡ true → (kindsOf o (kindOf v) (kindOf w) ≡ S.Clash → ⊥) → Typed (kindsOf o (kindOf v) (kindOf w)) (ofValues o v w)
-values-typed O.Or v w p q n = absurd (n refl)
-values-typed O.And v w p q n = absurd (n refl)
-values-typed O.Eq v w p q n = compared-typed O.Eq v w p q n
-values-typed O.Ne v w p q n = compared-typed O.Ne v w p q n
-values-typed O.Lt v w p q n = compared-typed O.Lt v w p q n
-values-typed O.Le v w p q n = compared-typed O.Le v w p q n
-values-typed O.Gt v w p q n = compared-typed O.Gt v w p q n
-values-typed O.Ge v w p q n = compared-typed O.Ge v w p q n
-values-typed O.Plus v w p q n =
+values-typed : (r : Role) (v w : Value) → okValue v ≡ true → okValue w ≡ true → (kindsOf r (kindOf v) (kindOf w) ≡ S.Clash → ⊥) → Typed (kindsOf r (kindOf v) (kindOf w)) (ofValues r v w)
+values-typed (R.Joins by) v w p q n = absurd (n refl)
+values-typed (R.Compares l e g) v w p q n = compared-typed l e g v w p q n
+values-typed R.Adds v w p q n =
     sort-typed (addedKinds (kindOf v) (kindOf w)) (plusOf v w) n (plus-settled v p w q) (plus-within v w)
-values-typed O.Minus v w p q n =
+values-typed R.Subtracts v w p q n =
     sort-typed (lessKinds (kindOf v) (kindOf w)) (minusIn utc v w) n (minus-settled v p w q utc) (minus-within utc v w)
 
 right-clash : (o : Op) (x : Sort) → sortTwo o x S.Clash ≡ S.Clash
@@ -133,46 +130,46 @@ right-clash o (S.Of k) = refl
 -- right of a truth value whose sorts fit all is a truth value
 truth-left : (o : Op) (y : Sort) → (sortTwo o S.Truth y ≡ S.Clash → ⊥) → sortTwo o S.Truth y ≡ S.Truth
 truth-left o S.Clash n = absurd (n refl)
-truth-left o S.Truth n = by (joins o) n
+truth-left o S.Truth n = by (joins (roleOf o)) n
   where
     by : (b : Bool) → (pick b S.Truth S.Clash ≡ S.Clash → ⊥) → pick b S.Truth S.Clash ≡ S.Truth
     by true m = refl
     by false m = absurd (m refl)
 truth-left o (S.Of k) n = absurd (n refl)
 
-joined-truths : (o : Op) (z u : Bool) (y : Sort) → y ≡ S.Truth → (sortTwo o S.Truth y ≡ S.Clash → ⊥) → Typed (sortTwo o S.Truth y) (applied o (truth z) (truth u))
-joined-truths o z u y e n = subst (λ y. (sortTwo o S.Truth y ≡ S.Clash → ⊥) → Typed (sortTwo o S.Truth y) (applied o (truth z) (truth u))) (sym e) (λ m. by (joins o) m) n
+joined-truths : (o : Op) (z u : Bool) (y : Sort) → y ≡ S.Truth → (sortTwo o S.Truth y ≡ S.Clash → ⊥) → Typed (sortTwo o S.Truth y) (applied (roleOf o) (truth z) (truth u))
+joined-truths o z u y e n = subst (λ y. (sortTwo o S.Truth y ≡ S.Clash → ⊥) → Typed (sortTwo o S.Truth y) (applied (roleOf o) (truth z) (truth u))) (sym e) (λ m. by (joins (roleOf o)) m) n
   where
     by : (b : Bool) → (pick b S.Truth S.Clash ≡ S.Clash → ⊥) → Typed (pick b S.Truth S.Clash) (pick b (gives (truth u)) (refuses 9))
     by true m = refl
     by false m = absurd (m refl)
 
-after-truth : (o : Op) (z : Bool) (y : Sort) (b : Answer Datum) → (sortTwo o S.Truth y ≡ S.Clash → ⊥) → Typed y b → Typed (sortTwo o S.Truth y) (onto b (applied o (truth z)))
+after-truth : (o : Op) (z : Bool) (y : Sort) (b : Answer Datum) → (sortTwo o S.Truth y ≡ S.Clash → ⊥) → Typed y b → Typed (sortTwo o S.Truth y) (onto b (applied (roleOf o) (truth z)))
 unfolding onto
 after-truth o z y (gives (value w)) n h = absurd (n (ap (sortTwo o S.Truth) (h .0)))
 after-truth o z y (gives (truth u)) n h = joined-truths o z u y h n
 after-truth o z y (refuses m) n h = h
 
 settled-typed : (o : Op) (z : Bool) (y : Sort) (b : Answer Datum) (c : Bool) → (sortTwo o S.Truth y ≡ S.Clash → ⊥) → Typed y b →
-    Typed (sortTwo o S.Truth y) (pick c (gives (truth z)) (onto b (applied o (truth z))))
+    Typed (sortTwo o S.Truth y) (pick c (gives (truth z)) (onto b (applied (roleOf o) (truth z))))
 settled-typed o z y b true n h = truth-left o y n
 settled-typed o z y b false n h = after-truth o z y b n h
 
 after-value : (o : Op) (v : Value) (y : Sort) (b : Answer Datum) → okValue v ≡ true → (sortTwo o (S.Of (kindOf v)) y ≡ S.Clash → ⊥) → Typed y b →
-    Typed (sortTwo o (S.Of (kindOf v)) y) (onto b (applied o (value v)))
+    Typed (sortTwo o (S.Of (kindOf v)) y) (onto b (applied (roleOf o) (value v)))
 unfolding onto
 after-value o v y (gives (value w)) p n h =
-    subst (λ y. (sortTwo o (S.Of (kindOf v)) y ≡ S.Clash → ⊥) → Typed (sortTwo o (S.Of (kindOf v)) y) (ofValues o v w)) (sym (h .0)) (λ m. values-typed o v w p (h .1) m) n
+    subst (λ y. (sortTwo o (S.Of (kindOf v)) y ≡ S.Clash → ⊥) → Typed (sortTwo o (S.Of (kindOf v)) y) (ofValues (roleOf o) v w)) (sym (h .0)) (λ m. values-typed (roleOf o) v w p (h .1) m) n
 after-value o v y (gives (truth u)) p n h = absurd (n (ap (sortTwo o (S.Of (kindOf v))) h))
 after-value o v y (refuses m) p n h = h
 
 two-typed : (o : Op) (x y : Sort) (a b : Answer Datum) → (sortTwo o x y ≡ S.Clash → ⊥) → Typed x a → Typed y b → Typed (sortTwo o x y) (joined o a b)
 unfolding joined onto
 two-typed o x y (gives (value v)) b n h i =
-    subst (λ x. (sortTwo o x y ≡ S.Clash → ⊥) → Typed (sortTwo o x y) (onto b (applied o (value v)))) (sym (h .0)) (λ m. after-value o v y b (h .1) m i) n
+    subst (λ x. (sortTwo o x y ≡ S.Clash → ⊥) → Typed (sortTwo o x y) (onto b (applied (roleOf o) (value v)))) (sym (h .0)) (λ m. after-value o v y b (h .1) m i) n
 two-typed o x y (gives (truth z)) b n h i =
-    subst (λ x. (sortTwo o x y ≡ S.Clash → ⊥) → Typed (sortTwo o x y) (pick (settles o z) (gives (truth z)) (onto b (applied o (truth z))))) (sym h)
-    (λ m. settled-typed o z y b (settles o z) m i) n
+    subst (λ x. (sortTwo o x y ≡ S.Clash → ⊥) → Typed (sortTwo o x y) (pick (settles (roleOf o) z) (gives (truth z)) (onto b (applied (roleOf o) (truth z))))) (sym h)
+    (λ m. settled-typed o z y b (settles (roleOf o) z) m i) n
 two-typed o x y (refuses m) b n h i = h
 
 -- a tree whose kinds fit

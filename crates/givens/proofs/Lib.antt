@@ -1,1 +1,1 @@
-pub mod GiveLaws
+pub mod Fields

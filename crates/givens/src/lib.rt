@@ -1,7 +1,4 @@
-// What a part of a condition gives, checked or evaluated (document 01, "Conditions").
-use ordering::Compared;
-use sorts::joins;
-use symbols::Op;
+// What a part of a condition gives, and what a literal and a field of a line give, checked or evaluated (document 01, "Conditions").
 use value::Kind;
 use value::Outcome;
 use value::Refusal;
@@ -11,7 +8,6 @@ ghost use mathlib.Core.Path.{_≡_};
 ghost use Rattle.value.specs.Kinds.{meaning};
 ghost use Rattle.basis.specs.Answer.{refuses};
 ghost use Rattle.text.specs.Reading.{readAs};
-ghost use Rattle.ordering.specs.Order as orders;
 ghost use Rattle.words.specs.Runs.{between};
 ghost use Rattle.givens.specs.Data as its;
 ghost use Rattle.givens.specs.Givens as the;
@@ -31,14 +27,15 @@ pub enum Mode {
     Dead,
 }
 
-fn refused(number: u8) -> Given
+// A refusal.
+pub fn refused(number: u8) -> Given
     ensures { λ r. ⌜ r ≡ the.givenOf (refuses number) ⌝ }
 {
     Given::Refused(Refusal { number })
 }
 
 // A value that was answered.
-fn valued(a: Outcome) -> Given
+pub fn valued(a: Outcome) -> Given
     ensures { λ r. ⌜ r ≡ the.givenOf (its.valued (meaning a)) ⌝ }
 {
     match a {
@@ -85,178 +82,5 @@ pub fn field(mode: Mode, kind: Kind, line: &[u8], n: usize) -> Given
         Mode::Check => Given::Nothing,
         Mode::Live => read_field(kind, line, n),
         Mode::Dead => Given::Nothing,
-    }
-}
-
-pub fn cast(kind: Kind, a: Given) -> Given
-    ensures { λ r. ⌜ r ≡ the.castGiven kind a ⌝ }
-{
-    match a {
-        Given::Nothing => Given::Nothing,
-        Given::Is(v) => valued(operation::cast(v, kind)),
-        Given::Truth(_) => refused(Refusal::WRONG_KIND),
-        Given::Refused(r) => Given::Refused(r),
-    }
-}
-
-pub fn times(negative: bool, n: u32, a: Given) -> Given
-    ensures { λ r. ⌜ r ≡ the.timesGiven negative n a ⌝ }
-{
-    match a {
-        Given::Nothing => Given::Nothing,
-        Given::Is(v) => valued(operation::times(v, negative, n)),
-        Given::Truth(_) => refused(Refusal::WRONG_KIND),
-        Given::Refused(r) => Given::Refused(r),
-    }
-}
-
-// Whether a comparison holds of two values, of which the left is less, equal or greater.
-fn among(op: Op, less: bool, equal: bool, greater: bool) -> bool
-    ensures { λ r. ⌜ r ≡ its.among op less equal greater ⌝ }
-{
-    match op {
-        Op::Or => false,
-        Op::And => false,
-        Op::Eq => equal,
-        Op::Ne => !equal,
-        Op::Lt => less,
-        Op::Le => !greater,
-        Op::Gt => greater,
-        Op::Ge => !less,
-        Op::Plus => false,
-        Op::Minus => false,
-    }
-}
-
-// What a comparison gives of the order that was answered.
-fn tested(op: Op, order: Compared) -> Given
-    ensures { λ r. ⌜ r ≡ the.givenOf (its.tested op (orders.meaning order)) ⌝ }
-{
-    match order {
-        Compared::Less => Given::Truth(among(op, true, false, false)),
-        Compared::Equal => Given::Truth(among(op, false, true, false)),
-        Compared::Greater => Given::Truth(among(op, false, false, true)),
-        Compared::Refused(r) => Given::Refused(r),
-    }
-}
-
-// An operator between two values.
-fn of_values(op: Op, a: Value, b: Value) -> Given
-    ensures { λ r. ⌜ r ≡ the.givenOf (its.ofValues op a b) ⌝ }
-{
-    match op {
-        Op::Or => refused(Refusal::WRONG_KIND),
-        Op::And => refused(Refusal::WRONG_KIND),
-        Op::Eq => tested(Op::Eq, operation::compare(a, b)),
-        Op::Ne => tested(Op::Ne, operation::compare(a, b)),
-        Op::Lt => tested(Op::Lt, operation::compare(a, b)),
-        Op::Le => tested(Op::Le, operation::compare(a, b)),
-        Op::Gt => tested(Op::Gt, operation::compare(a, b)),
-        Op::Ge => tested(Op::Ge, operation::compare(a, b)),
-        Op::Plus => valued(operation::plus(a, b)),
-        Op::Minus => valued(operation::minus(a, b)),
-    }
-}
-
-// Whether a truth value left of an operator settles it.
-fn settles(op: Op, left: bool) -> bool
-    ensures { λ r. ⌜ r ≡ its.settles op left ⌝ }
-{
-    match op {
-        Op::Or => left,
-        Op::And => !left,
-        Op::Eq => false,
-        Op::Ne => false,
-        Op::Lt => false,
-        Op::Le => false,
-        Op::Gt => false,
-        Op::Ge => false,
-        Op::Plus => false,
-        Op::Minus => false,
-    }
-}
-
-// The right side after a value.
-fn after_value(op: Op, a: Value, b: Given) -> Given
-    ensures { λ r. ⌜ r ≡ the.rightGiven op (its.value a) b ⌝ }
-{
-    match b {
-        Given::Nothing => Given::Nothing,
-        Given::Is(v) => of_values(op, a, v),
-        Given::Truth(_) => refused(Refusal::WRONG_KIND),
-        Given::Refused(r) => Given::Refused(r),
-    }
-}
-
-// The right side after a truth value.
-fn after_truth(op: Op, a: bool, b: Given) -> Given
-    ensures { λ r. ⌜ r ≡ the.rightGiven op (its.truth a) b ⌝ }
-{
-    match b {
-        Given::Nothing => Given::Nothing,
-        Given::Is(_) => refused(Refusal::WRONG_KIND),
-        Given::Truth(y) => {
-            if joins(op) {
-                return Given::Truth(y);
-            }
-            refused(Refusal::WRONG_KIND)
-        }
-        Given::Refused(r) => Given::Refused(r),
-    }
-}
-
-// A refusal, and nothing else.
-fn only_refused(a: Given) -> Given
-    ensures { λ r. ⌜ r ≡ the.refusedGiven a ⌝ }
-{
-    match a {
-        Given::Nothing => Given::Nothing,
-        Given::Is(_) => Given::Nothing,
-        Given::Truth(_) => Given::Nothing,
-        Given::Refused(r) => Given::Refused(r),
-    }
-}
-
-// Two parts with an operator between: the left one's refusal first.
-pub fn two(op: Op, a: Given, b: Given) -> Given
-    ensures { λ r. ⌜ r ≡ the.twoGiven op a b ⌝ }
-{
-    match a {
-        Given::Nothing => only_refused(b),
-        Given::Is(v) => after_value(op, v, b),
-        Given::Truth(x) => {
-            if settles(op, x) {
-                return Given::Truth(x);
-            }
-            after_truth(op, x, b)
-        }
-        Given::Refused(r) => Given::Refused(r),
-    }
-}
-
-fn right_mode(mode: Mode, settled: bool) -> Mode
-    ensures { λ r. ⌜ r ≡ the.rightMode mode settled ⌝ }
-{
-    match mode {
-        Mode::Check => Mode::Check,
-        Mode::Live => {
-            if settled {
-                return Mode::Dead;
-            }
-            Mode::Live
-        }
-        Mode::Dead => Mode::Dead,
-    }
-}
-
-// The mode of what stands right of an operator.
-pub fn after(op: Op, mode: Mode, a: Given) -> Mode
-    ensures { λ r. ⌜ r ≡ the.afterGiven op mode a ⌝ }
-{
-    match a {
-        Given::Nothing => mode,
-        Given::Is(_) => mode,
-        Given::Truth(x) => right_mode(mode, settles(op, x)),
-        Given::Refused(_) => mode,
     }
 }

@@ -11,9 +11,12 @@ use Rattle.value.specs.declared.Value.{Value}
 use Rattle.symbols.specs.declared.Op.{Op}
 use Rattle.text.specs.Reading.{readAs}
 use Rattle.words.specs.Runs.{between}
-use Rattle.givens.specs.Data.{Datum, value, truth, valued, readField, applied, settles, settled, onto, joined, castDatum, timesDatum}
-use Rattle.givens.specs.Givens.{givenOf, badOf, textIn, fieldIn, castGiven, timesGiven, rightGiven, refusedGiven, twoGiven, rightMode, afterGiven}
-use Rattle.results.specs.Parts.{literalPart, fieldPart, castPart, timesPart, twoPart, afterPart}
+use Rattle.operators.specs.Roles.{roleOf, settles}
+use Rattle.operators.specs.declared.Role.{Role}
+use Rattle.givens.specs.Data.{Datum, value, truth, readField}
+use Rattle.givens.specs.Givens.{givenOf, badOf, textIn, fieldIn}
+use Rattle.results.specs.Evaluation.{applied, onto, joined, castDatum, timesDatum}
+use Rattle.results.specs.Parts.{ontoGiven, refusedGiven, twoGiven, afterGiven, literalPart, fieldPart, castPart, timesPart, twoPart, afterPart}
 use Rattle.sorts.specs.declared.Sort.{Sort}
 use Rattle.givens.specs.declared.Given.{Given}
 use Rattle.givens.specs.declared.Given.the-variants as G
@@ -33,31 +36,16 @@ unfolding fits
 bad-fits (gives v) = refl
 bad-fits (refuses n) = refl
 
-cast-bad : (k : Kind) (a : Answer (Unit {0})) → castGiven k (badOf a) ≡ badOf a
-cast-bad k (gives x) = refl
-cast-bad k (refuses n) = refl
+-- one part below, checked and evaluated
+onto-bad : (f : Datum → Answer Datum) (a : Answer (Unit {0})) → ontoGiven (badOf a) f ≡ badOf a
+onto-bad f (gives x) = refl
+onto-bad f (refuses n) = refl
 
-cast-live : (k : Kind) (a : Answer Datum) → castGiven k (givenOf a) ≡ givenOf (onto a (castDatum k))
+onto-live : (f : Datum → Answer Datum) (a : Answer Datum) → ontoGiven (givenOf a) f ≡ givenOf (onto a f)
 unfolding onto
-cast-live k (gives (value v)) = refl
-cast-live k (gives (truth x)) = refl
-cast-live k (refuses n) = refl
-
-times-bad : (b : Bool) (n : ℕ) (a : Answer (Unit {0})) → timesGiven b n (badOf a) ≡ badOf a
-times-bad b n (gives x) = refl
-times-bad b n (refuses m) = refl
-
-times-live : (b : Bool) (n : ℕ) (a : Answer Datum) → timesGiven b n (givenOf a) ≡ givenOf (onto a (timesDatum b n))
-unfolding onto
-times-live b n (gives (value v)) = refl
-times-live b n (gives (truth x)) = refl
-times-live b n (refuses m) = refl
-
-right-live : (o : Op) (x : Datum) (a : Answer Datum) → rightGiven o x (givenOf a) ≡ givenOf (onto a (applied o x))
-unfolding onto
-right-live o x (gives (value v)) = refl
-right-live o x (gives (truth y)) = refl
-right-live o x (refuses n) = refl
+onto-live f (gives (value v)) = refl
+onto-live f (gives (truth x)) = refl
+onto-live f (refuses n) = refl
 
 refused-bad : (a : Answer (Unit {0})) → refusedGiven (badOf a) ≡ badOf a
 refused-bad (gives x) = refl
@@ -76,17 +64,12 @@ module _ (s line : List ℕ) where
   field-carried Live k w n p = refl
   field-carried Dead k w n p = refl
 
-  cast-carried : (m : Mode) (k : Kind) (w : ℕ) (t : Tree) → castGiven k (givenIn s line m t) ≡ givenIn s line m (one (cast k) w t)
-  unfolding givenIn firstBad eval
-  cast-carried Check k w t = cast-bad k (firstBad s t)
-  cast-carried Live k w t = cast-live k (eval s line t)
-  cast-carried Dead k w t = refl
-
-  times-carried : (m : Mode) (b : Bool) (v p : ℕ) (t : Tree) → timesGiven b v (givenIn s line m t) ≡ givenIn s line m (one (times b v) p t)
-  unfolding givenIn firstBad eval
-  times-carried Check b v p t = times-bad b v (firstBad s t)
-  times-carried Live b v p t = times-live b v (eval s line t)
-  times-carried Dead b v p t = refl
+  onto-carried : (m : Mode) (f : Datum → Answer Datum) (t u : Tree) → firstBad s u ≡ firstBad s t → eval s line u ≡ onto (eval s line t) f →
+      ontoGiven (givenIn s line m t) f ≡ givenIn s line m u
+  unfolding givenIn
+  onto-carried Check f t u d e = onto-bad f (firstBad s t) ∙ ap badOf (sym d)
+  onto-carried Live f t u d e = onto-live f (eval s line t) ∙ ap givenOf (sym e)
+  onto-carried Dead f t u d e = refl
 
   -- the right side of an operator, checked or evaluated after its left side
   two-bad : (o : Op) (a : Answer (Unit {0})) (u : Tree) → twoGiven o (badOf a) (givenIn s line (afterGiven o Check (badOf a)) u) ≡ badOf (first a (firstBad s u))
@@ -94,16 +77,16 @@ module _ (s line : List ℕ) where
   two-bad o (gives x) u = refused-bad (firstBad s u)
   two-bad o (refuses n) u = refl
 
-  settled-live : (o : Op) (x : Bool) (u : Tree) (b : Bool) → pick b (G.Truth x) (rightGiven o (truth x) (givenIn s line (pick b Dead Live) u)) ≡
-      givenOf (pick b (gives (truth x)) (onto (eval s line u) (applied o (truth x))))
+  settled-live : (r : Role) (x : Bool) (u : Tree) (b : Bool) → pick b (G.Truth x) (ontoGiven (givenIn s line (pick b Dead Live) u) (applied r (truth x))) ≡
+      givenOf (pick b (gives (truth x)) (onto (eval s line u) (applied r (truth x))))
   unfolding givenIn
-  settled-live o x u true = refl
-  settled-live o x u false = right-live o (truth x) (eval s line u)
+  settled-live r x u true = refl
+  settled-live r x u false = onto-live (applied r (truth x)) (eval s line u)
 
   two-live : (o : Op) (a : Answer Datum) (u : Tree) → twoGiven o (givenOf a) (givenIn s line (afterGiven o Live (givenOf a)) u) ≡ givenOf (joined o a (eval s line u))
   unfolding givenIn joined onto
-  two-live o (gives (value v)) u = right-live o (value v) (eval s line u)
-  two-live o (gives (truth x)) u = settled-live o x u (settles o x)
+  two-live o (gives (value v)) u = onto-live (applied (roleOf o) (value v)) (eval s line u)
+  two-live o (gives (truth x)) u = settled-live (roleOf o) x u (settles (roleOf o) x)
   two-live o (refuses n) u = refl
 
   two-carried : (m : Mode) (o : Op) (b p : ℕ) (t u : Tree) →
@@ -114,12 +97,12 @@ module _ (s line : List ℕ) where
   two-carried Dead o b p t u = refl
 
   pub code-meets : Meets Part Mode (parts s line) (partOf s line)
-  unfolding sortOf literalPart fieldPart castPart timesPart twoPart afterPart
+  unfolding sortOf firstBad eval literalPart fieldPart castPart timesPart twoPart afterPart
   code-meets =
       record {
         a-literal = λ m k w from to. with-given _ _ _ (literal-carried m k w from to);
         a-field = λ m k w n p. with-given _ _ _ (field-carried m k w n p);
-        a-cast = λ m k w t. with-given _ _ _ (cast-carried m k w t);
-        a-times = λ m b v p t. with-given _ _ _ (times-carried m b v p t);
+        a-cast = λ m k w t. with-given _ _ _ (onto-carried m (castDatum k) t (one (cast k) w t) refl refl);
+        a-times = λ m b v p t. with-given _ _ _ (onto-carried m (timesDatum b v) t (one (times b v) p t) refl refl);
         a-two = λ m o b p t u. with-given _ _ _ (two-carried m o b p t u);
       }

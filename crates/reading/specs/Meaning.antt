@@ -6,7 +6,8 @@ use Rattle.basis.specs.Answer.{Answer, gives, refuses}
 use Rattle.text.specs.Reading.{readAs}
 use Rattle.words.specs.Runs.{between}
 use Rattle.sorts.specs.Sorts.{sortTwo, sortCast, sortTimes}
-use Rattle.givens.specs.Data.{Datum, valued, readField, onto, joined, castDatum, timesDatum}
+use Rattle.givens.specs.Data.{Datum, valued, readField}
+use Rattle.results.specs.Evaluation.{onto, joined, castDatum, timesDatum}
 use Rattle.sorts.specs.declared.Sort.{Sort}
 use Rattle.sorts.specs.declared.Sort.the-variants as S
 use Rattle.grammar.specs.Trees.{Tree, leaf, one, two, literal, field, cast, times}

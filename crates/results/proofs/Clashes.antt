@@ -16,7 +16,7 @@ use Rattle.operation.specs.Casts.{castsTo, castTo, castOf}
 use Rattle.arithmetic.specs.Sums.{plusOf, minusIn}
 use Rattle.arithmetic.specs.Products.{timesOf}
 use Rattle.sorts.specs.Sorts.{comparedKinds, addedKinds, lessKinds, sortCast, sortTimes}
-use Rattle.givens.specs.Data.{joined, onto, ShortCircuit}
+use Rattle.results.specs.Evaluation.{joined, onto, ShortCircuit}
 use Rattle.results.specs.Fitting.{Exactly, ClashIs9}
 use Rattle.sorts.specs.declared.Sort.{Sort}
 use Rattle.sorts.specs.declared.Sort.the-variants as S

@@ -1,4 +1,3 @@
-pub mod PartLaws
 pub mod Numbers
 pub mod Settled
 pub mod Clashes

@@ -30,7 +30,7 @@ use Rattle.ordering.specs.Order.{orderIn, operandOrder}
 use Rattle.arithmetic.specs.Sums.{sumOf, plusOf, lessMoment, differenceIn, minusIn}
 use Rattle.arithmetic.specs.Products.{productOf, timesOf, maxFactor}
 use Rattle.operation.specs.Casts.{castsTo, castTo, castOf}
-use Rattle.sorts.specs.Sorts.{moment, addedKinds, lessKinds, sortTimes}
+use Rattle.sorts.specs.Sorts.{addedKinds, lessKinds, sortTimes}
 use Rattle.sorts.specs.declared.Sort.{Sort}
 use Rattle.sorts.specs.declared.Sort.the-variants as S
 
@@ -90,7 +90,7 @@ no-months d p q = refl
 
 -- a moment and a duration added, either way round
 sum-fits : (a b : Value) → FitsSort (addedKinds (kindOf a) (kindOf b)) (sumOf (operandOf a) (operandOf b))
-unfolding addedKinds moment sumOf
+unfolding addedKinds sumOf
 sum-fits (V′.Date d) (V′.Date e) = refl
 sum-fits (V′.Date d) (V′.Time e) = refl
 sum-fits (V′.Date d) (V′.DateTime e) = refl
@@ -118,7 +118,7 @@ sum-fits (V′.YearMonth m) (V′.DayTime t) = refl
 sum-fits (V′.YearMonth m) (V′.YearMonth n) = months-fit _ _
 
 difference-fits : (o : Offset) (a b : Value) → FitsSort (lessKinds (kindOf a) (kindOf b)) (differenceIn o (operandOf a) (operandOf b))
-unfolding lessKinds moment differenceIn lessMoment sumOf
+unfolding lessKinds differenceIn lessMoment sumOf
 difference-fits o (V′.Date d) (V′.Date e) = ticks-fit _ _
 difference-fits o (V′.Date d) (V′.Time e) = refl
 difference-fits o (V′.Date d) (V′.DateTime e) = refl
@@ -146,7 +146,7 @@ difference-fits o (V′.YearMonth m) (V′.DayTime t) = refl
 difference-fits o (V′.YearMonth m) (V′.YearMonth n) = months-fit _ _
 
 product-fits : (a : Value) (b : Bool) (n : ℕ) → FitsSort (sortTimes (S.Of (kindOf a))) (productOf (operandOf a) b n)
-unfolding moment productOf
+unfolding productOf
 product-fits (V′.Date d) b n = refl
 product-fits (V′.Time d) b n = refl
 product-fits (V′.DateTime d) b n = refl

@@ -1,3 +1,4 @@
+pub mod Evaluation
 pub mod Parts
 pub mod Fitting
 pub mod Numbers

@@ -1,34 +1,74 @@
 -- What the code carries of a part of a condition: its sort, and what it gives in the mode in which it is read.
--- No contract of a public call of `condition` rests on this file: what a condition gives at a line is stated over Data.antt of crate
--- `givens`. That the code, which carries this, comes to the same is proved (`code-meets` in crate `reading`).
+-- No contract of a public call of `condition` rests on this file: what a condition gives at a line is stated over Evaluation.antt. That
+-- the code, which carries this, comes to the same is proved (`code-meets` in crate `reading`).
 use mathlib.Core.Bool.{Bool}
 use mathlib.Core.List.{List}
 use Prim.Native.Nat.{ℕ}
+use Rattle.basis.specs.Choice.{pick}
+use Rattle.basis.specs.Answer.{Answer}
 use Rattle.value.specs.declared.Kind.{Kind}
 use Rattle.text.specs.Reading.{readAs}
 use Rattle.words.specs.Runs.{between}
 use Rattle.symbols.specs.declared.Op.{Op}
+use Rattle.operators.specs.Roles.{roleOf, settles}
 use Rattle.sorts.specs.Sorts.{sortTwo, sortCast, sortTimes}
 use Rattle.sorts.specs.declared.Sort.the-variants.{Of}
-use Rattle.givens.specs.Data.{readField}
-use Rattle.givens.specs.Givens.{textIn, fieldIn, castGiven, timesGiven, twoGiven, afterGiven}
+use Rattle.givens.specs.Data.{Datum, value, truth, readField}
+use Rattle.givens.specs.Givens.{givenOf, textIn, fieldIn}
+use Rattle.givens.specs.declared.Given.{Given}
+use Rattle.givens.specs.declared.Given.the-variants.{Nothing, Is, Truth, Refused}
 use Rattle.givens.specs.declared.Mode.{Mode}
+use Rattle.givens.specs.declared.Mode.the-variants.{Check, Live, Dead}
+use Rattle.results.specs.Evaluation.{applied, castDatum, timesDatum}
 use Rattle.results.specs.declared.Part.{Part}
 
+-- a literal and a field
 unfoldable pub literalPart : Mode → Kind → List ℕ → ℕ → ℕ → Part
 literalPart m k s from to = record { sort = Of k; given = textIn m (readAs k (between s from to)) }
 
 unfoldable pub fieldPart : Mode → Kind → List ℕ → ℕ → Part
 fieldPart m k line n = record { sort = Of k; given = fieldIn m (readField k line n) }
 
+-- one part below: what was not evaluated, and a refusal, stay as they are
+abbrev pub ontoGiven : Given → (Datum → Answer Datum) → Given
+ontoGiven Nothing f = Nothing
+ontoGiven (Is v) f = givenOf (f (value v))
+ontoGiven (Truth x) f = givenOf (f (truth x))
+ontoGiven (Refused r) f = Refused r
+
 unfoldable pub castPart : Kind → Part → Part
-castPart k p = record { sort = sortCast k (p .sort); given = castGiven k (p .given) }
+castPart k p = record { sort = sortCast k (p .sort); given = ontoGiven (p .given) (castDatum k) }
 
 unfoldable pub timesPart : Bool → ℕ → Part → Part
-timesPart negative n p = record { sort = sortTimes (p .sort); given = timesGiven negative n (p .given) }
+timesPart negative n p = record { sort = sortTimes (p .sort); given = ontoGiven (p .given) (timesDatum negative n) }
+
+-- two parts with an operator between: the left one's refusal first
+abbrev pub refusedGiven : Given → Given
+refusedGiven Nothing = Nothing
+refusedGiven (Is v) = Nothing
+refusedGiven (Truth y) = Nothing
+refusedGiven (Refused r) = Refused r
+
+abbrev pub twoGiven : Op → Given → Given → Given
+twoGiven o Nothing b = refusedGiven b
+twoGiven o (Is v) b = ontoGiven b (applied (roleOf o) (value v))
+twoGiven o (Truth x) b = pick (settles (roleOf o) x) (Truth x) (ontoGiven b (applied (roleOf o) (truth x)))
+twoGiven o (Refused r) b = Refused r
 
 unfoldable pub twoPart : Op → Part → Part → Part
 twoPart o a b = record { sort = sortTwo o (a .sort) (b .sort); given = twoGiven o (a .given) (b .given) }
+
+-- the mode of the right side: after a left that settles the operator it is not evaluated
+abbrev pub rightMode : Mode → Bool → Mode
+rightMode Check settled = Check
+rightMode Live settled = pick settled Dead Live
+rightMode Dead settled = Dead
+
+abbrev pub afterGiven : Op → Mode → Given → Mode
+afterGiven o m Nothing = m
+afterGiven o m (Is v) = m
+afterGiven o m (Truth x) = rightMode m (settles (roleOf o) x)
+afterGiven o m (Refused r) = m
 
 unfoldable pub afterPart : Op → Mode → Part → Mode
 afterPart o m a = afterGiven o m (a .given)

@@ -1,8 +1,9 @@
-// The parts of a condition: a part's sort and what it gives, together.
+// The parts of a condition: a part's sort and what it gives, together, and the operations on them.
 use givens::Given;
 use sorts::Sort;
 
-pub mod parts; // parts.rt: the operations on parts, checked or evaluated
+pub mod evaluation; // evaluation.rt: what the operations give
+pub mod parts; // parts.rt: the operations on parts
 
 pub struct Part {
     pub sort: Sort,

@@ -1,5 +1,6 @@
 // A part's sort and what it gives, together.
 use crate::Part;
+use crate::evaluation;
 use givens::Mode;
 use sorts::Sort;
 use symbols::Op;
@@ -36,7 +37,7 @@ pub fn cast(kind: Kind, a: Part) -> Part
     let given = a.given;
     Part {
         sort: sorts::cast(kind, sort),
-        given: givens::cast(kind, given),
+        given: evaluation::cast(kind, given),
     }
 }
 
@@ -47,7 +48,7 @@ pub fn times(negative: bool, n: u32, a: Part) -> Part
     let given = a.given;
     Part {
         sort: sorts::times(sort),
-        given: givens::times(negative, n, given),
+        given: evaluation::times(negative, n, given),
     }
 }
 
@@ -60,7 +61,7 @@ pub fn two(op: Op, a: Part, b: Part) -> Part
     let second = b.given;
     Part {
         sort: sorts::two(op, left, right),
-        given: givens::two(op, first, second),
+        given: evaluation::two(op, first, second),
     }
 }
 
@@ -69,5 +70,5 @@ pub fn after(op: Op, mode: Mode, a: Part) -> Mode
     ensures { λ r. ⌜ r ≡ the.afterPart op mode a ⌝ }
 {
     let first = a.given;
-    givens::after(op, mode, first)
+    evaluation::after(op, mode, first)
 }

@@ -1,1 +1,1 @@
-pub mod FitLaws
+pub mod Choices

@@ -8,12 +8,14 @@ use Rattle.value.specs.declared.Kind.the-variants as K
 use Rattle.quantities.specs.Operands.{sameKind}
 use Rattle.operation.specs.Casts.{castsTo}
 use Rattle.symbols.specs.declared.Op.{Op}
-use Rattle.symbols.specs.declared.Op.the-variants as O
+use Rattle.operators.specs.Roles.{roleOf, joins}
+use Rattle.operators.specs.declared.Role.{Role}
+use Rattle.operators.specs.declared.Role.the-variants.{Joins, Compares, Adds, Subtracts}
 use Rattle.sorts.specs.declared.Sort.{Sort}
 use Rattle.sorts.specs.declared.Sort.the-variants.{Clash, Truth, Of}
 
 -- whether a kind is a date, time or dateTime; the others are durations
-unfoldable pub moment : Kind → Bool
+abbrev pub moment : Kind → Bool
 moment k = pick (hasDate k) true (hasTime k)
 
 -- whether a kind takes a duration of another: "dateTime ± yearMonthDuration .. Dates likewise", "dateTime ± dayTimeDuration",
@@ -37,40 +39,21 @@ addedKinds j k = pick (takes j k) (Of j) (pick (takes k j) (Of k) (pick (moment 
 unfoldable pub lessKinds : Kind → Kind → Sort
 lessKinds j k = pick (takes j k) (Of j) (pick (sameKind j k) (pick (moment j) (Of K.DayTimeDuration) (Of j)) Clash)
 
-abbrev pub kindsOf : Op → Kind → Kind → Sort
-kindsOf O.Or j k = Clash
-kindsOf O.And j k = Clash
-kindsOf O.Eq j k = comparedKinds j k
-kindsOf O.Ne j k = comparedKinds j k
-kindsOf O.Lt j k = comparedKinds j k
-kindsOf O.Le j k = comparedKinds j k
-kindsOf O.Gt j k = comparedKinds j k
-kindsOf O.Ge j k = comparedKinds j k
-kindsOf O.Plus j k = addedKinds j k
-kindsOf O.Minus j k = lessKinds j k
-
--- `and` and `or` join truth values
-abbrev pub joins : Op → Bool
-joins O.Or = true
-joins O.And = true
-joins O.Eq = false
-joins O.Ne = false
-joins O.Lt = false
-joins O.Le = false
-joins O.Gt = false
-joins O.Ge = false
-joins O.Plus = false
-joins O.Minus = false
+abbrev pub kindsOf : Role → Kind → Kind → Sort
+kindsOf (Joins by) j k = Clash
+kindsOf (Compares less equal greater) j k = comparedKinds j k
+kindsOf Adds j k = addedKinds j k
+kindsOf Subtracts j k = lessKinds j k
 
 -- the sort of two parts with an operator between
 abbrev pub sortTwo : Op → Sort → Sort → Sort
 sortTwo o Clash b = Clash
 sortTwo o Truth Clash = Clash
-sortTwo o Truth Truth = pick (joins o) Truth Clash
+sortTwo o Truth Truth = pick (joins (roleOf o)) Truth Clash
 sortTwo o Truth (Of k) = Clash
 sortTwo o (Of j) Clash = Clash
 sortTwo o (Of j) Truth = Clash
-sortTwo o (Of j) (Of k) = kindsOf o j k
+sortTwo o (Of j) (Of k) = kindsOf (roleOf o) j k
 
 -- of a part that is cast
 abbrev pub sortCast : Kind → Sort → Sort

@@ -1,5 +1,8 @@
 // What the text alone settles of a condition's parts: which kinds fit each operation (document 01, "Conditions").
 use operation::casting::casts_to;
+use operators::Role;
+use operators::joins;
+use operators::role_of;
 use quantities::operands::same_kind;
 use symbols::Op;
 use value::Kind;
@@ -80,38 +83,18 @@ fn less(a: Kind, b: Kind) -> Sort
     Sort::Of(a)
 }
 
-fn kinds(op: Op, a: Kind, b: Kind) -> Sort
-    ensures { λ r. ⌜ r ≡ the.kindsOf op a b ⌝ }
+fn kinds(role: Role, a: Kind, b: Kind) -> Sort
+    ensures { λ r. ⌜ r ≡ the.kindsOf role a b ⌝ }
 {
-    match op {
-        Op::Or => Sort::Clash,
-        Op::And => Sort::Clash,
-        Op::Eq => compared(a, b),
-        Op::Ne => compared(a, b),
-        Op::Lt => compared(a, b),
-        Op::Le => compared(a, b),
-        Op::Gt => compared(a, b),
-        Op::Ge => compared(a, b),
-        Op::Plus => added(a, b),
-        Op::Minus => less(a, b),
-    }
-}
-
-// Whether an operator joins truth values.
-pub fn joins(op: Op) -> bool
-    ensures { λ r. ⌜ r ≡ the.joins op ⌝ }
-{
-    match op {
-        Op::Or => true,
-        Op::And => true,
-        Op::Eq => false,
-        Op::Ne => false,
-        Op::Lt => false,
-        Op::Le => false,
-        Op::Gt => false,
-        Op::Ge => false,
-        Op::Plus => false,
-        Op::Minus => false,
+    match role {
+        Role::Joins { by: _ } => Sort::Clash,
+        Role::Compares {
+            less: _,
+            equal: _,
+            greater: _,
+        } => compared(a, b),
+        Role::Adds => added(a, b),
+        Role::Subtracts => less(a, b),
     }
 }
 
@@ -119,12 +102,13 @@ pub fn joins(op: Op) -> bool
 pub fn two(op: Op, a: Sort, b: Sort) -> Sort
     ensures { λ r. ⌜ r ≡ the.sortTwo op a b ⌝ }
 {
+    let role = role_of(op);
     match a {
         Sort::Clash => Sort::Clash,
         Sort::Truth => match b {
             Sort::Clash => Sort::Clash,
             Sort::Truth => {
-                if joins(op) {
+                if joins(role) {
                     return Sort::Truth;
                 }
                 Sort::Clash
@@ -134,7 +118,7 @@ pub fn two(op: Op, a: Sort, b: Sort) -> Sort
         Sort::Of(j) => match b {
             Sort::Clash => Sort::Clash,
             Sort::Truth => Sort::Clash,
-            Sort::Of(k) => kinds(op, j, k),
+            Sort::Of(k) => kinds(role, j, k),
         },
     }
 }

@@ -1,4 +1,3 @@
-use Rattle.givens.proofs.GiveLaws.{bad-is, bad-refused}
 use borrow.Author.Needs.{needs}
 use Rattle.givens.proofs.bad.Statement.{statement}
 use Rattle.givens.proofs.bad.Tie as tie
@@ -10,10 +9,10 @@ enum-known-a : tie.Need-enum-known-a
 enum-known-a c = search needs
 
 returns : tie.Need-returns
-returns c = search (bad-is, bad-refused)
+returns c = rw (c .enum-told .given .1)
 
 returns-2 : tie.Need-returns-2
-returns-2 c = search (bad-is, bad-refused)
+returns-2 c = rw (c .before .a .given .1)
 
 pub bad-spec : {M : Type 1} → statement M
 bad-spec = tie.close (tie.spec enum-told enum-known-a returns returns-2)

@@ -1,4 +1,3 @@
-use Rattle.givens.proofs.GiveLaws.{field-check, field-dead, field-live}
 use borrow.Author.Needs.{needs}
 use Rattle.givens.proofs.field.Statement.{statement}
 use Rattle.givens.proofs.field.Tie as tie
@@ -16,13 +15,13 @@ enum-told-3 : tie.Need-enum-told-3
 enum-told-3 c = search needs
 
 returns : tie.Need-returns
-returns c = search (field-check, field-dead, field-live)
+returns c = rw (c .enum-told .given .1)
 
 returns-2 : tie.Need-returns-2
-returns-2 c = search (field-check, field-dead, field-live)
+returns-2 c = rw (c .before .enum-told2 .given .1) (c .read-field .ensures)
 
 returns-3 : tie.Need-returns-3
-returns-3 c = search (field-check, field-dead, field-live)
+returns-3 c = rw (c .enum-told3 .given .1)
 
 pub field-spec : {M : Type 1} → statement M
 field-spec =

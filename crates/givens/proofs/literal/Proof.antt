@@ -1,4 +1,3 @@
-use Rattle.givens.proofs.GiveLaws.{text-check, text-live, text-dead, read-on}
 use borrow.Author.Needs.{needs}
 use Rattle.givens.proofs.literal.Statement.{statement}
 use Rattle.givens.proofs.literal.Tie as tie
@@ -31,13 +30,13 @@ enum-told-3 : tie.Need-enum-told-3
 enum-told-3 c = search needs
 
 returns : tie.Need-returns
-returns c = search (text-check, text-live, text-dead, read-on)
+returns c = rw (c .before .before .before .enum-told .given .1, ← c .before .before .cut .ensures, ← c .before .read .ensures) (c .bad .ensures)
 
 returns-2 : tie.Need-returns-2
-returns-2 c = search (text-check, text-live, text-dead, read-on)
+returns-2 c = rw (c .before .before .before .enum-told2 .given .1, ← c .before .before .cut2 .ensures, ← c .before .read2 .ensures) (c .valued .ensures)
 
 returns-3 : tie.Need-returns-3
-returns-3 c = search (text-check, text-live, text-dead, read-on)
+returns-3 c = rw (c .enum-told3 .given .1)
 
 pub literal-spec : {M : Type 1} → statement M
 literal-spec =

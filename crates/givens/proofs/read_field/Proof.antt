@@ -1,4 +1,4 @@
-use Rattle.givens.proofs.GiveLaws.{no-field, a-field}
+use Rattle.givens.proofs.Fields.{no-field, a-field}
 use borrow.Author.Needs.{needs}
 use Rattle.givens.proofs.read_field.Statement.{statement}
 use Rattle.givens.proofs.read_field.Tie as tie
@@ -10,7 +10,7 @@ refused-requires : tie.Need-refused-requires
 refused-requires c κs = search needs
 
 returns : tie.Need-returns
-returns c = search (no-field, a-field)
+returns c = no-field _ _ _ (c .before .before .has-field .ensures) (c .before .if1 .taken) (c .refused .ensures)
 
 field-requires : tie.Need-field-requires
 field-requires c κs = search needs
@@ -22,7 +22,7 @@ valued-requires : tie.Need-valued-requires
 valued-requires c κs = search needs
 
 returns-2 : tie.Need-returns-2
-returns-2 c = search (no-field, a-field)
+returns-2 c = search a-field
 
 pub read-field-spec : {M : Type 1} → statement M
 read-field-spec =

@@ -1,4 +1,5 @@
-use Rattle.sorts.proofs.FitLaws.{added-left, added-right, added-moments, added-same, added-other}
+use Rattle.sorts.specs.Sorts.{addedKinds}
+use Rattle.sorts.proofs.Choices.{taken, left}
 use borrow.Author.Needs.{needs}
 use Rattle.sorts.proofs.added.Statement.{statement}
 use Rattle.sorts.proofs.added.Tie as tie
@@ -7,28 +8,33 @@ takes-requires : tie.Need-takes-requires
 takes-requires c κs = search needs
 
 returns : tie.Need-returns
-returns c = search (added-left, added-right, added-moments, added-same, added-other)
+unfolding addedKinds
+returns c = search (taken, left)
 
 takes-requires-2 : tie.Need-takes-requires-2
 takes-requires-2 c κs = search needs
 
 returns-2 : tie.Need-returns-2
-returns-2 c = search (added-left, added-right, added-moments, added-same, added-other)
+unfolding addedKinds
+returns-2 c = search (taken, left)
 
 moment-requires : tie.Need-moment-requires
 moment-requires c κs = search needs
 
 returns-3 : tie.Need-returns-3
-returns-3 c = search (added-left, added-right, added-moments, added-same, added-other)
+unfolding addedKinds
+returns-3 c = search (taken, left)
 
 same-kind-requires : tie.Need-same-kind-requires
 same-kind-requires c κs = search needs
 
 returns-4 : tie.Need-returns-4
-returns-4 c = search (added-left, added-right, added-moments, added-same, added-other)
+unfolding addedKinds
+returns-4 c = search (taken, left)
 
 returns-5 : tie.Need-returns-5
-returns-5 c = search (added-left, added-right, added-moments, added-same, added-other)
+unfolding addedKinds
+returns-5 c = search (taken, left)
 
 pub added-spec : {M : Type 1} → statement M
 added-spec =

@@ -1,4 +1,5 @@
-use Rattle.sorts.proofs.FitLaws.{less-takes, less-other, less-moments, less-durations}
+use Rattle.sorts.specs.Sorts.{lessKinds}
+use Rattle.sorts.proofs.Choices.{taken, left, not-taken, not-left}
 use borrow.Author.Needs.{needs}
 use Rattle.sorts.proofs.less.Statement.{statement}
 use Rattle.sorts.proofs.less.Tie as tie
@@ -7,22 +8,26 @@ takes-requires : tie.Need-takes-requires
 takes-requires c κs = search needs
 
 returns : tie.Need-returns
-returns c = search (less-takes, less-other, less-moments, less-durations)
+unfolding lessKinds
+returns c = search (taken, left, not-taken, not-left)
 
 same-kind-requires : tie.Need-same-kind-requires
 same-kind-requires c κs = search needs
 
 returns-2 : tie.Need-returns-2
-returns-2 c = search (less-takes, less-other, less-moments, less-durations)
+unfolding lessKinds
+returns-2 c = search (taken, left, not-taken, not-left)
 
 moment-requires : tie.Need-moment-requires
 moment-requires c κs = search needs
 
 returns-3 : tie.Need-returns-3
-returns-3 c = search (less-takes, less-other, less-moments, less-durations)
+unfolding lessKinds
+returns-3 c = search (taken, left, not-taken, not-left)
 
 returns-4 : tie.Need-returns-4
-returns-4 c = search (less-takes, less-other, less-moments, less-durations)
+unfolding lessKinds
+returns-4 c = search (taken, left, not-taken, not-left)
 
 pub less-spec : {M : Type 1} → statement M
 less-spec =

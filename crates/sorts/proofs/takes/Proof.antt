@@ -1,4 +1,3 @@
-use Rattle.sorts.proofs.FitLaws.{takes-date, takes-time, takes-datetime, takes-day-time, takes-year-month}
 use borrow.Author.Needs.{needs}
 use Rattle.sorts.proofs.takes.Statement.{statement}
 use Rattle.sorts.proofs.takes.Tie as tie
@@ -25,19 +24,19 @@ has-date-requires : tie.Need-has-date-requires
 has-date-requires c κs = search needs
 
 returns : tie.Need-returns
-returns c = search (takes-date, takes-time, takes-datetime, takes-day-time, takes-year-month)
+returns c = rw (c .enum-told .given .1)
 
 returns-2 : tie.Need-returns-2
-returns-2 c = search (takes-date, takes-time, takes-datetime, takes-day-time, takes-year-month)
+returns-2 c = rw (c .enum-told2 .given .1)
 
 returns-3 : tie.Need-returns-3
-returns-3 c = search (takes-date, takes-time, takes-datetime, takes-day-time, takes-year-month)
+returns-3 c = rw (c .enum-told3 .given .1)
 
 returns-4 : tie.Need-returns-4
-returns-4 c = search (takes-date, takes-time, takes-datetime, takes-day-time, takes-year-month)
+returns-4 c = rw (c .before .enum-told4 .given .1) (c .moment .ensures)
 
 returns-5 : tie.Need-returns-5
-returns-5 c = search (takes-date, takes-time, takes-datetime, takes-day-time, takes-year-month)
+returns-5 c = rw (c .before .enum-told5 .given .1) (c .has-date .ensures)
 
 pub takes-spec : {M : Type 1} → statement M
 takes-spec =

@@ -1,7 +1,10 @@
-use Rattle.sorts.proofs.FitLaws.{two-clash, two-truth-clash, two-truth-of, two-truths, two-truths-not, two-of-clash, two-of-truth, two-kinds}
+use Rattle.sorts.proofs.Choices.{taken, left}
 use borrow.Author.Needs.{needs}
 use Rattle.sorts.proofs.two.Statement.{statement}
 use Rattle.sorts.proofs.two.Tie as tie
+
+role-of-requires : tie.Need-role-of-requires
+role-of-requires c κs = search needs
 
 enum-told : tie.Need-enum-told
 enum-told c = search needs
@@ -19,7 +22,7 @@ joins-requires : tie.Need-joins-requires
 joins-requires c κs = search needs
 
 returns : tie.Need-returns
-returns c = search (two-clash, two-truth-clash, two-truth-of, two-truths, two-truths-not, two-of-clash, two-of-truth, two-kinds)
+returns c = rw (c .before .before .before .before .enum-told2 .given .1, c .before .before .enum-told4 .given .1, ← c .before .before .before .before .before .before .role-of .ensures) (search (taken, left))
 
 enum-told-5 : tie.Need-enum-told-5
 enum-told-5 c = search needs
@@ -40,30 +43,31 @@ kinds-requires : tie.Need-kinds-requires
 kinds-requires c κs = search needs
 
 returns-2 : tie.Need-returns-2
-returns-2 c = search (two-clash, two-truth-clash, two-truth-of, two-truths, two-truths-not, two-of-clash, two-of-truth, two-kinds)
+returns-2 c = rw (c .enum-told .given .1)
 
 returns-3 : tie.Need-returns-3
-returns-3 c = search (two-clash, two-truth-clash, two-truth-of, two-truths, two-truths-not, two-of-clash, two-of-truth, two-kinds)
+returns-3 c = rw (c .before .before .enum-told2 .given .1, c .enum-told3 .given .1)
 
 returns-4 : tie.Need-returns-4
-returns-4 c = search (two-clash, two-truth-clash, two-truth-of, two-truths, two-truths-not, two-of-clash, two-of-truth, two-kinds)
+returns-4 c = rw (c .before .before .before .before .enum-told2 .given .1, c .before .before .enum-told4 .given .1, ← c .before .before .before .before .before .before .role-of .ensures) (search (taken, left))
 
 returns-5 : tie.Need-returns-5
-returns-5 c = search (two-clash, two-truth-clash, two-truth-of, two-truths, two-truths-not, two-of-clash, two-of-truth, two-kinds)
+returns-5 c = rw (c .before .before .enum-told2 .given .1, c .enum-told5 .given .1)
 
 returns-6 : tie.Need-returns-6
-returns-6 c = search (two-clash, two-truth-clash, two-truth-of, two-truths, two-truths-not, two-of-clash, two-of-truth, two-kinds)
+returns-6 c = rw (c .before .before .before .a .given .1, c .enum-told6 .given .1)
 
 returns-7 : tie.Need-returns-7
-returns-7 c = search (two-clash, two-truth-clash, two-truth-of, two-truths, two-truths-not, two-of-clash, two-of-truth, two-kinds)
+returns-7 c = rw (c .before .before .before .a .given .1, c .enum-told7 .given .1)
 
 returns-8 : tie.Need-returns-8
-returns-8 c = search (two-clash, two-truth-clash, two-truth-of, two-truths, two-truths-not, two-of-clash, two-of-truth, two-kinds)
+returns-8 c = rw (c .before .before .before .before .before .a .given .1, c .before .before .b .given .1, ← c .before .before .before .before .before .before .before .role-of .ensures) (c .kinds .ensures)
 
 pub two-spec : {M : Type 1} → statement M
 two-spec =
     tie.close
     (tie.spec
+    role-of-requires
     enum-told
     enum-told-2
     enum-told-3

@@ -1,4 +1,4 @@
-use Rattle.results.proofs.PartLaws.{after-is}
+use Rattle.results.specs.Parts.{afterPart}
 use borrow.Author.Needs.{needs}
 use Rattle.results.proofs.parts.after.Statement.{statement}
 use Rattle.results.proofs.parts.after.Tie as tie
@@ -7,7 +7,8 @@ after-requires : tie.Need-after-requires
 after-requires c κs = search needs
 
 returns : tie.Need-returns
-returns c = search after-is
+unfolding afterPart
+returns c = c .after .ensures
 
 pub after-spec : {M : Type 1} → statement M
 after-spec = tie.close (tie.spec after-requires returns)

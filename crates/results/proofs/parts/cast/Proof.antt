@@ -1,4 +1,4 @@
-use Rattle.results.proofs.PartLaws.{cast-is}
+use Rattle.results.specs.Parts.{castPart}
 use borrow.Author.Needs.{needs}
 use Rattle.results.proofs.parts.cast.Statement.{statement}
 use Rattle.results.proofs.parts.cast.Tie as tie
@@ -10,7 +10,8 @@ cast-requires-2 : tie.Need-cast-requires-2
 cast-requires-2 c κs = search needs
 
 returns : tie.Need-returns
-returns c = search cast-is
+unfolding castPart
+returns c = rw (← c .before .cast .ensures, ← c .cast2 .ensures)
 
 pub cast-spec : {M : Type 1} → statement M
 cast-spec = tie.close (tie.spec cast-requires cast-requires-2 returns)

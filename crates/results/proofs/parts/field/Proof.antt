@@ -1,4 +1,4 @@
-use Rattle.results.proofs.PartLaws.{field-is}
+use Rattle.results.specs.Parts.{fieldPart}
 use borrow.Author.Needs.{needs}
 use Rattle.results.proofs.parts.field.Statement.{statement}
 use Rattle.results.proofs.parts.field.Tie as tie
@@ -7,7 +7,8 @@ field-requires : tie.Need-field-requires
 field-requires c κs = search needs
 
 returns : tie.Need-returns
-returns c = search field-is
+unfolding fieldPart
+returns c = rw (← c .field .ensures)
 
 pub field-spec : {M : Type 1} → statement M
 field-spec = tie.close (tie.spec field-requires returns)

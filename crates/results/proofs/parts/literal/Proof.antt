@@ -1,4 +1,4 @@
-use Rattle.results.proofs.PartLaws.{literal-is}
+use Rattle.results.specs.Parts.{literalPart}
 use borrow.Author.Needs.{needs}
 use Rattle.results.proofs.parts.literal.Statement.{statement}
 use Rattle.results.proofs.parts.literal.Tie as tie
@@ -7,7 +7,8 @@ literal-requires : tie.Need-literal-requires
 literal-requires c κs = search needs
 
 returns : tie.Need-returns
-returns c = search literal-is
+unfolding literalPart
+returns c = rw (← c .literal .ensures)
 
 pub literal-spec : {M : Type 1} → statement M
 literal-spec = tie.close (tie.spec literal-requires returns)

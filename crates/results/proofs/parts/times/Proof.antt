@@ -1,4 +1,4 @@
-use Rattle.results.proofs.PartLaws.{times-is}
+use Rattle.results.specs.Parts.{timesPart}
 use borrow.Author.Needs.{needs}
 use Rattle.results.proofs.parts.times.Statement.{statement}
 use Rattle.results.proofs.parts.times.Tie as tie
@@ -10,7 +10,8 @@ times-requires-2 : tie.Need-times-requires-2
 times-requires-2 c κs = search needs
 
 returns : tie.Need-returns
-returns c = search times-is
+unfolding timesPart
+returns c = rw (← c .before .times .ensures, ← c .times2 .ensures)
 
 pub times-spec : {M : Type 1} → statement M
 times-spec = tie.close (tie.spec times-requires times-requires-2 returns)

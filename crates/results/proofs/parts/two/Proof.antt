@@ -1,4 +1,4 @@
-use Rattle.results.proofs.PartLaws.{two-is}
+use Rattle.results.specs.Parts.{twoPart}
 use borrow.Author.Needs.{needs}
 use Rattle.results.proofs.parts.two.Statement.{statement}
 use Rattle.results.proofs.parts.two.Tie as tie
@@ -10,7 +10,8 @@ two-requires-2 : tie.Need-two-requires-2
 two-requires-2 c κs = search needs
 
 returns : tie.Need-returns
-returns c = search two-is
+unfolding twoPart
+returns c = rw (← c .before .two .ensures, ← c .two2 .ensures)
 
 pub two-spec : {M : Type 1} → statement M
 two-spec = tie.close (tie.spec two-requires two-requires-2 returns)
