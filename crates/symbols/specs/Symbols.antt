@@ -49,14 +49,17 @@ abbrev pub andAt : List ℕ → ℕ → Joint
 andAt s at = operatorAt s at (bytes "and") O.And
 
 -- "`eq ne lt le gt ge`"
+abbrev pub ordering : List ℕ → ℕ → ℕ → Joint
+ordering w from to =
+    pick (same w (bytes "lt")) (J.At O.Lt from to)
+    (pick (same w (bytes "le")) (J.At O.Le from to)
+    (pick (same w (bytes "gt")) (J.At O.Gt from to)
+    (pick (same w (bytes "ge")) (J.At O.Ge from to) J.No)))
+
 unfoldable pub comparing : List ℕ → ℕ → ℕ → Joint
 comparing w from to =
     pick (same w (bytes "eq")) (J.At O.Eq from to)
-    (pick (same w (bytes "ne")) (J.At O.Ne from to)
-    (pick (same w (bytes "lt")) (J.At O.Lt from to)
-    (pick (same w (bytes "le")) (J.At O.Le from to)
-    (pick (same w (bytes "gt")) (J.At O.Gt from to)
-    (pick (same w (bytes "ge")) (J.At O.Ge from to) J.No)))))
+    (pick (same w (bytes "ne")) (J.At O.Ne from to) (ordering w from to))
 
 unfoldable pub comparisonAt : List ℕ → ℕ → Joint
 comparisonAt s at = comparing (wordAt s (skipped s at)) (skipped s at) (runEnd Letter s (skipped s at))

@@ -138,6 +138,13 @@ fn comparing(w: &[u8], from: usize, to: usize) -> Joint
     if same(w, b"ne") {
         return Joint::At(Op::Ne, from, to);
     }
+    ordering(w, from, to)
+}
+
+// The comparison by order that a word is.
+fn ordering(w: &[u8], from: usize, to: usize) -> Joint
+    ensures { λ r. ⌜ r ≡ the.ordering (now (w .entry)) from to ⌝ }
+{
     if same(w, b"lt") {
         return Joint::At(Op::Lt, from, to);
     }

@@ -12,7 +12,7 @@ operator-requires : tie.Need-operator-requires
 operator-requires c κs = search needs
 
 returns : tie.Need-returns
-returns c = search needs
+returns c = c .operator .ensures
 
 pub and-spec : {M : Type 1} → statement M
 and-spec = tie.close (tie.spec slice-aggregate-operator operator-requires returns)

@@ -32,7 +32,7 @@ returns-3 : tie.Need-returns-3
 returns-3 c = search field-beyond
 
 returns-4 : tie.Need-returns-4
-returns-4 c = search field-is
+returns-4 c = field-is _ _ _ (c .before .before .before .before .before .before .digits .ensures) _ (c .before .before .before .before .before .byte .ensures) (c .before .before .before .before .if1 .left) (c .before .before .if2 .left) (c .if3 .left)
 
 pub field-spec : {M : Type 1} → statement M
 field-spec =
