@@ -3,17 +3,11 @@ use symbols::Op;
 ghost use mathlib.Core.Path.{_≡_};
 ghost use Rattle.operators.specs.Roles as the;
 
-// Joins: `or` and `and` join truth values, and a left side that is `by` settles them. Compares: a comparison holds or not where the
-// left value is less than the right one, equal to it, or greater.
+// What an operator does. Joins: it joins two truth values, and this one on the left settles it. Compares: it holds, or not, where the
+// left value is less than the right one, equal to it, and greater.
 pub enum Role {
-    Joins {
-        by: bool,
-    },
-    Compares {
-        less: bool,
-        equal: bool,
-        greater: bool,
-    },
+    Joins(bool),
+    Compares(bool, bool, bool),
     Adds,
     Subtracts,
 }
@@ -22,38 +16,14 @@ pub fn role_of(op: Op) -> Role
     ensures { λ r. ⌜ r ≡ the.roleOf op ⌝ }
 {
     match op {
-        Op::Or => Role::Joins { by: true },
-        Op::And => Role::Joins { by: false },
-        Op::Eq => Role::Compares {
-            less: false,
-            equal: true,
-            greater: false,
-        },
-        Op::Ne => Role::Compares {
-            less: true,
-            equal: false,
-            greater: true,
-        },
-        Op::Lt => Role::Compares {
-            less: true,
-            equal: false,
-            greater: false,
-        },
-        Op::Le => Role::Compares {
-            less: true,
-            equal: true,
-            greater: false,
-        },
-        Op::Gt => Role::Compares {
-            less: false,
-            equal: false,
-            greater: true,
-        },
-        Op::Ge => Role::Compares {
-            less: false,
-            equal: true,
-            greater: true,
-        },
+        Op::Or => Role::Joins(true),
+        Op::And => Role::Joins(false),
+        Op::Eq => Role::Compares(false, true, false),
+        Op::Ne => Role::Compares(true, false, true),
+        Op::Lt => Role::Compares(true, false, false),
+        Op::Le => Role::Compares(true, true, false),
+        Op::Gt => Role::Compares(false, false, true),
+        Op::Ge => Role::Compares(false, true, true),
         Op::Plus => Role::Adds,
         Op::Minus => Role::Subtracts,
     }
@@ -64,12 +34,8 @@ pub fn joins(role: Role) -> bool
     ensures { λ r. ⌜ r ≡ the.joins role ⌝ }
 {
     match role {
-        Role::Joins { by: _ } => true,
-        Role::Compares {
-            less: _,
-            equal: _,
-            greater: _,
-        } => false,
+        Role::Joins(_) => true,
+        Role::Compares(_, _, _) => false,
         Role::Adds => false,
         Role::Subtracts => false,
     }
@@ -80,17 +46,13 @@ pub fn settles(role: Role, left: bool) -> bool
     ensures { λ r. ⌜ r ≡ the.settles role left ⌝ }
 {
     match role {
-        Role::Joins { by } => {
+        Role::Joins(by) => {
             if by {
                 return left;
             }
             !left
         }
-        Role::Compares {
-            less: _,
-            equal: _,
-            greater: _,
-        } => false,
+        Role::Compares(_, _, _) => false,
         Role::Adds => false,
         Role::Subtracts => false,
     }

@@ -58,12 +58,13 @@ fn of_values(role: Role, a: Value, b: Value) -> Given
     ensures { λ r. ⌜ r ≡ givenOf (its.ofValues role a b) ⌝ }
 {
     match role {
-        Role::Joins { by: _ } => refused(Refusal::WRONG_KIND),
-        Role::Compares {
+        Role::Joins(_) => refused(Refusal::WRONG_KIND),
+        Role::Compares(less, equal, greater) => tested(
             less,
             equal,
             greater,
-        } => tested(less, equal, greater, operation::compare(a, b)),
+            operation::compare(a, b),
+        ),
         Role::Adds => valued(operation::plus(a, b)),
         Role::Subtracts => valued(operation::minus(a, b)),
     }

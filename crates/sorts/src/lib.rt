@@ -74,25 +74,21 @@ fn less(a: Kind, b: Kind) -> Sort
     if takes(a, b) {
         return Sort::Of(a);
     }
-    if !same_kind(a, b) {
-        return Sort::Clash;
+    if same_kind(a, b) {
+        if moment(a) {
+            return Sort::Of(Kind::DayTimeDuration);
+        }
+        return Sort::Of(a);
     }
-    if moment(a) {
-        return Sort::Of(Kind::DayTimeDuration);
-    }
-    Sort::Of(a)
+    Sort::Clash
 }
 
 fn kinds(role: Role, a: Kind, b: Kind) -> Sort
     ensures { λ r. ⌜ r ≡ the.kindsOf role a b ⌝ }
 {
     match role {
-        Role::Joins { by: _ } => Sort::Clash,
-        Role::Compares {
-            less: _,
-            equal: _,
-            greater: _,
-        } => compared(a, b),
+        Role::Joins(_) => Sort::Clash,
+        Role::Compares(_, _, _) => compared(a, b),
         Role::Adds => added(a, b),
         Role::Subtracts => less(a, b),
     }

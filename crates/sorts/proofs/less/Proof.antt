@@ -1,5 +1,5 @@
 use Rattle.sorts.specs.Sorts.{lessKinds}
-use Rattle.sorts.proofs.Choices.{taken, left, not-taken, not-left}
+use Rattle.sorts.proofs.Choices.{taken, left}
 use borrow.Author.Needs.{needs}
 use Rattle.sorts.proofs.less.Statement.{statement}
 use Rattle.sorts.proofs.less.Tie as tie
@@ -9,25 +9,25 @@ takes-requires c κs = search needs
 
 returns : tie.Need-returns
 unfolding lessKinds
-returns c = search (taken, left, not-taken, not-left)
+returns c = search (taken, left)
 
 same-kind-requires : tie.Need-same-kind-requires
 same-kind-requires c κs = search needs
 
-returns-2 : tie.Need-returns-2
-unfolding lessKinds
-returns-2 c = search (taken, left, not-taken, not-left)
-
 moment-requires : tie.Need-moment-requires
 moment-requires c κs = search needs
 
+returns-2 : tie.Need-returns-2
+unfolding lessKinds
+returns-2 c = search (taken, left)
+
 returns-3 : tie.Need-returns-3
 unfolding lessKinds
-returns-3 c = search (taken, left, not-taken, not-left)
+returns-3 c = search (taken, left)
 
 returns-4 : tie.Need-returns-4
 unfolding lessKinds
-returns-4 c = search (taken, left, not-taken, not-left)
+returns-4 c = search (taken, left)
 
 pub less-spec : {M : Type 1} → statement M
 less-spec =
@@ -36,7 +36,7 @@ less-spec =
     takes-requires
     returns
     same-kind-requires
-    returns-2
     moment-requires
+    returns-2
     returns-3
     returns-4)

@@ -1,4 +1,3 @@
-use Rattle.sorts.proofs.Choices.{taken, left}
 use borrow.Author.Needs.{needs}
 use Rattle.sorts.proofs.two.Statement.{statement}
 use Rattle.sorts.proofs.two.Tie as tie
@@ -22,7 +21,7 @@ joins-requires : tie.Need-joins-requires
 joins-requires c κs = search needs
 
 returns : tie.Need-returns
-returns c = rw (c .before .before .before .before .enum-told2 .given .1, c .before .before .enum-told4 .given .1, ← c .before .before .before .before .before .before .role-of .ensures) (search (taken, left))
+returns c = rw (c .before .before .before .before .enum-told2 .given .1, c .before .before .enum-told4 .given .1, ← c .before .before .before .before .before .before .role-of .ensures, ← c .before .joins .ensures, c .if1 .taken)
 
 enum-told-5 : tie.Need-enum-told-5
 enum-told-5 c = search needs
@@ -49,7 +48,7 @@ returns-3 : tie.Need-returns-3
 returns-3 c = rw (c .before .before .enum-told2 .given .1, c .enum-told3 .given .1)
 
 returns-4 : tie.Need-returns-4
-returns-4 c = rw (c .before .before .before .before .enum-told2 .given .1, c .before .before .enum-told4 .given .1, ← c .before .before .before .before .before .before .role-of .ensures) (search (taken, left))
+returns-4 c = rw (c .before .before .before .before .enum-told2 .given .1, c .before .before .enum-told4 .given .1, ← c .before .before .before .before .before .before .role-of .ensures, ← c .before .joins .ensures, c .if1 .left)
 
 returns-5 : tie.Need-returns-5
 returns-5 c = rw (c .before .before .enum-told2 .given .1, c .enum-told5 .given .1)
