@@ -14,7 +14,7 @@ use Rattle.text.specs.Writing.{textOf}
 use Rattle.ordering.specs.Order.{Order, less, equal, greater, orderIn}
 use Rattle.arithmetic.specs.Sums.{plusOf, minusIn}
 use Rattle.arithmetic.specs.Products.{timesOf}
-use Rattle.operation.specs.Casts as casts
+use Rattle.casting.specs.Casts as casts
 use Rattle.adjusting.specs.Adjustment.{adjustOf, unzoneOf}
 use Rattle.replies.specs.Replies.{refusedText}
 use Rattle.asking.specs.Asked.{hasMinus, magnitudeOf, formOf}

@@ -20,7 +20,7 @@ use Rattle.quantities.specs.Operands.{sameKind}
 use Rattle.ordering.specs.Order.{Order, orderIn}
 use Rattle.arithmetic.specs.Sums.{plusOf, minusIn}
 use Rattle.arithmetic.specs.Products.{timesOf}
-use Rattle.operation.specs.Casts.{castsTo, castOf}
+use Rattle.casting.specs.Casts.{castsTo, castOf}
 use Rattle.arithmetic.proofs.Validity.{plus-within, minus-within, times-within}
 use Rattle.operation.proofs.Validity.{cast-within}
 use Rattle.words.specs.Runs.{between}

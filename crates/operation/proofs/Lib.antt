@@ -1,5 +1,4 @@
 pub mod Validity
-pub mod CastLaws
 pub mod Keeping
 pub mod Differences
 pub mod TimeLaws

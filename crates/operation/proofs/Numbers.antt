@@ -21,7 +21,7 @@ use Rattle.quantities.specs.declared.Operand.{Operand}
 use Rattle.quantities.specs.declared.Operand.the-variants.{Moment, DayTime, YearMonth}
 use Rattle.quantities.proofs.Numbers.{placed-numbers}
 use Rattle.ordering.specs.Order.{operandOrder, orderIn}
-use Rattle.operation.specs.Casts.{castsTo, castTo, castOf}
+use Rattle.casting.specs.Casts.{castsTo, castTo, castOf}
 use Rattle.adjusting.specs.Adjustment.{isZone, zoneOf, localAt, adjustedFrom, momentTo, operandTo, adjustOf, withoutZone, unzoneOf}
 
 abbrev pub kindNumbers : List ℕ

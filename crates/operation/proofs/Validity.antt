@@ -22,7 +22,7 @@ use Rattle.quantities.specs.declared.Operand.the-variants.{Moment, DayTime, Yea
 use Rattle.quantities.proofs.Shapes.{valueBack, moment-ok}
 use Rattle.quantities.proofs.Given.{valid, valid-given, valid-pick, valid-test}
 use Rattle.shifting.proofs.Valid.{kept-valid, placed-valid}
-use Rattle.operation.specs.Casts.{castsTo, castTo, castOf}
+use Rattle.casting.specs.Casts.{castsTo, castTo, castOf}
 use Rattle.adjusting.specs.Adjustment.{isZone, zoneOf, localAt, withZone, adjustedFrom, momentTo, operandTo, adjustOf, withoutZone, unzoneOf}
 use Rattle.adjusting.proofs.Zones.{zone-ok}
 use Rattle.arithmetic.proofs.Validity.{operand-ok, left-ok, right-ok}

@@ -16,10 +16,8 @@ ghost use Rattle.instants.specs.Ticks.{utc};
 ghost use Rattle.ordering.specs.Order as order;
 ghost use Rattle.arithmetic.specs.Sums as sums;
 ghost use Rattle.arithmetic.specs.Products as products;
-ghost use Rattle.operation.specs.Casts as casts;
+ghost use Rattle.casting.specs.Casts as casts;
 ghost use Rattle.adjusting.specs.Adjustment as adjustment;
-
-pub mod casting; // casting.rt: which kind casts to which
 
 // The zone that values without one count in.
 fn zone_for_none() -> Offset

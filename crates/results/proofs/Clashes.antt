@@ -12,7 +12,7 @@ use Rattle.value.specs.declared.Kind.{Kind}
 use Rattle.value.specs.declared.Value.{Value}
 use Rattle.quantities.specs.Operands.{operandOf, sameKind}
 use Rattle.ordering.specs.Order.{orderIn, operandOrder}
-use Rattle.operation.specs.Casts.{castsTo, castTo, castOf}
+use Rattle.casting.specs.Casts.{castsTo, castTo, castOf}
 use Rattle.arithmetic.specs.Sums.{plusOf, minusIn}
 use Rattle.arithmetic.specs.Products.{timesOf}
 use Rattle.sorts.specs.Sorts.{comparedKinds, addedKinds, lessKinds, sortCast, sortTimes}

@@ -29,7 +29,7 @@ use Rattle.shifting.specs.Shifts.{monthOf, inMonth, movedTo, moved, wrapped, sh
 use Rattle.ordering.specs.Order.{orderIn, operandOrder}
 use Rattle.arithmetic.specs.Sums.{sumOf, plusOf, lessMoment, differenceIn, minusIn}
 use Rattle.arithmetic.specs.Products.{productOf, timesOf, maxFactor}
-use Rattle.operation.specs.Casts.{castsTo, castTo, castOf}
+use Rattle.casting.specs.Casts.{castsTo, castTo, castOf}
 use Rattle.sorts.specs.Sorts.{addedKinds, lessKinds, sortTimes}
 use Rattle.sorts.specs.declared.Sort.{Sort}
 use Rattle.sorts.specs.declared.Sort.the-variants as S

@@ -13,7 +13,7 @@ use Rattle.value.specs.declared.Value.{Value}
 use Rattle.ordering.specs.Order.{Order, less, equal, greater, orderIn}
 use Rattle.arithmetic.specs.Sums.{plusOf, minusIn}
 use Rattle.arithmetic.specs.Products.{timesOf}
-use Rattle.operation.specs.Casts.{castOf}
+use Rattle.casting.specs.Casts.{castOf}
 use Rattle.symbols.specs.declared.Op.{Op}
 use Rattle.symbols.specs.declared.Op.the-variants as O
 use Rattle.operators.specs.Roles.{roleOf, joins, settles}

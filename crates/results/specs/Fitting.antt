@@ -11,7 +11,7 @@ use Rattle.instants.specs.Ticks.{utc}
 use Rattle.value.specs.declared.Kind.{Kind}
 use Rattle.value.specs.declared.Value.{Value}
 use Rattle.ordering.specs.Order.{orderIn}
-use Rattle.operation.specs.Casts.{castOf}
+use Rattle.casting.specs.Casts.{castOf}
 use Rattle.arithmetic.specs.Sums.{plusOf, minusIn}
 use Rattle.arithmetic.specs.Products.{timesOf, maxFactor}
 use Rattle.sorts.specs.Sorts.{comparedKinds, addedKinds, lessKinds, sortCast, sortTimes}

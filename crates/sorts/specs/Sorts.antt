@@ -6,7 +6,7 @@ use Rattle.value.specs.Kinds.{hasDate, hasTime}
 use Rattle.value.specs.declared.Kind.{Kind}
 use Rattle.value.specs.declared.Kind.the-variants as K
 use Rattle.quantities.specs.Operands.{sameKind}
-use Rattle.operation.specs.Casts.{castsTo}
+use Rattle.casting.specs.Casts.{castsTo}
 use Rattle.symbols.specs.declared.Op.{Op}
 use Rattle.operators.specs.Roles.{roleOf, joins}
 use Rattle.operators.specs.declared.Role.{Role}

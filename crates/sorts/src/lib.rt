@@ -1,5 +1,5 @@
 // What the text alone settles of a condition's parts: which kinds fit each operation (document 01, "Conditions").
-use operation::casting::casts_to;
+use casting::casts_to;
 use operators::Role;
 use operators::joins;
 use operators::role_of;

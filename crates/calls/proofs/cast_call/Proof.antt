@@ -2,7 +2,7 @@ use mathlib.Core.Path.{ap, _∙_}
 use Rattle.text.specs.Reading.{readAs}
 use Rattle.value.specs.declared.Value.{Value}
 use Rattle.text.specs.Writing.{textOf}
-use Rattle.operation.specs.Casts.{castOf}
+use Rattle.casting.specs.Casts.{castOf}
 use Rattle.calls.specs.Answers.{said, textBy}
 use Rattle.calls.proofs.Saying.{was-read, was-refused, renamed}
 use borrow.Author.Needs.{needs}

@@ -6,7 +6,7 @@ use value::Value;
 use value::kinds;
 ghost use mathlib.Core.Path.{_≡_};
 ghost use Rattle.quantities.specs.Operands.{operandOf};
-ghost use Rattle.operation.specs.Casts as the;
+ghost use Rattle.casting.specs.Casts as the;
 
 fn casts_across(from: Kind, to: Kind) -> bool
     ensures { λ r. ⌜ r ≡ the.castsAcross from to ⌝ }

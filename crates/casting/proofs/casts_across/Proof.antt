@@ -1,6 +1,6 @@
 use borrow.Author.Needs.{needs}
-use Rattle.operation.proofs.casting.casts_across.Statement.{statement}
-use Rattle.operation.proofs.casting.casts_across.Tie as tie
+use Rattle.casting.proofs.casts_across.Statement.{statement}
+use Rattle.casting.proofs.casts_across.Tie as tie
 
 enum-told : tie.Need-enum-told
 enum-told c = search needs

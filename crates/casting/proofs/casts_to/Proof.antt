@@ -1,7 +1,7 @@
-use Rattle.operation.specs.Casts.{castsTo}
+use Rattle.casting.specs.Casts.{castsTo}
 use borrow.Author.Needs.{needs}
-use Rattle.operation.proofs.casting.casts_to.Statement.{statement}
-use Rattle.operation.proofs.casting.casts_to.Tie as tie
+use Rattle.casting.proofs.casts_to.Statement.{statement}
+use Rattle.casting.proofs.casts_to.Tie as tie
 
 same-kind-requires : tie.Need-same-kind-requires
 same-kind-requires c κs = search needs

@@ -1,7 +1,7 @@
-use Rattle.operation.specs.Casts.{castTo}
+use Rattle.casting.specs.Casts.{castTo}
 use borrow.Author.Needs.{needs}
-use Rattle.operation.proofs.casting.cast_to.Statement.{statement}
-use Rattle.operation.proofs.casting.cast_to.Tie as tie
+use Rattle.casting.proofs.cast_to.Statement.{statement}
+use Rattle.casting.proofs.cast_to.Tie as tie
 
 operand-requires : tie.Need-operand-requires
 operand-requires c κs = search needs
