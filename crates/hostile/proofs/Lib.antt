@@ -1,3 +1,4 @@
 pub mod Lines
-pub mod Spelling
+pub mod Places
 pub mod Within
+pub mod Zeros

@@ -17,7 +17,7 @@ pub struct Number {
     pub value: u64,
 }
 
-pub fn none() -> Number
+fn none() -> Number
     ensures { λ r. ⌜ r ≡ noNumber ⌝ }
 {
     Number {

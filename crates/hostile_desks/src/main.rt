@@ -1,146 +1,290 @@
 // Hostile desks: a script builds desks, sound or not, and makes the desk's calls on them (docs/LINES.md, "Hostile desks"). It
 // reads and writes; the answers are those of crates `desk` and `lines`.
 use desk::Desk;
-use hostile::fields::lone_number;
-use hostile::names::Bare;
-use hostile::names::Wide;
-use hostile::names::bare_word;
-use hostile::names::wide_word;
+use hostile::fields::after_tab;
+use hostile::names::place_in;
+use hostile::numbers::GREATEST;
+use hostile::numbers::read;
 use libc::STDIN_FILENO;
 use libc::STDOUT_FILENO;
 use line_reader::read_line;
-use telling::tell_no_event;
+use lines::text::open_line;
+use lines::text::turn_line;
+use seat::Seat;
+use showing::show;
+use telling::END;
+use telling::PART;
+use telling::SET;
+use telling::tell_close;
+use telling::tell_fresh;
+use telling::tell_refused;
+use telling::tell_sound;
+use telling::tell_text;
+use telling::tell_turns;
+use telling::tell_word;
 use timetable::fields::field;
 use timetable::fields::has_field;
+use value::Refusal;
+use words::cut;
 use words::same;
 ghost use Prim.Native.Nat.{_≤_};
-ghost use lib.ListN.{length};
-ghost use Rattle.io.specs.Counts.{Counts};
 
-mod calling; // calling.rt: events that make a call
-mod setting; // setting.rt: events that set a number or a condition
 mod showing; // showing.rt: the desk as it stands
 mod telling; // telling.rt: lines written
 
 // The most bytes of a script.
 const MAX_INPUT: usize = 65_536;
 
-// The desk, and how many bytes of the file are the timetable of the turns.
-struct Stand {
-    desk: Desk,
-    part: usize,
+// The largest room of many turns.
+const ROOM: usize = 4_096;
+
+// The greatest ticket, as a number of a script, and the number after it: a number of a ticket is below that already, and its remainder
+// by it is the number itself.
+const TICKETS: u64 = Desk::LAST_TICKET as u64;
+
+const TICKET_END: u64 = TICKETS + 1;
+
+// The number of a line that is no event.
+const NO_EVENT: u8 = Refusal::BAD_CONDITION;
+
+// A number and the place of its name in a list; place 0 where the line is none of the list.
+struct Setting {
+    name: usize,
+    value: u64,
 }
 
-// An event of one word.
-fn bare_event(desk: Desk, t: &[u8], word: Bare) -> Desk {
-    match word {
-        Bare::Turn => calling::turn(desk, t),
-        Bare::Sound => calling::sound(desk),
-        Bare::Show => showing::show(desk),
-        Bare::No => setting::no_event(desk),
+// A seat with another number or condition, and whether it takes that.
+struct SeatChange {
+    good: bool,
+    seat: Seat,
+}
+
+// The greatest number of a name: a list's first is a ticket's, and its second has a bound of its own.
+fn most(name: usize, second: u64) -> u64 {
+    if name == 1 {
+        return TICKETS;
     }
-}
-
-// An event of several fields.
-fn wide_event(desk: Desk, t: &[u8], line: &[u8], word: Wide) -> Desk {
-    match word {
-        Wide::Fresh => calling::fresh(desk, line),
-        Wide::Open => calling::open(desk, line),
-        Wide::Close => calling::close(desk, line),
-        Wide::Turns => calling::turns(desk, t, line),
-        Wide::Set => setting::set(desk, line),
-        Wide::Seat => setting::seat(desk, line),
-        Wide::No => setting::no_event(desk),
+    if name == 2 {
+        return second;
     }
+    GREATEST
 }
 
-// The desk after an event on it.
-fn desk_after(desk: Desk, t: &[u8], line: &[u8]) -> Desk {
-    let word = field(line, 1);
-    if has_field(line, 2) {
-        return wide_event(desk, t, line, wide_word(word));
-    }
-    bare_event(desk, t, bare_word(word))
-}
-
-// The part of a file of `long` bytes after an event that asks for another.
-fn part_after(part: usize, long: usize, line: &[u8]) -> usize
-    requires { ⌜ part ≤ long ⌝ }
-    ensures { λ r. ⌜ r ≤ long ⌝ }
+// A line whose field at a place is a name of a list, and whose next and last one is its number: the events that have a number alone,
+// `set` and `seat` alike.
+fn setting_in(line: &[u8], at: usize, names: &[u8], second: u64) -> Setting
+    requires { ⌜ at ≤ 3 ⌝ }
 {
-    let n = lone_number(line, long as u64);
+    let name = place_in(names, field(line, at));
+    let n = read(field(line, at + 1), most(name, second));
     if !n.good {
-        tell_no_event();
-        return part;
+        return Setting { name: 0, value: 0 };
     }
-    io::write_all(STDOUT_FILENO, b"part\n");
-    n.value as usize
-}
-
-// Answers an event.
-fn after(stand: Stand, file: &[u8], line: &[u8]) -> Stand
-    requires { ⌜ stand .part ≤ length (now file) ⌝ }
-    ensures { λ r. ⌜ r .part ≤ length (now (file .entry)) ⌝ }
-{
-    let desk = stand.desk;
-    let part = stand.part;
-    if same(field(line, 1), b"part") {
-        return Stand {
-            desk,
-            part: part_after(part, file.len(), line),
-        };
+    if has_field(line, at + 2) {
+        return Setting { name: 0, value: 0 };
     }
-    Stand {
-        desk: desk_after(desk, &file[..part], line),
-        part,
+    Setting {
+        name,
+        value: n.value,
     }
 }
 
-// The desk for the whole file, and all of it as the timetable.
-fn at_start(file: &[u8]) -> Stand
-    ensures { λ r. ⌜ r .part ≤ length (now (file .entry)) ⌝ }
-{
-    let fresh = desk::fresh(file.len());
-    let desk = fresh.desk;
-    Stand {
-        desk,
-        part: file.len(),
+// The events that make a call write its answer and hand back the desk after it.
+fn fresh(n: u64) -> Desk {
+    let after = desk::fresh(n as usize);
+    let answer = after.answer;
+    tell_fresh(answer);
+    after.desk
+}
+
+fn open(desk: Desk, text: &[u8]) -> Desk {
+    let after = desk.open(text);
+    let answer = after.answer;
+    tell_text(open_line(answer));
+    after.desk
+}
+
+fn close(desk: Desk, n: u64) -> Desk {
+    let after = desk.close((n % TICKET_END) as u32);
+    let answer = after.answer;
+    tell_close(answer);
+    after.desk
+}
+
+fn turn(desk: Desk, t: &[u8]) -> Desk {
+    let after = desk.turn(t);
+    let answer = after.answer;
+    tell_text(turn_line(answer));
+    after.desk
+}
+
+// Many turns into a room, which is written after the answer.
+fn turns_into(desk: Desk, t: &[u8], room: &mut [u8]) -> Desk {
+    let after = lines::turns(desk, t, room);
+    let answer = after.answer;
+    tell_turns(answer);
+    io::write_all(STDOUT_FILENO, room);
+    tell_word(END);
+    after.desk
+}
+
+fn turns(desk: Desk, t: &[u8], long: usize) -> Desk {
+    if ROOM < long {
+        tell_refused(NO_EVENT);
+        return desk;
+    }
+    let mut room = [b'.'; ROOM];
+    turns_into(desk, t, &mut room[..long])
+}
+
+// `set`: a number of the desk.
+fn set(mut desk: Desk, line: &[u8]) -> Desk {
+    let s = setting_in(line, 2, b"issued\tlength\tlast_served", GREATEST);
+    let name = s.name;
+    match name {
+        1 => desk.issued = (s.value % TICKET_END) as u32,
+        2 => desk.timetable_length = s.value as usize,
+        3 => desk.last_served = s.value as usize,
+        _ => {
+            tell_refused(NO_EVENT);
+            return desk;
+        }
+    }
+    tell_word(SET);
+    desk
+}
+
+fn with_number(mut seat: Seat, s: Setting) -> SeatChange {
+    let name = s.name;
+    let n = s.value;
+    match name {
+        1 => seat.ticket = (n % TICKET_END) as u32,
+        2 => seat.held = n == 1,
+        3 => seat.offset = n as usize,
+        4 => seat.hits = n as usize,
+        5 => seat.unreadable = n as usize,
+        _ => seat.condition_length = n as usize,
+    }
+    SeatChange {
+        good: name != 0,
+        seat,
     }
 }
 
-// Answers the events in order.
-fn play(file: &[u8], input: &[u8]) {
-    let mut stand = at_start(file);
-    let mut at = 0;
-    while at < input.len() {
-        let line = read_line(input, at);
-        let end = line.end;
-        stand = after(stand, file, &input[at..end]);
-        at = line.next;
+fn with_condition(mut seat: Seat, text: &[u8]) -> SeatChange {
+    if Seat::ROOM < text.len() {
+        return SeatChange { good: false, seat };
     }
+    let mut condition = [0u8; Seat::ROOM];
+    bytes::copy(text, &mut condition);
+    seat.condition = condition;
+    SeatChange { good: true, seat }
 }
 
-// The bytes of the file, at the start of the buffer; none where it cannot be opened or read.
-fn read_file(buffer: &mut [u8]) -> usize
-    ensures { λ r. ⌜ Counts r (now (buffer .exit)) ⌝ }
-{
-    let file = os::open_read(b"timetable.tsv");
-    if file < 0 {
+fn altered(seat: Seat, line: &[u8]) -> SeatChange {
+    if same(field(line, 3), b"condition") {
+        return with_condition(seat, after_tab(after_tab(after_tab(line))));
+    }
+    with_number(
+        seat,
+        setting_in(
+            line,
+            3,
+            b"ticket\theld\toffset\thits\tunreadable\tcondition_length",
+            1,
+        ),
+    )
+}
+
+// `seat`: a number or the condition of a seat.
+fn seat(mut desk: Desk, line: &[u8]) -> Desk {
+    let place = read(field(line, 2), Desk::SEATS as u64 - 1);
+    let i = place.value as usize;
+    let change = altered(desk.seats[i], line);
+    let good = has_field(line, 4) & place.good & change.good;
+    if !good {
+        tell_refused(NO_EVENT);
+        return desk;
+    }
+    tell_word(SET);
+    let seat = change.seat;
+    desk.seats[i] = seat;
+    desk
+}
+
+// The place of a line's word among the other events, 0 where it is none: the first three stand alone, and the others do not.
+fn event_in(line: &[u8]) -> usize {
+    let event = place_in(b"turn\tsound\tshow\topen\tset\tseat", field(line, 1));
+    let alone = event <= 3;
+    if alone == has_field(line, 2) {
         return 0;
     }
-    let got = io::read_full(file, buffer);
-    libc::close(file);
-    got
+    event
 }
 
-// One byte more than is taken is asked for, so that a script that is too long shows, and a file that is too long for a desk.
+// The desk after a line that is no event of a number alone.
+fn other_event(desk: Desk, t: &[u8], line: &[u8]) -> Desk {
+    let event = event_in(line);
+    match event {
+        1 => return turn(desk, t),
+        2 => tell_sound(desk.sound()),
+        3 => show(desk),
+        4 => return open(desk, after_tab(line)),
+        5 => return set(desk, line),
+        6 => return seat(desk, line),
+        _ => tell_refused(NO_EVENT),
+    }
+    desk
+}
+
+// The desk after an event: `close`, `part`, which is not about the desk, `fresh`, `turns`, or another.
+fn desk_after(desk: Desk, t: &[u8], line: &[u8], s: Setting) -> Desk {
+    let event = s.name;
+    match event {
+        1 => close(desk, s.value),
+        2 => desk,
+        3 => fresh(s.value),
+        4 => turns(desk, t, s.value as usize),
+        _ => other_event(desk, t, line),
+    }
+}
+
+// The bytes of the file that are the timetable after an event; `part` alone is about them.
+fn part_after(part: usize, s: Setting) -> usize {
+    if s.name != 2 {
+        return part;
+    }
+    tell_word(PART);
+    s.value as usize
+}
+
+// Answers the events in order. At the start the timetable is the whole file.
+fn play(file: &[u8], input: &[u8]) {
+    let made = desk::fresh(file.len());
+    let mut desk = made.desk;
+    let mut part = file.len();
+    let mut at = 0;
+    while at < input.len() {
+        let read = read_line(input, at);
+        let line = cut(input, at, read.end);
+        let s = setting_in(line, 1, b"close\tpart\tfresh\tturns", file.len() as u64);
+        part = part_after(part, s);
+        desk = desk_after(desk, cut(file, 0, part), line, s);
+        at = read.next;
+    }
+}
+
+// One byte more than is taken is asked for, so that a script that is too long shows, and a file that is too long for a desk. A file
+// that cannot be opened is not read.
 fn main() {
     let mut file = [0; Desk::MAX_TIMETABLE + 1];
-    let long = read_file(&mut file);
+    let descriptor = os::open_read(b"timetable.tsv");
+    let long = io::read_full(descriptor, &mut file);
+    libc::close(descriptor);
     let mut input = [0; MAX_INPUT + 1];
     let given = io::read_full(STDIN_FILENO, &mut input);
     if MAX_INPUT < given {
-        tell_no_event();
+        tell_refused(NO_EVENT);
         return;
     }
     play(&file[..long], &input[..given]);

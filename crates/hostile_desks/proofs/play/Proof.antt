@@ -1,45 +1,54 @@
--- `hostile_desks::play` ends: each line that is read is followed by one further on. The part of the file that is the timetable stays
--- within it.
+-- `hostile_desks::play` ends: each line that is read is followed by one further on.
 use Prim.Native.Nat.{_≤_, _-_}
 use native.Mathlib.Omega.{arith}
 use lib.ListN.{length}
 use borrow.Author.Needs.{needs}
-use Rattle.timetable.proofs.Offsets.{end-from, end-within, next-within, next-further}
+use Rattle.timetable.proofs.Offsets.{next-within, next-further}
 use Rattle.hostile_desks.proofs.play.Statement.{statement}
 use Rattle.hostile_desks.proofs.play.Tie as tie
 
 abbrev Inv-loop : tie.InvT-loop
-Inv-loop file input stand₀ at₀ stand at = (at ≤ length input) × (stand .part ≤ length file)
+Inv-loop file input desk₀ part₀ at₀ t15 desk part at = at ≤ length input
 
 abbrev μ-loop : tie.MeasureT-loop
-μ-loop file input stand₀ at₀ stand at = length input - at
+μ-loop file input desk₀ part₀ at₀ t15 desk part at = length input - at
 
-at-start-requires : tie.Need-at-start-requires Inv-loop μ-loop
-at-start-requires c κs = search needs
+fresh-requires : tie.Need-fresh-requires Inv-loop μ-loop
+fresh-requires c κs = search needs
 
 loop-holds : tie.Need-loop-holds Inv-loop μ-loop
-loop-holds c = (omega arith, c .at-start .ensures)
+loop-holds c = omega arith
 
 read-line-requires : tie.Need-read-line-requires Inv-loop μ-loop
 read-line-requires c κs = search needs
 
-sub-after : tie.Need-sub-after Inv-loop μ-loop
-sub-after c = omega (arith, c .read-line .ensures .0, end-from (c .before .before .before .before .before .before .args .input .now) (c .before .before .loop .at))
+cut-requires : tie.Need-cut-requires Inv-loop μ-loop
+cut-requires c κs = search needs
 
-part-after-start : tie.Need-part-after-start Inv-loop μ-loop
-part-after-start c = omega (arith, c .read-line .ensures .0, end-from (c .before .before .before .before .before .before .args .input .now) (c .before .before .loop .at))
+slice-aggregate-setting-in : tie.Need-slice-aggregate-setting-in Inv-loop μ-loop
+slice-aggregate-setting-in c = search needs
 
-part-after-end : tie.Need-part-after-end Inv-loop μ-loop
-part-after-end c = omega (arith, c .read-line .ensures .0, end-within (c .before .before .before .before .before .before .args .input .now) (c .before .before .loop .at) (c .before .before .loop .inv .0))
+setting-in-requires : tie.Need-setting-in-requires Inv-loop μ-loop
+setting-in-requires c κs = search needs
 
-after-requires : tie.Need-after-requires Inv-loop μ-loop
-after-requires c κs = c .before .before .before .loop .inv .1
+part-after-requires : tie.Need-part-after-requires Inv-loop μ-loop
+part-after-requires c κs = search needs
+
+cut-requires-2 : tie.Need-cut-requires-2 Inv-loop μ-loop
+cut-requires-2 c κs = search needs
+
+desk-after-requires : tie.Need-desk-after-requires Inv-loop μ-loop
+desk-after-requires c κs = search needs
 
 loop-less : tie.Need-loop-less Inv-loop μ-loop
-loop-less c = omega (arith, c .before .before .read-line .ensures .1, next-further (c .before .before .before .before .before .before .before .before .args .input .now) (c .before .before .before .before .loop .at) (c .before .before .before .loop-test .taken))
+loop-less c =
+    let b = c .before .before .before .before .before .before in
+    omega (arith, b .read-line .ensures .1, next-further (b .before .before .before .before .before .before .before .args .input .now) (b .before .before .loop .at) (b .before .loop-test .taken))
 
 loop-again : tie.Need-loop-again Inv-loop μ-loop
-loop-again c = (omega (arith, c .before .before .read-line .ensures .1, next-within (c .before .before .before .before .before .before .before .before .args .input .now) (c .before .before .before .before .loop .at) (c .before .before .before .before .loop .inv .0)), c .after .ensures)
+loop-again c =
+    let b = c .before .before .before .before .before .before in
+    omega (arith, b .read-line .ensures .1, next-within (b .before .before .before .before .before .before .before .args .input .now) (b .before .before .loop .at) (b .before .before .loop .inv))
 
 returns : tie.Need-returns Inv-loop μ-loop
 returns c = search needs
@@ -50,13 +59,15 @@ play-spec =
     (tie.spec
     Inv-loop
     μ-loop
-    at-start-requires
+    fresh-requires
     loop-holds
     read-line-requires
-    sub-after
-    part-after-start
-    part-after-end
-    after-requires
+    cut-requires
+    slice-aggregate-setting-in
+    setting-in-requires
+    part-after-requires
+    cut-requires-2
+    desk-after-requires
     loop-less
     loop-again
     returns)

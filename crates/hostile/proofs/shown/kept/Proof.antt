@@ -1,7 +1,7 @@
 use Prim.Native.Nat.{_-_, _≤_}
 use native.Mathlib.Omega.{arith}
 use borrow.Author.Needs.{needs}
-use Rattle.hostile.proofs.Spelling.{Zeros, no-zeros, one-more, last-kept, none-kept}
+use Rattle.hostile.proofs.Zeros.{Zeros, no-zeros, one-more, last-kept, none-kept}
 use Rattle.hostile.proofs.shown.kept.Statement.{statement}
 use Rattle.hostile.proofs.shown.kept.Tie as tie
 

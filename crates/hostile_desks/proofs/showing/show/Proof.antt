@@ -11,17 +11,32 @@ Inv-loop desk i₀ i = Unit {0}
 abbrev μ-loop : tie.MeasureT-loop
 μ-loop desk i₀ i = seatCount - i
 
-tell-desk-requires : tie.Need-tell-desk-requires Inv-loop μ-loop
-tell-desk-requires c κs = search needs
+tell-word-requires : tie.Need-tell-word-requires Inv-loop μ-loop
+tell-word-requires c κs = search needs
+
+tell-number-requires : tie.Need-tell-number-requires Inv-loop μ-loop
+tell-number-requires c κs = search needs
+
+tell-number-requires-2 : tie.Need-tell-number-requires-2 Inv-loop μ-loop
+tell-number-requires-2 c κs = search needs
+
+cast-tell-number : tie.Need-cast-tell-number Inv-loop μ-loop
+cast-tell-number c = search needs
+
+tell-number-requires-3 : tie.Need-tell-number-requires-3 Inv-loop μ-loop
+tell-number-requires-3 c κs = search needs
+
+tell-word-requires-2 : tie.Need-tell-word-requires-2 Inv-loop μ-loop
+tell-word-requires-2 c κs = search needs
 
 loop-holds : tie.Need-loop-holds Inv-loop μ-loop
 loop-holds c = tt
 
-mul-s : tie.Need-mul-s Inv-loop μ-loop
-mul-s c = omega arith
+mul-show-seat : tie.Need-mul-show-seat Inv-loop μ-loop
+mul-show-seat c = omega arith
 
-element-copy-out-s : tie.Need-element-copy-out-s Inv-loop μ-loop
-element-copy-out-s c = search needs
+element-copy-out-show-seat : tie.Need-element-copy-out-show-seat Inv-loop μ-loop
+element-copy-out-show-seat c = search needs
 
 show-seat-requires : tie.Need-show-seat-requires Inv-loop μ-loop
 show-seat-requires c κs = search needs
@@ -44,10 +59,15 @@ show-spec =
     (tie.spec
     Inv-loop
     μ-loop
-    tell-desk-requires
+    tell-word-requires
+    tell-number-requires
+    tell-number-requires-2
+    cast-tell-number
+    tell-number-requires-3
+    tell-word-requires-2
     loop-holds
-    mul-s
-    element-copy-out-s
+    mul-show-seat
+    element-copy-out-show-seat
     show-seat-requires
     add-i
     loop-less

@@ -1,46 +1,55 @@
-use mathlib.Core.Path.{sym}
-use lib.Seq.{length-take-le}
+use Prim.Native.Nat.{_-_}
+use native.Mathlib.Omega.{arith}
 use borrow.Author.Needs.{needs}
+use lib.ListN.{length}
 use Rattle.hostile_desks.proofs.showing.tell_bytes.Statement.{statement}
 use Rattle.hostile_desks.proofs.showing.tell_bytes.Tie as tie
 
-slice-aggregate-hex : tie.Need-slice-aggregate-hex
-slice-aggregate-hex c = search needs
+abbrev Inv-loop : tie.InvT-loop
+Inv-loop s i₀ i = Unit {0}
 
-hex-requires : tie.Need-hex-requires
-hex-requires c κs = search needs
+abbrev μ-loop : tie.MeasureT-loop
+μ-loop s i₀ i = length s - i
 
-mul-long : tie.Need-mul-long
-mul-long c = search needs
+tell-tab-requires : tie.Need-tell-tab-requires Inv-loop μ-loop
+tell-tab-requires c κs = search needs
 
-slice-aggregate-write-all : tie.Need-slice-aggregate-write-all
-slice-aggregate-write-all c = search needs
+loop-holds : tie.Need-loop-holds Inv-loop μ-loop
+loop-holds c = tt
 
-write-all-requires : tie.Need-write-all-requires
-write-all-requires c κs = search needs
+shared-slice-read-print-hex : tie.Need-shared-slice-read-print-hex Inv-loop μ-loop
+shared-slice-read-print-hex c = omega arith
 
-array-share-prefix-out : tie.Need-array-share-prefix-out
-array-share-prefix-out c = search needs
+cast-print-hex : tie.Need-cast-print-hex Inv-loop μ-loop
+cast-print-hex c = omega (arith, c .shared-slice-known2 .given (c .before .before .loop .i))
 
-slice-aggregate-write-all-2 : tie.Need-slice-aggregate-write-all-2
-slice-aggregate-write-all-2 c = sym (length-take-le _ _ (search needs))
+print-hex-requires : tie.Need-print-hex-requires Inv-loop μ-loop
+print-hex-requires c κs = search needs
 
-write-all-requires-2 : tie.Need-write-all-requires-2
-write-all-requires-2 c κs = search needs
+add-i : tie.Need-add-i Inv-loop μ-loop
+add-i c = omega arith
 
-returns : tie.Need-returns
+loop-less : tie.Need-loop-less Inv-loop μ-loop
+loop-less c = omega arith
+
+loop-again : tie.Need-loop-again Inv-loop μ-loop
+loop-again c = tt
+
+returns : tie.Need-returns Inv-loop μ-loop
 returns c = search needs
 
 pub tell-bytes-spec : {M : Type 1} → statement M
 tell-bytes-spec =
     tie.close
     (tie.spec
-    slice-aggregate-hex
-    hex-requires
-    mul-long
-    slice-aggregate-write-all
-    write-all-requires
-    array-share-prefix-out
-    slice-aggregate-write-all-2
-    write-all-requires-2
+    Inv-loop
+    μ-loop
+    tell-tab-requires
+    loop-holds
+    shared-slice-read-print-hex
+    cast-print-hex
+    print-hex-requires
+    add-i
+    loop-less
+    loop-again
     returns)

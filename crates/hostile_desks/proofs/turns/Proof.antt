@@ -1,14 +1,11 @@
 use mathlib.Core.Path.{sym}
 use lib.Seq.{length-take-le}
 use borrow.Author.Needs.{needs}
-use Rattle.hostile_desks.proofs.calling.turns.Statement.{statement}
-use Rattle.hostile_desks.proofs.calling.turns.Tie as tie
+use Rattle.hostile_desks.proofs.turns.Statement.{statement}
+use Rattle.hostile_desks.proofs.turns.Tie as tie
 
-lone-number-requires : tie.Need-lone-number-requires
-lone-number-requires c κs = search needs
-
-no-event-requires : tie.Need-no-event-requires
-no-event-requires c κs = search needs
+tell-refused-requires : tie.Need-tell-refused-requires
+tell-refused-requires c κs = search needs
 
 returns : tie.Need-returns
 returns c = search needs
@@ -28,11 +25,4 @@ returns-2 c = search needs
 pub turns-spec : {M : Type 1} → statement M
 turns-spec =
     tie.close
-    (tie.spec
-    lone-number-requires
-    no-event-requires
-    returns
-    array-borrow-prefix-room
-    slice-aggregate-turns-into
-    turns-into-requires
-    returns-2)
+    (tie.spec tell-refused-requires returns array-borrow-prefix-room slice-aggregate-turns-into turns-into-requires returns-2)
