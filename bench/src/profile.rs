@@ -24,8 +24,8 @@ pub const PARTS: [(Part, &str); 6] = [
     (Part::Values, "values read, fields and literals: `text`, `layouts`, `judging`, `scan`, `durations`, `numerals`"),
     (
         Part::Computing,
-        "comparing and computing: `operation`, `arithmetic`, `ordering`, `adjusting`, `shifting`, `quantities`, `instants`, `value`, \
-         `results`, `givens`, `sorts`",
+        "comparing and computing: `operation`, `arithmetic`, `ordering`, `adjusting`, `casting`, `shifting`, `quantities`, `instants`, `value`, \
+         `results`, `givens`, `sorts`, `operators`",
     ),
     (Part::Copying, "bytes copied, above all the desk handed on by value: `memcpy`, `memset`"),
     (Part::Desk, "all else: seats, lines found, output lines"),
@@ -66,8 +66,8 @@ fn part_of(name: &str) -> Part {
         "condition" | "reading" | "symbols" | "depth" | "words" => Part::ConditionText,
         "numerals" if name.contains("decimal") => Part::Desk,
         "text" | "layouts" | "judging" | "scan" | "durations" | "numerals" => Part::Values,
-        "operation" | "arithmetic" | "ordering" | "adjusting" | "shifting" | "quantities" => Part::Computing,
-        "instants" | "value" | "results" | "givens" | "sorts" => Part::Computing,
+        "operation" | "arithmetic" | "ordering" | "adjusting" | "casting" | "shifting" | "quantities" => Part::Computing,
+        "instants" | "value" | "results" | "givens" | "sorts" | "operators" => Part::Computing,
         _ if name.contains("memcpy") || name.contains("memmove") || name.contains("memset") => Part::Copying,
         _ => Part::Desk,
     }
