@@ -7,8 +7,8 @@ use Rattle.symbols.specs.declared.Op.the-variants as O
 use Rattle.operators.specs.declared.Role.{Role}
 use Rattle.operators.specs.declared.Role.the-variants.{Joins, Compares, Adds, Subtracts}
 
--- `or` and `and` join truth values, and a true left settles `or`, a false one `and`; a comparison holds or not where the left value is
--- less, equal, greater; `+` adds and `-` subtracts
+-- `or` and `and` join truth values: a true left settles `or`, a false one `and`. A comparison says of a left value that is less, of one
+-- that is equal and of one that is greater whether it holds. `+` adds, `-` subtracts.
 abbrev pub roleOf : Op → Role
 roleOf O.Or = Joins true
 roleOf O.And = Joins false

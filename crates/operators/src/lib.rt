@@ -3,8 +3,8 @@ use symbols::Op;
 ghost use mathlib.Core.Path.{_≡_};
 ghost use Rattle.operators.specs.Roles as the;
 
-// What an operator does. Joins: it joins two truth values, and this one on the left settles it. Compares: it holds, or not, where the
-// left value is less than the right one, equal to it, and greater.
+// What an operator does. Joins: it joins two truth values, and this one on the left settles it. Compares: whether it holds of a left
+// value that is less than the right one, of one that is equal, and of one that is greater.
 pub enum Role {
     Joins(bool),
     Compares(bool, bool, bool),

@@ -21,7 +21,7 @@ use Rattle.operators.specs.declared.Role.{Role}
 use Rattle.operators.specs.declared.Role.the-variants.{Joins, Compares, Adds, Subtracts}
 use Rattle.givens.specs.Data.{Datum, value, truth, valued}
 
--- whether a comparison holds that does or does not where the left value is less, equal, greater
+-- whether a comparison holds, by what it says of a left value that is less (l), equal (e) or greater (g)
 abbrev pub holds : Bool → Bool → Bool → Order → Bool
 holds l e g less = l
 holds l e g equal = e
@@ -32,7 +32,7 @@ abbrev pub tested : Bool → Bool → Bool → Answer Order → Answer Datum
 tested l e g (gives x) = gives (truth (holds l e g x))
 tested l e g (refuses n) = refuses n
 
--- an operator between two values
+-- an operator between two values, by what it does
 abbrev pub ofValues : Role → Value → Value → Answer Datum
 ofValues (Joins by) a b = refuses wrongKind
 ofValues (Compares l e g) a b = tested l e g (orderIn utc a b)
@@ -41,15 +41,15 @@ ofValues Subtracts a b = valued (minusIn utc a b)
 
 -- an operator between two sides that were evaluated; of `or` and `and` the right side then decides
 abbrev pub applied : Role → Datum → Datum → Answer Datum
-applied o (value a) (value b) = ofValues o a b
-applied o (value a) (truth y) = refuses wrongKind
-applied o (truth x) (value b) = refuses wrongKind
-applied o (truth x) (truth y) = pick (joins o) (gives (truth y)) (refuses wrongKind)
+applied r (value a) (value b) = ofValues r a b
+applied r (value a) (truth y) = refuses wrongKind
+applied r (truth x) (value b) = refuses wrongKind
+applied r (truth x) (truth y) = pick (joins r) (gives (truth y)) (refuses wrongKind)
 
 -- whether the left side leaves the right one without evaluation
 abbrev pub settled : Role → Datum → Bool
-settled o (value a) = false
-settled o (truth x) = settles o x
+settled r (value a) = false
+settled r (truth x) = settles r x
 
 -- left to right, up to the first refusal
 unfoldable pub onto : Answer Datum → (Datum → Answer Datum) → Answer Datum

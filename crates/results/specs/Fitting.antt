@@ -1,6 +1,7 @@
 -- Document 01, "Refusal numbers": 9 is given exactly when "kinds don't fit, in a condition or a library call". Which kinds fit in
--- a condition is settled by its text alone (Sorts.antt); each operation has its own definition of what it refuses. This ties the
--- two together: on valid values an operation is refused with 9 exactly where the kinds clash. It is proved as `clash-is-9`.
+-- a condition is settled by its text alone (Sorts.antt of crate `sorts`); each operation has its own definition of what it refuses.
+-- This ties the two together: on valid values an operation is refused with 9 exactly where the kinds clash. It is proved as
+-- `clash-is-9`.
 use mathlib.Core.Path.{_≡_}
 use mathlib.Core.Bool.{Bool, true}
 use Prim.Native.Nat.{ℕ, _≤_}

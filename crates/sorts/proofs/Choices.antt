@@ -1,4 +1,4 @@
--- A choice by a test whose outcome is known.
+-- A choice by a test whose outcome the code has found out: what is chosen is the first where the test held, the second where it failed.
 use mathlib.Core.Path.{_≡_}
 use mathlib.Core.Bool.{Bool, true, false}
 use Rattle.basis.specs.Choice.{pick}

@@ -39,6 +39,7 @@ addedKinds j k = pick (takes j k) (Of j) (pick (takes k j) (Of k) (pick (moment 
 unfoldable pub lessKinds : Kind → Kind → Sort
 lessKinds j k = pick (takes j k) (Of j) (pick (sameKind j k) (pick (moment j) (Of K.DayTimeDuration) (Of j)) Clash)
 
+-- two kinds with an operator between, by what it does
 abbrev pub kindsOf : Role → Kind → Kind → Sort
 kindsOf (Joins by) j k = Clash
 kindsOf (Compares less equal greater) j k = comparedKinds j k
