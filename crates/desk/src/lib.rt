@@ -11,7 +11,7 @@ ghost use Prim.Native.Nat.{_+_, _≤_, _<_};
 ghost use lib.ListN.{length};
 ghost use Rattle.desk.specs.Bounds.{seatCount};
 ghost use Rattle.desk.specs.Seats.{firstFrom, placeOf};
-ghost use Rattle.desk.specs.Soundness.{placeSound, soundOf};
+ghost use Rattle.desk.specs.Soundness.{soundOf};
 ghost use Rattle.desk.specs.Desk.{freshOf, openOf, closeOf, turnOf, nextOf};
 ghost use Rattle.desk.specs.Answers.{afterFresh, afterOpen, afterClose, afterTurn};
 
@@ -130,21 +130,8 @@ impl Desk {
         i
     }
 
-    fn place_sound(self, i: usize) -> bool
-        requires { ⌜ i < seatCount ⌝ }
-        ensures { λ r. ⌜ r ≡ placeSound self i ⌝ }
-    {
-        let s = self.seats[i];
-        if s.held {
-            if self.place(s.ticket) != i {
-                return false;
-            }
-            seat::sound(s, self.issued, self.timetable_length)
-        } else {
-            true
-        }
-    }
-
+    // Of each held seat, whether one before it has its ticket, and whether it is sound by itself. The seats are looked at
+    // where they stand.
     pub fn sound(self) -> bool
         ensures { λ r. ⌜ r ≡ soundOf self ⌝ }
     {
@@ -156,8 +143,20 @@ impl Desk {
         }
         let mut i = 0;
         while i < Desk::SEATS {
-            if !self.place_sound(i) {
-                return false;
+            let s = self.seats[i];
+            if s.held {
+                let mut k = 0;
+                while k < i {
+                    if self.seats[k].held {
+                        if self.seats[k].ticket == s.ticket {
+                            return false;
+                        }
+                    }
+                    k += 1;
+                }
+                if !seat::sound(s, self.issued, self.timetable_length) {
+                    return false;
+                }
             }
             i += 1;
         }
@@ -254,7 +253,7 @@ impl Desk {
     }
 
     // A turn of a desk that is known to be sound, over a timetable of its length.
-    pub fn next(self, t: &[u8]) -> AfterTurn
+    fn next(self, t: &[u8]) -> AfterTurn
         requires { ⌜ (soundOf self ≡ true) × (length (now t) ≡ self .«timetable_length») ⌝ }
         ensures { λ r. ⌜ afterTurn r ≡ nextOf (now (t .entry)) self ⌝ }
     {

@@ -71,7 +71,7 @@ module _ (t : List ℕ) (d₀ : Desk) (before : List ℕ) where
           (drop-at (take at room ++ line) (drop (at + length line) room) (at + length line) end-is
           ∙ sym (drop-drop (length line) at room) ∙ ap (drop (length line)) (g .rest) ∙ drop-drop (length line) at before)
 
-      pub going-size : length room′ ≡ length before
+      going-size : length room′ ≡ length before
       going-size =
           rw room-is
           (omega (arith, length-append (take at room ++ line) (drop (at + length line) room), length-drop (at + length line) room, end-is, g .size))

@@ -3,6 +3,7 @@ pub mod Writing
 pub mod Counting
 pub mod Putting
 pub mod Bounded
+pub mod Served
 pub mod Going
 pub mod Rounds
 pub mod Calls

@@ -1,11 +1,17 @@
--- A line put into the room from a place on: the bytes before it and after it stay.
+-- A line put into the room from a place on, where it fits: the bytes before it and after it stay.
 use mathlib.Core.Path.{_≡_, refl, sym, ap, _∙_}
+use mathlib.Core.Bool.{Bool, true, false}
 use mathlib.Core.List.{List, [], _∷_, _++_, append-assoc, append-nil}
-use Prim.Native.Nat.{ℕ, _+_, _-_, _≤_}
+use Prim.Native.Nat.{ℕ, _+_, _-_, _≤_, _<_}
 use native.Mathlib.Omega.{arith}
+use borrow.Author.Tests.{le-leb, lt-leb, leb-true, leb-false}
+use lib.Dec.{leb}
 use lib.ListN.{length, take, drop, length-drop, drop-of-length-le}
 use lib.Seq.{take-all, take-length, drop-drop}
 use borrow.Rule.Slice.PartMut.{putMid}
+use Rattle.basis.specs.Choice.{pick}
+use Rattle.numerals.specs.Writing.{textIn}
+use Rattle.numerals.specs.declared.Text.{Text}
 
 pub put-part : (room src w : List ℕ) (at n : ℕ) → length src ≡ n → at + n ≤ length room
     → w ≡ take (length src) src ++ drop (length src) (take (length room - at) (drop at room))
@@ -15,3 +21,41 @@ put-part room src w at n e l h =
     let a : take (length room - at) (drop at room) ≡ drop at room = take-all (length room - at) (drop at room) (omega arith) in
     let z : length (drop at room) ≤ length room - at = omega arith in
     rw (h, a, take-length, e, drop-of-length-le (drop at room) z, append-nil, drop-drop n at room)
+
+-- the room with a line from a place on
+abbrev pub withLine : ℕ → Text → List ℕ → List ℕ
+withLine at line room = take at room ++ (textIn line ++ drop (at + line .len) room)
+
+-- where the lines end after the line, and the room
+abbrev pub Put : ℕ → Text → List ℕ → ℕ → List ℕ → Type 0
+Put at line room end room′ =
+    (end ≡ pick (leb (line .len) (length room - at)) (at + line .len) at) × (room′ ≡ pick (leb (line .len) (length room - at)) (withLine at line room) room)
+
+-- a line has a byte, so where they end says whether it fitted
+module _ (at : ℕ) (line : Text) (room : List ℕ) {end : ℕ} {room′ : List ℕ} (p : Put at line room end room′) where
+  pub put-fits : at < end → line .len ≤ length room - at
+  put-fits l = go (leb (line .len) (length room - at)) refl
+    where
+      go : (b : Bool) → leb (line .len) (length room - at) ≡ b → line .len ≤ length room - at
+      go true e = leb-true _ _ e
+      go false e = let q : end ≡ at = p .0 ∙ rw e in absurd (omega arith)
+
+  pub put-end : at < end → end ≡ at + line .len
+  put-end l = p .0 ∙ rw (le-leb _ _ (put-fits l))
+
+  pub put-room : at < end → room′ ≡ withLine at line room
+  put-room l = p .1 ∙ rw (le-leb _ _ (put-fits l))
+
+  module _ (b : 1 ≤ line .len) (l : end ≤ at) where
+    pub put-lacks : length room - at < line .len
+    put-lacks = go (leb (line .len) (length room - at)) refl
+      where
+        go : (b : Bool) → leb (line .len) (length room - at) ≡ b → length room - at < line .len
+        go true e = let q : end ≡ at + line .len = p .0 ∙ rw e in absurd (omega arith)
+        go false e = leb-false _ _ e
+
+    pub put-stays : end ≡ at
+    put-stays = p .0 ∙ rw (lt-leb _ _ put-lacks)
+
+    pub put-nothing : room′ ≡ room
+    put-nothing = p .1 ∙ rw (lt-leb _ _ put-lacks)

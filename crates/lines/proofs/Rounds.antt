@@ -1,14 +1,18 @@
 -- One round of the loop that takes turns: the turn is that of a sound desk, its line fits in what is left of the room or the
--- loop stops, and after Idle it stops too.
+-- loop stops, and at Idle it stops too.
 use mathlib.Core.Path.{_≡_, refl, sym, ap, _∙_}
 use mathlib.Core.Bool.{Bool, true, false}
 use mathlib.Core.List.{List, _++_}
 use Prim.Native.Nat.{ℕ, _+_, _-_, _≤_, _<_}
 use native.Mathlib.Omega.{arith}
+use borrow.Author.Tests.{ltb-true, ltb-false}
+use lib.Dec.{ltb}
 use lib.ListN.{length, take, drop}
+use Rattle.basis.specs.Answer.{gives}
 use Rattle.numerals.specs.Writing.{textIn}
 use Rattle.numerals.specs.declared.Text.{Text}
-use Rattle.seat.specs.Answers.{turnMeaning}
+use Rattle.seat.specs.Answers.{turnMeaning, idle}
+use Rattle.seat.specs.declared.TurnAnswer.the-variants as TV
 use Rattle.desk.specs.Answers.{afterTurn}
 use Rattle.desk.specs.Desk.{turnOf, nextOf}
 use Rattle.desk.specs.declared.Desk.{Desk}
@@ -20,7 +24,8 @@ use Rattle.lines.specs.Text.{turnLine, Holds}
 use Rattle.lines.specs.Turns.{isIdle, taken, Ran}
 use Rattle.lines.proofs.Counting.{line-some}
 use Rattle.lines.proofs.Bounded.{next-desk, next-answer}
-use Rattle.lines.proofs.Going.{Going, going-stops, going-full, going-size, going-on, going-idle}
+use Rattle.lines.proofs.Putting.{Put, put-fits, put-end, put-room, put-lacks, put-stays, put-nothing}
+use Rattle.lines.proofs.Going.{Going, going-stops, going-full, going-on, going-idle}
 
 -- where the loop stands
 pub record Loop (t before : List ℕ) (d₀ : Desk) (room : List ℕ) (d : Desk) (at : ℕ) : Type 0 where
@@ -33,7 +38,9 @@ module _ {t before room : List ℕ} {d₀ d : Desk} {at : ℕ} (g : Loop t befor
   pub ran-full : length room ≤ at → Ran (record { desk = d; written = record { count = at; idle = false } }) (taken t d₀ (length before)) before room
   ran-full l = going-full t d₀ before d at room (g .going) (omega (arith, g .going .size)) _ refl refl refl
 
-  module _ (r : AfterTurn) (h : afterTurn r ≡ nextOf t d) (line : Text) (hl : Holds line (turnLine (turnMeaning (r .answer)))) where
+  -- a turn of the desk, and the line of its answer, put where it fits
+  module _ (r : AfterTurn) (h : afterTurn r ≡ nextOf t d) (line : Text) (hl : Holds line (turnLine (turnMeaning (r .answer))))
+      {end : ℕ} {room′ : List ℕ} (p : Put at line room end room′) where
     answer-is : turnMeaning (r .answer) ≡ turnOf t d .answer
     answer-is = next-answer t d (g .sound) (g .same) r h
 
@@ -46,37 +53,53 @@ module _ {t before room : List ℕ} {d₀ d : Desk} {at : ℕ} (g : Loop t befor
     long : length (textIn line) ≡ line .len
     long = ap length (hl .text) ∙ sym (hl .size)
 
-    -- a line has a byte
-    pub has-byte : 1 ≤ line .len
+    has-byte : 1 ≤ line .len
     has-byte = omega (arith, hl .size, line-some (turnMeaning (r .answer)))
 
     -- its line does not fit
-    pub ran-out : length room - at < line .len → Ran (record { desk = d; written = record { count = at; idle = false } }) (taken t d₀ (length before)) before room
-    ran-out l = going-stops t d₀ before d at room (g .going) (omega (arith, g .going .size, long, ap length line-is)) _ refl refl refl
+    pub ran-out : end ≤ at → Ran (record { desk = d; written = record { count = at; idle = false } }) (taken t d₀ (length before)) before room′
+    ran-out l =
+        let m = put-lacks at line room p has-byte l in
+        rw (put-nothing at line room p has-byte l)
+        (going-stops t d₀ before d at room (g .going) (omega (arith, g .going .size, long, ap length line-is)) _ refl refl refl)
 
-    module _ (fits : line .len ≤ length room - at) {room′ : List ℕ} (put : room′ ≡ take at room ++ (textIn line ++ drop (at + line .len) room)) where
+    module _ (l : at < end) where
       in-room : at + length (textIn line) ≤ length before
-      in-room = omega (arith, long, g .going .size, g .going .within)
+      in-room = omega (arith, put-fits at line room p l, long, g .going .size, g .going .within)
+
+      end-is : end ≡ at + length (textIn line)
+      end-is = omega (arith, put-end at line room p l, long)
 
       put-is : room′ ≡ take at room ++ (textIn line ++ drop (at + length (textIn line)) room)
-      put-is = rw long put
+      put-is = rw long (put-room at line room p l)
 
-      pub goes-on : isIdle (turnMeaning (r .answer)) ≡ false → Loop t before d₀ room′ (r .desk) (at + line .len)
+      pub goes-on : isIdle (turnMeaning (r .answer)) ≡ false → Loop t before d₀ room′ (r .desk) end
       goes-on no-idle =
           let q = rw answer-is at no-idle in
           let x = going-on t d₀ before d at room (g .going) (textIn line) line-is in-room room′ put-is q in
-          rw (desk-is, ← long)
+          rw (desk-is, end-is)
           (record {
             sound = turn-lasts d (g .sound) t;
             same = g .same ∙ sym (turn-length t d);
             going = x;
           })
 
-      pub ran-idle : isIdle (turnMeaning (r .answer)) ≡ true
-          → Ran (record { desk = r .desk; written = record { count = at + line .len; idle = true } }) (taken t d₀ (length before)) before room′
-      ran-idle is-idle =
+      ran-last : isIdle (turnMeaning (r .answer)) ≡ true
+          → Ran (record { desk = r .desk; written = record { count = end; idle = true } }) (taken t d₀ (length before)) before room′
+      ran-last is-idle =
           let q = rw answer-is at is-idle in
-          going-idle t d₀ before d at room (g .going) (textIn line) line-is in-room room′ put-is q _ desk-is (omega (arith, long)) refl
+          going-idle t d₀ before d at room (g .going) (textIn line) line-is in-room room′ put-is q _ desk-is end-is refl
 
-      pub put-size : length room′ ≡ length before
-      put-size = going-size t d₀ before d at room (g .going) (textIn line) line-is in-room room′ put-is
+  -- at Idle it stops, whether the line fits or not
+  module _ (h : afterTurn (record { desk = d; answer = TV.Idle }) ≡ nextOf t d) (line : Text) (hl : Holds line (turnLine (gives idle)))
+      {end : ℕ} {room′ : List ℕ} (p : Put at line room end room′) where
+    pub ran-idle : Ran (record { desk = d; written = record { count = end; idle = ltb at end } }) (taken t d₀ (length before)) before room′
+    ran-idle = go (ltb at end) refl
+      where
+        go : (b : Bool) → ltb at end ≡ b → Ran (record { desk = d; written = record { count = end; idle = ltb at end } }) (taken t d₀ (length before)) before room′
+        go true e = rw e (ran-last (record { desk = d; answer = TV.Idle }) h line hl p (ltb-true _ _ e) refl)
+        go false e =
+            let l : end ≤ at = ltb-false _ _ e in
+            let b : 1 ≤ line .len = omega (arith, hl .size, line-some (gives idle)) in
+            let q : end ≡ at = put-stays at line room p b l in
+            rw (e, q) (ran-out (record { desk = d; answer = TV.Idle }) h line hl p l)

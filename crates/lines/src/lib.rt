@@ -6,12 +6,13 @@ use value::Refusal;
 ghost use mathlib.Core.Path.{_≡_};
 ghost use mathlib.Core.Bool.{true, false};
 ghost use mathlib.Core.List.{_++_};
-ghost use Prim.Native.Nat.{_+_, _≤_, _<_};
+ghost use Prim.Native.Nat.{_+_, _-_, _≤_, _<_};
+ghost use lib.Dec.{leb};
 ghost use lib.ListN.{length, take, drop};
+ghost use Rattle.basis.specs.Choice.{pick};
 ghost use Rattle.numerals.specs.Writing.{textIn, longest};
-ghost use Rattle.seat.specs.Answers.{turnMeaning};
 ghost use Rattle.desk.specs.Soundness.{soundOf};
-ghost use Rattle.lines.specs.Turns.{isIdle, taken, Ran, turnsOf, roomAfter, turnsMeaning, afterTurns};
+ghost use Rattle.lines.specs.Turns.{taken, Ran, turnsOf, roomAfter, turnsMeaning, afterTurns};
 
 pub mod text; // text.rt: the lines themselves
 
@@ -37,19 +38,6 @@ pub struct Run {
     pub written: Written,
 }
 
-fn is_idle(answer: TurnAnswer) -> bool
-    ensures { λ r. ⌜ r ≡ isIdle (turnMeaning answer) ⌝ }
-{
-    match answer {
-        TurnAnswer::Idle => true,
-        TurnAnswer::Hit(_) => false,
-        TurnAnswer::Miss(_) => false,
-        TurnAnswer::Unreadable(_, _) => false,
-        TurnAnswer::Done(_) => false,
-        TurnAnswer::Refused(_) => false,
-    }
-}
-
 // A line written into the room from `at` on.
 fn put(room: &mut [u8], at: usize, line: Text)
     requires { ⌜ (line .len ≤ longest) × (at + line .len ≤ length (now room)) ⌝ }
@@ -60,46 +48,58 @@ fn put(room: &mut [u8], at: usize, line: Text)
     bytes::copy(&bytes[..long], &mut room[at..]);
 }
 
-// Turns of a desk that is known to be sound, over a timetable of its length: as long as the line of the next one fits.
+// A line written into the room from `at` on, where it fits: where the lines then end.
+fn put_fitting(room: &mut [u8], at: usize, line: Text) -> usize
+    requires { ⌜ (line .len ≤ longest) × (at ≤ length (now room)) ⌝ }
+    ensures { λ r. ⌜ (r ≡ pick (leb (line .len) (length (now (room .entry)) - at)) (at + line .len) at) × (now (room .exit) ≡ pick (leb (line .len) (length (now (room .entry)) - at)) (take at (now (room .entry)) ++ (textIn line ++ drop (at + line .len) (now (room .entry)))) (now (room .entry))) ⌝ }
+{
+    if room.len() - at < line.len {
+        return at;
+    }
+    put(room, at, line);
+    at + line.len
+}
+
+// Turns of a desk that is known to be sound, over a timetable of its length: as long as the line of the next one fits. The
+// desk stands in one variable, where a turn stores the one seat that it serves.
 fn take_turns(desk: Desk, t: &[u8], room: &mut [u8]) -> Run
     requires { ⌜ (soundOf desk ≡ true) × (length (now t) ≡ desk .«timetable_length») ⌝ }
     ensures { λ r. ⌜ Ran r (taken (now (t .entry)) desk (length (now (room .entry)))) (now (room .entry)) (now (room .exit)) ⌝ }
 {
-    let mut current = desk;
-    let mut at = 0;
-    while at < room.len() {
-        let next = current.next(t);
-        let answer = next.answer;
+    let mut desk = desk;
+    let mut count = 0;
+    while count < room.len() {
+        let end = desk.last_served + 1 + Desk::SEATS;
+        let mut j = desk.last_served + 1;
+        while j < end {
+            if desk.seats[j % Desk::SEATS].held {
+                break;
+            }
+            j += 1;
+        }
+        if end <= j {
+            let line = text::turn_line(TurnAnswer::Idle);
+            let after = put_fitting(room, count, line);
+            let idle = count < after;
+            let written = Written { count: after, idle };
+            return Run { desk, written };
+        }
+        let i = j % Desk::SEATS;
+        let served = seat::served(desk.seats[i], t);
+        let seat = served.seat;
+        let answer = served.answer;
         let line = text::turn_line(answer);
-        if room.len() - at < line.len {
-            return Run {
-                desk: current,
-                written: Written {
-                    count: at,
-                    idle: false,
-                },
-            };
+        let after = put_fitting(room, count, line);
+        if after <= count {
+            let written = Written { count, idle: false };
+            return Run { desk, written };
         }
-        put(room, at, line);
-        current = next.desk;
-        at += line.len;
-        if is_idle(answer) {
-            return Run {
-                desk: current,
-                written: Written {
-                    count: at,
-                    idle: true,
-                },
-            };
-        }
+        desk.seats[i] = seat;
+        desk.last_served = i;
+        count = after;
     }
-    Run {
-        desk: current,
-        written: Written {
-            count: at,
-            idle: false,
-        },
-    }
+    let written = Written { count, idle: false };
+    Run { desk, written }
 }
 
 // Takes turns as long as the next answer's line fits in what is left of the room, and stops after Idle. The desk is
