@@ -4,6 +4,7 @@ use mathlib.Core.List.{List, _++_}
 use Prim.Native.Nat.{ℕ, _-_}
 use lib.ListN.{length, take, replicate}
 use Rattle.seat.specs.Bounds.{conditionRoom}
+use Rattle.seat.specs.Request.{Request}
 use Rattle.seat.specs.declared.Seat.{Seat}
 
 -- a free seat of a fresh desk: all zeros
@@ -20,16 +21,16 @@ freeSeat =
     }
 
 -- a seat just taken: at offset 0 with both counts 0, zeros after its condition
-abbrev pub seatFor : ℕ → List ℕ → Seat
-seatFor ticket text =
+abbrev pub seatFor : ℕ → Request → Seat
+seatFor ticket r =
     record {
       held = true;
       ticket = ticket;
       offset = 0;
       hits = 0;
       unreadable = 0;
-      «condition_length» = length text;
-      condition = text ++ replicate (conditionRoom - length text) 0;
+      «condition_length» = length (r .condition);
+      condition = r .condition ++ replicate (conditionRoom - length (r .condition)) 0;
     }
 
 -- the condition in a seat

@@ -2,13 +2,14 @@
 -- Done with the ticket, its hits and its unreadable lines; the seat is freed; else its next line: Hit, Miss or Unreadable
 -- (with a number), each with ticket and line offset."
 use mathlib.Core.Path.{_≡_}
-use mathlib.Core.List.{List}
+use mathlib.Core.Bool.{Bool}
 use Prim.Native.Nat.{ℕ, _+_}
 use lib.Dec.{ltb}
 use lib.ListN.{length}
 use Rattle.basis.specs.Choice.{pick}
 use Rattle.basis.specs.Answer.{gives}
 use Rattle.timetable.specs.Lines.{nextLine, lineAt}
+use Rattle.seat.specs.Files.{Files}
 use Rattle.seat.specs.Query.{Result, hit, miss, unreadable, resultAt}
 use Rattle.seat.specs.Answers.{Turned, turnMeaning, hitAt, missAt, unreadableAt, doneWith}
 use Rattle.seat.specs.Seat.{freeSeat, conditionOf}
@@ -45,12 +46,20 @@ judgedAs next s miss = record { seat = movedTo s next (s .hits) (s .unreadable);
 judgedAs next s (unreadable n) =
     record { seat = movedTo s next (s .hits) (s .unreadable + 1); answer = unreadableAt (s .ticket) (s .offset) n }
 
--- the result of the seat's condition at its next line
-abbrev pub resultOf : List ℕ → Seat → Result
-resultOf t s = resultAt (conditionOf s) (lineAt t (s .offset) .text)
+-- whether a line is left: the offset is not at the timetable's end
+abbrev pub hasLine : Files → Seat → Bool
+hasLine f s = ltb (s .offset) (length (f .timetable))
 
-unfoldable pub serveOf : List ℕ → Seat → Step
-serveOf t s =
-    pick (ltb (s .offset) (length t))
-    (judgedAs (nextLine t (s .offset)) s (resultOf t s))
+-- the result of the seat's condition at its next line
+abbrev pub resultOf : Files → Seat → Result
+resultOf f s = resultAt (conditionOf s) (lineAt (f .timetable) (s .offset) .text)
+
+-- where the line after that one starts
+abbrev pub afterLine : Files → Seat → ℕ
+afterLine f s = nextLine (f .timetable) (s .offset)
+
+unfoldable pub serveOf : Files → Seat → Step
+serveOf f s =
+    pick (hasLine f s)
+    (judgedAs (afterLine f s) s (resultOf f s))
     (record { seat = freeSeat; answer = doneWith (s .ticket) (s .hits) (s .unreadable) })

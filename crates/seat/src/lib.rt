@@ -10,6 +10,8 @@ ghost use Prim.Native.Nat.{ℕ, _-_, _≤_, _<_};
 ghost use lib.ListN.{length, replicate};
 ghost use Rattle.basis.specs.Answer.{gives};
 ghost use Rattle.seat.specs.Bounds.{conditionRoom, maxTimetable};
+ghost use Rattle.seat.specs.Files.{over};
+ghost use Rattle.seat.specs.Request.{asking};
 ghost use Rattle.seat.specs.Query.{accepted, judged, Result, unreadable};
 ghost use Rattle.seat.specs.Seat.{freeSeat, seatFor};
 ghost use Rattle.seat.specs.Soundness.{seatSound};
@@ -99,7 +101,7 @@ fn padded(text: &[u8]) -> [u8; Seat::ROOM]
 // A seat just taken.
 pub fn taken(ticket: u32, text: &[u8]) -> Seat
     requires { ⌜ length (now text) ≤ conditionRoom ⌝ }
-    ensures { λ r. ⌜ r ≡ seatFor ticket (now (text .entry)) ⌝ }
+    ensures { λ r. ⌜ r ≡ seatFor ticket (asking (now (text .entry))) ⌝ }
 {
     let condition = padded(text);
     Seat {
@@ -205,7 +207,7 @@ fn judged_as(s: Seat, next: usize, result: Judged) -> AfterServing
 // The seat after a turn of its own, and the answer.
 pub fn served(s: Seat, t: &[u8]) -> AfterServing
     requires { ⌜ ((k : ℕ) × (seatSound k (length (now t)) s ≡ true)) × (length (now t) ≤ maxTimetable) ⌝ }
-    ensures { λ r. ⌜ Steps r (serveOf (now (t .entry)) s) ⌝ }
+    ensures { λ r. ⌜ Steps r (serveOf (over (now (t .entry))) s) ⌝ }
 {
     let at = s.offset;
     if at < t.len() {

@@ -6,8 +6,9 @@ use lib.ListN.{length}
 use lib.Seq.{length-take-le}
 use Rattle.timetable.proofs.Offsets.{end-from, end-within}
 use Rattle.seat.specs.Bounds.{conditionRoom, maxTimetable}
+use Rattle.seat.specs.Files.{over}
 use Rattle.seat.proofs.Soundness.{servable}
-use Rattle.seat.proofs.Serving.{serve-cut, serve-done}
+use Rattle.seat.proofs.Serving.{serve-cut, serve-end}
 use borrow.Author.Needs.{needs}
 use Rattle.seat.proofs.served.Statement.{statement}
 use Rattle.seat.proofs.served.Tie as tie
@@ -56,11 +57,11 @@ free-requires c κs = search needs
 
 returns : tie.Need-returns
 returns c =
-    rw (serve-cut (c .before .before .before .before .before .before .before .before .args .t .now) (c .before .before .before .before .before .before .before .before .args .s) (c .before .before .before .before .before .read-line .result .end) (c .before .before .before .before .before .read-line .result .next) (c .before .before .before .before .before .before .if1 .taken) (c .before .before .before .before .before .read-line .ensures .0) (c .before .before .before .before .before .read-line .ensures .1))
+    rw (serve-cut (over (c .before .before .before .before .before .before .before .before .args .t .now)) (c .before .before .before .before .before .before .before .before .args .s) (c .before .before .before .before .before .read-line .result .end) (c .before .before .before .before .before .read-line .result .next) (c .before .before .before .before .before .before .if1 .taken) (c .before .before .before .before .before .read-line .ensures .0) (c .before .before .before .before .before .read-line .ensures .1))
     (c .judged-as .ensures _ (c .before .judge .ensures))
 
 returns-2 : tie.Need-returns-2
-returns-2 c = rw (serve-done (c .before .before .before .args .t .now) (c .before .before .before .args .s) (c .before .if1 .left)) (record { seat = c .free .ensures; answer = refl })
+returns-2 c = rw (serve-end (over (c .before .before .before .args .t .now)) (c .before .before .before .args .s) (c .before .if1 .left)) (record { seat = c .free .ensures; answer = refl })
 
 pub served-spec : {M : Type 1} → statement M
 served-spec =
