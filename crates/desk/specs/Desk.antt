@@ -1,13 +1,14 @@
 -- Document 01, "Timetable, seats and turns": a fresh desk, Open, Close and Turn, with the orders of "Refusal numbers".
 -- A refused call hands back the desk it got.
-use mathlib.Core.Bool.{true, false}
-use mathlib.Core.List.{List}
+use mathlib.Core.Bool.{Bool, true, false}
 use Prim.Native.Nat.{ℕ, _+_, _-_, _%_}
 use lib.Dec.{ltb, leb, eqb}
 use lib.ListN.{length, set, replicate}
 use Rattle.basis.specs.Choice.{pick}
 use Rattle.basis.specs.Answer.{Answer, gives, refuses}
 use Rattle.value.specs.Refusals.{noSeat, wrongTimetable, notSound, noTicket, noMoreTickets}
+use Rattle.seat.specs.Files.{Files}
+use Rattle.seat.specs.Request.{Request}
 use Rattle.seat.specs.Bounds.{maxTimetable}
 use Rattle.seat.specs.Query.{checkOf}
 use Rattle.seat.specs.Answers.{Turned, idle}
@@ -38,30 +39,34 @@ unfoldable pub freshOf : ℕ → After (Unit {0})
 freshOf long =
     pick (leb long maxTimetable) (record { desk = freshDesk long; answer = gives tt }) (refused noDesk wrongTimetable)
 
+-- for the lengths of these files
+abbrev pub freshFor : Files → After (Unit {0})
+freshFor f = freshOf (length (f .timetable))
+
 -- ---- open: 12, the number of the condition, 10, 14
 
 -- the next ticket's query at a place
-abbrev pub seated : List ℕ → Desk → ℕ → Desk
-seated text d i =
+abbrev pub seated : Request → Desk → ℕ → Desk
+seated r d i =
     record {
-      seats = set (d .seats) i (seatFor (d .issued + 1) text);
+      seats = set (d .seats) i (seatFor (d .issued + 1) r);
       «last_served» = d .«last_served»;
       «timetable_length» = d .«timetable_length»;
       issued = d .issued + 1;
     }
 
 -- after the checks of the condition: the lowest free seat, and the next ticket
-abbrev pub openChecked : List ℕ → Desk → Answer (Unit {0}) → After ℕ
-openChecked text d (gives _) =
+abbrev pub openChecked : Request → Desk → Answer (Unit {0}) → After ℕ
+openChecked r d (gives _) =
     pick (ltb (firstFrom d false 0) seatCount)
     (pick (ltb (d .issued) lastTicket)
-    (record { desk = seated text d (firstFrom d false 0); answer = gives (d .issued + 1) })
+    (record { desk = seated r d (firstFrom d false 0); answer = gives (d .issued + 1) })
     (refused d noMoreTickets))
     (refused d noSeat)
-openChecked text d (refuses n) = refused d n
+openChecked r d (refuses n) = refused d n
 
-unfoldable pub openOf : List ℕ → Desk → After ℕ
-openOf text d = pick (soundOf d) (openChecked text d (checkOf text)) (refused d notSound)
+unfoldable pub openOf : Request → Desk → After ℕ
+openOf r d = pick (soundOf d) (openChecked r d (checkOf (r .condition))) (refused d notSound)
 
 -- ---- close: 12, 13
 
@@ -100,18 +105,22 @@ afterStep d i s =
     }
 
 -- j is the place found, counted on past the last one: 17 after the last served where no seat is held
-abbrev pub turnAt : List ℕ → Desk → ℕ → After Turned
-turnAt t d j =
+abbrev pub turnAt : Files → Desk → ℕ → After Turned
+turnAt f d j =
     pick (ltb j (d .«last_served» + 1 + seatCount))
-    (afterStep d (j % seatCount) (serveOf t (seatAt d (j % seatCount))))
+    (afterStep d (j % seatCount) (serveOf f (seatAt d (j % seatCount))))
     (record { desk = d; answer = gives idle })
 
--- the turn of a sound desk over a timetable of its length
-unfoldable pub nextOf : List ℕ → Desk → After Turned
-nextOf t d = turnAt t d (firstFrom d true (d .«last_served» + 1))
+-- the turn of a sound desk over files of its lengths
+unfoldable pub nextOf : Files → Desk → After Turned
+nextOf f d = turnAt f d (firstFrom d true (d .«last_served» + 1))
 
-unfoldable pub turnOf : List ℕ → Desk → After Turned
-turnOf t d =
+-- the files have the lengths that the desk was made for
+abbrev pub haveLengths : Files → Desk → Bool
+haveLengths f d = eqb (length (f .timetable)) (d .«timetable_length»)
+
+unfoldable pub turnOf : Files → Desk → After Turned
+turnOf f d =
     pick (soundOf d)
-    (pick (eqb (length t) (d .«timetable_length»)) (nextOf t d) (refused d wrongTimetable))
+    (pick (haveLengths f d) (nextOf f d) (refused d wrongTimetable))
     (refused d notSound)

@@ -8,11 +8,12 @@ use value::Refusal;
 ghost use mathlib.Core.Path.{_≡_};
 ghost use mathlib.Core.Bool.{true, false};
 ghost use Prim.Native.Nat.{_+_, _≤_, _<_};
-ghost use lib.ListN.{length};
+ghost use Rattle.seat.specs.Files.{over};
+ghost use Rattle.seat.specs.Request.{asking};
 ghost use Rattle.desk.specs.Bounds.{seatCount};
 ghost use Rattle.desk.specs.Seats.{firstFrom, placeOf};
 ghost use Rattle.desk.specs.Soundness.{soundOf};
-ghost use Rattle.desk.specs.Desk.{freshOf, openOf, closeOf, turnOf, nextOf};
+ghost use Rattle.desk.specs.Desk.{freshOf, openOf, closeOf, haveLengths, turnOf, nextOf};
 ghost use Rattle.desk.specs.Answers.{afterFresh, afterOpen, afterClose, afterTurn};
 
 pub mod bounds; // bounds.rt: each constant is the number of the definitions
@@ -165,7 +166,7 @@ impl Desk {
 
     // Takes the lowest free seat and the next ticket. Last served stays.
     pub fn open(self, text: &[u8]) -> AfterOpen
-        ensures { λ r. ⌜ afterOpen r ≡ openOf (now (text .entry)) self ⌝ }
+        ensures { λ r. ⌜ afterOpen r ≡ openOf (asking (now (text .entry))) self ⌝ }
     {
         if !self.sound() {
             return self.not_opened(Refusal::NOT_SOUND);
@@ -231,7 +232,7 @@ impl Desk {
 
     // Serves the first held seat after the last served, going round.
     pub fn turn(self, t: &[u8]) -> AfterTurn
-        ensures { λ r. ⌜ afterTurn r ≡ turnOf (now (t .entry)) self ⌝ }
+        ensures { λ r. ⌜ afterTurn r ≡ turnOf (over (now (t .entry))) self ⌝ }
     {
         if !self.sound() {
             return AfterTurn {
@@ -254,8 +255,8 @@ impl Desk {
 
     // A turn of a desk that is known to be sound, over a timetable of its length.
     fn next(self, t: &[u8]) -> AfterTurn
-        requires { ⌜ (soundOf self ≡ true) × (length (now t) ≡ self .«timetable_length») ⌝ }
-        ensures { λ r. ⌜ afterTurn r ≡ nextOf (now (t .entry)) self ⌝ }
+        requires { ⌜ (soundOf self ≡ true) × (haveLengths (over (now t)) self ≡ true) ⌝ }
+        ensures { λ r. ⌜ afterTurn r ≡ nextOf (over (now (t .entry))) self ⌝ }
     {
         let j = self.find(true, self.last_served + 1);
         if self.last_served + Desk::SEATS < j {

@@ -3,11 +3,13 @@ use native.Mathlib.Omega.{arith}
 use mathlib.Core.Path.{_≡_, refl, sym, ap, _∙_}
 use Prim.Native.Nat.{ℕ, _<_, _≤_, _+_, _%_}
 use mathlib.Core.Bool.{Bool, true, false}
+use Rattle.seat.specs.Files.{over}
 use Rattle.desk.specs.Bounds.{seatCount}
 use Rattle.desk.specs.Seats.{heldIs}
 use Rattle.desk.specs.Desk.{nextOf}
 use Rattle.desk.proofs.Scans.{first-found, beq-true}
 use Rattle.desk.proofs.Soundness.{sound-last, sound-length, sound-seat}
+use Rattle.desk.proofs.Lengths.{lengths-same}
 use borrow.Author.Needs.{needs}
 use Rattle.desk.proofs.Desk.next.Statement.{statement}
 use Rattle.desk.proofs.Desk.next.Tie as tie
@@ -39,14 +41,16 @@ element-copy-out-served c = search needs
 
 served-requires : tie.Need-served-requires
 served-requires c κs =
-    let d = c .before .before .before .before .args .t1 in
+    let a = c .before .before .before .before .args in
+    let d = a .t1 in
     let j = c .before .before .find .result in
     let e = c .before .before .find .ensures .0 in
     let p = c .before .before .before .before .pre in
     let lt : j < d .«last_served» + 1 + seatCount = omega arith in
     let held : heldIs d true j ≡ true = rw e (first-found (heldIs d true) (d .«last_served» + 1) seatCount (rw e at lt)) in
     let m = sound-length d (p .0) in
-    ((d .issued, rw (p .1) (sound-seat d (p .0) (j % seatCount) (omega arith) (beq-true _ held))), omega arith)
+    let same = lengths-same (over (a .t .now)) d (p .1) in
+    ((d .issued, rw same (sound-seat d (p .0) (j % seatCount) (omega arith) (beq-true _ held))), omega arith)
 
 mul-seat : tie.Need-mul-seat
 mul-seat c = search needs

@@ -3,8 +3,9 @@ use native.Mathlib.Omega.{arith}
 use mathlib.Core.Path.{_≡_, refl, sym, ap, _∙_}
 use Prim.Native.Nat.{ℕ, _<_, _≤_, _+_, _%_}
 use Rattle.basis.proofs.Tests.{no, yes}
-use lib.ListN.{length}
+use Rattle.seat.specs.Files.{over}
 use Rattle.desk.specs.Desk.{turnOf}
+use Rattle.desk.proofs.Lengths.{same-lengths, other-lengths}
 use borrow.Author.Needs.{needs}
 use Rattle.desk.proofs.Desk.turn.Statement.{statement}
 use Rattle.desk.proofs.Desk.turn.Tie as tie
@@ -24,17 +25,19 @@ returns-2 : tie.Need-returns-2
 unfolding turnOf
 returns-2 c =
     let a = c .before .before .before .before .before .args in
-    simp (yes (c .before .before .before .sound .ensures) (c .before .before .if1 .left), ne-eqb (length (a .t .now)) (a .self .«timetable_length») (λ e. omega (arith, e)))
+    simp (yes (c .before .before .before .sound .ensures) (c .before .before .if1 .left), other-lengths (over (a .t .now)) (a .self) (λ e. omega (arith, e)))
 
 next-requires : tie.Need-next-requires
-next-requires c κs = (yes (c .before .before .before .sound .ensures) (c .before .before .if1 .left), omega arith)
+next-requires c κs =
+    let a = c .before .before .before .before .before .args in
+    (yes (c .before .before .before .sound .ensures) (c .before .before .if1 .left), same-lengths (over (a .t .now)) (a .self) (omega arith))
 
 returns-3 : tie.Need-returns-3
 unfolding turnOf
 returns-3 c =
     let a = c .before .before .before .before .before .before .args in
-    let e : length (a .t .now) ≡ a .self .«timetable_length» = omega arith in
-    c .next .ensures ∙ sym (simp (yes (c .before .before .before .before .sound .ensures) (c .before .before .before .if1 .left), eq-eqb _ _ e))
+    let e = same-lengths (over (a .t .now)) (a .self) (omega arith) in
+    c .next .ensures ∙ sym (simp (yes (c .before .before .before .before .sound .ensures) (c .before .before .before .if1 .left), e))
 
 pub turn-spec : {M : Type 1} → statement M
 turn-spec = tie.close (tie.spec sound-requires returns returns-2 next-requires returns-3)
