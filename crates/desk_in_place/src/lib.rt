@@ -5,13 +5,15 @@ use desk::Desk;
 use desk::OpenAnswer;
 use seat::TurnAnswer;
 ghost use mathlib.Core.Path.{_≡_};
+ghost use Rattle.seat.specs.Files.{over};
+ghost use Rattle.seat.specs.Request.{asking};
 ghost use Rattle.seat.specs.Answers.{turnMeaning};
 ghost use Rattle.desk.specs.Answers.{openMeaning, closeMeaning};
 ghost use Rattle.desk.specs.Desk.{openOf, closeOf, turnOf};
 
 // Opens a condition.
 pub fn open_in(desk: &mut Desk, text: &[u8]) -> OpenAnswer
-    ensures { λ r. ⌜ (now (desk .exit) ≡ openOf (now (text .entry)) (now (desk .entry)) .desk) × (openMeaning r ≡ openOf (now (text .entry)) (now (desk .entry)) .answer) ⌝ }
+    ensures { λ r. ⌜ (now (desk .exit) ≡ openOf (asking (now (text .entry))) (now (desk .entry)) .desk) × (openMeaning r ≡ openOf (asking (now (text .entry))) (now (desk .entry)) .answer) ⌝ }
 {
     let after = desk.open(text);
     *desk = after.desk;
@@ -29,7 +31,7 @@ pub fn close_in(desk: &mut Desk, ticket: u32) -> CloseAnswer
 
 // Takes a turn.
 pub fn turn_in(desk: &mut Desk, t: &[u8]) -> TurnAnswer
-    ensures { λ r. ⌜ (now (desk .exit) ≡ turnOf (now (t .entry)) (now (desk .entry)) .desk) × (turnMeaning r ≡ turnOf (now (t .entry)) (now (desk .entry)) .answer) ⌝ }
+    ensures { λ r. ⌜ (now (desk .exit) ≡ turnOf (over (now (t .entry))) (now (desk .entry)) .desk) × (turnMeaning r ≡ turnOf (over (now (t .entry))) (now (desk .entry)) .answer) ⌝ }
 {
     let after = desk.turn(t);
     *desk = after.desk;

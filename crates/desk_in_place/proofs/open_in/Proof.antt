@@ -40,6 +40,7 @@ use denote.Triple.Table.{entered, cited}
 use denote.Triple.Walked.{says, Stays, stay-ref, stay-none-slice, walkOf, AllGo, goes-none-slice, goes-ref, Walks, ends-at, walked, walk-meets}
 use denote.Exit.{yes}
 use denote.Triple.Clauses.{ensured, lasts}
+use Rattle.seat.specs.Request.{asking}
 use Rattle.desk.specs.Answers.{After, afterOpen}
 use Rattle.desk.specs.Desk.{openOf}
 use Rattle.desk.specs.declared.Desk.{Desk}
@@ -113,10 +114,10 @@ module _ {M : Type 1} (𝓤 : URA M) (H : Heap 𝓤) (A : Atoms 𝓤) (W : Given
       qed W (‵ Own ∷ (‵ (flft κ′ q′) ⊛ ‵ ftrue) ∷ []) ∵ nothing ! $ move ! (1 ∷ 0 ∷ []) $ fjoin ! $
       owned ! T.the-row (Is T.the-row) (LL.makes T.the-type T′.the-plain 𝓤 H A) h _ was $ fjoin ! $ move ! (1 ∷ 0 ∷ []) $ join ! $ frame ! $ done !
 
-  said : (r : AfterOpen) → ent 𝓤 (ensured 𝓤 H A opened.ended (opened.clauses 𝓤 H A at-mem run) (κ′, tt) (h, (s, tt)) tt r) (fact 𝓤 (afterOpen r ≡ openOf (s .now) h))
-  said r = exE 𝓤 _ (λ ws. snd∗ 𝓤 (sem 𝓤 H A (lasts opened.ended (κ′, tt) (h, (s, tt)) ws)) (fact 𝓤 (afterOpen r ≡ openOf (s .now) h)))
+  said : (r : AfterOpen) → ent 𝓤 (ensured 𝓤 H A opened.ended (opened.clauses 𝓤 H A at-mem run) (κ′, tt) (h, (s, tt)) tt r) (fact 𝓤 (afterOpen r ≡ openOf (asking (s .now)) h))
+  said r = exE 𝓤 _ (λ ws. snd∗ 𝓤 (sem 𝓤 H A (lasts opened.ended (κ′, tt) (h, (s, tt)) ws)) (fact 𝓤 (afterOpen r ≡ openOf (asking (s .now)) h)))
 
-  exits : (r : AfterOpen) → afterOpen r ≡ openOf (s .now) h → Is E.the-row (r .answer) (ev (r .answer) ∷ [])
+  exits : (r : AfterOpen) → afterOpen r ≡ openOf (asking (s .now)) h → Is E.the-row (r .answer) (ev (r .answer) ∷ [])
       → ent 𝓤 (⋆ 𝓤 H A (‵ (fobs γ (T.the-row .coded .code (r .desk))) ∷ ‵ (fbor κ (Body (mem T.the-row) b o γ)) ∷ ‵ (flft κ q) ∷ (‵ (flft κ′ q′) ⊛ ‵ ftrue) ∷ ‵ Own ∷ [])) (Post (ev (r .answer)))
   exits r e isa =
       qed W (‵ (fobs γ (T.the-row .coded .code (r .desk))) ∷ ‵ (fbor κ (Body (mem T.the-row) b o γ)) ∷ ‵ (flft κ q) ∷ (‵ (flft κ′ q′) ⊛ ‵ ftrue) ∷ ‵ Own ∷ []) ∵
@@ -140,7 +141,7 @@ module _ {M : Type 1} (𝓤 : URA M) (H : Heap 𝓤) (A : Atoms 𝓤) (W : Given
         move ! (15 ∷ 18 ∷ []) $ use2 W (raw (Open 𝓤 H A at-mem run .pre to)) (asked was) $
         calls-at ! fm (Open 𝓤 H A at-mem run) known to (and-then ! (load ! (from ! (stop !)) (look ! 6 refl)) (and-then ! (load ! (from ! (stop !)) (look ! 10 refl)) (no-more !))) (λ v.
         use1 W (later (some (λ (r : AfterOpen). ((‵ (flft κ′ q′) ⊛ ‵ ftrue) ⊛ ‵ (R.the-row .own r (v ∷ []))) ⊛ raw (ensured 𝓤 H A opened.ended (opened.clauses 𝓤 H A at-mem run) (κ′, tt) (h, (s, tt)) tt r)))) (id⊢ 𝓤 _) $ await ! tt $ pick ! (λ r.
-        split ! $ move ! (1 ∷ []) $ use1 W (raw (fact 𝓤 (afterOpen r ≡ openOf (s .now) h))) (said r) $ heard ! (afterOpen r ≡ openOf (s .now) h) (λ e. split ! $ move ! (1 ∷ []) $
+        split ! $ move ! (1 ∷ []) $ use1 W (raw (fact 𝓤 (afterOpen r ≡ openOf (asking (s .now)) h))) (said r) $ heard ! (afterOpen r ≡ openOf (asking (s .now)) h) (λ e. split ! $ move ! (1 ∷ []) $
         peeks ! R.the-row (Is R.the-row) (shows 𝓤 H A R.the-row) r (v ∷ []) (λ is.
         -- [what the answer owns; the slice's token; the desk's cell; what a Desk owns; the open borrow; obs; auth; _4; …; _3; …; _2; …; _1; …; room for _0; …; what the text owns; true]
         land ! (from ! (stop !)) (init ! 9 refl (LL.lawful R.the-type R′.the-laws 𝓤 H A W .typed r _ is .0)) $ rewrite ! 9 (λ (u : Val). ‵ (fat fullShare R′.mir l₃ 0 u)) (ap only (LL.tells R.the-type R′.the-laws r _ is)) refl $
