@@ -1,7 +1,6 @@
 -- The calls in the words of document 01: which seat the definitions look for, and which number is given when.
 use mathlib.Core.Path.{_≡_, refl, sym, ap, _∙_}
 use mathlib.Core.Bool.{Bool, true, false, true≢false}
-use mathlib.Core.List.{List}
 use Prim.Native.Nat.{ℕ, _+_, _-_, _%_, _≤_, _<_}
 use native.Mathlib.Omega.{arith}
 use borrow.Author.Tests.{lt-ltb, le-ltb, le-leb, lt-leb, eq-eqb, ne-eqb, leb-false, ltb-true, ltb-false, eqb-true, eqb-false}
@@ -10,24 +9,27 @@ use lib.ListN.{length}
 use Rattle.basis.specs.Choice.{both}
 use Rattle.basis.specs.Answer.{Answer, gives, refuses}
 use Rattle.value.specs.Refusals.{noSeat, wrongTimetable, notSound, noTicket, noMoreTickets}
+use Rattle.seat.specs.Files.{Files}
+use Rattle.seat.specs.Request.{Request}
 use Rattle.seat.specs.Bounds.{maxTimetable}
 use Rattle.seat.specs.Query.{accepted, checkOf}
 use Rattle.seat.specs.Answers.{idle, ticketOf}
 use Rattle.seat.specs.Serving.{serveOf}
 use Rattle.seat.proofs.Conditions.{accepted-checked, checked-accepted}
 use Rattle.seat.proofs.Soundness.{servable}
+use Rattle.seat.proofs.Serving.{served-answer}
 use Rattle.desk.specs.Bounds.{seatCount, lastTicket}
 use Rattle.desk.specs.Scan.{first}
 use Rattle.desk.specs.Seats.{seatAt, heldIs, firstFrom, hasTicket, placeOf}
 use Rattle.desk.specs.Soundness.{soundOf}
-use Rattle.desk.specs.Desk.{noDesk, freshOf, openOf, closeOf, nextOf, turnOf}
+use Rattle.desk.specs.Desk.{noDesk, freshOf, openOf, closeOf, nextOf, haveLengths, turnOf}
 use Rattle.desk.specs.declared.Desk.{Desk}
 use Rattle.desk.proofs.Scans.{beq-true, beq-false, beq-other, beq-neither, first-le, first-found, first-before, first-is, first-none}
 use Rattle.desk.proofs.Soundness.{sound-last, sound-seat}
-use Rattle.desk_laws.specs.InWords.{AllHeld, NoneHeld, SomeFree, NoneHas, LowestFree, onFrom, NextHeld, FreshInWords, OpenInWords, CloseInWords, TurnInWords, HandsBack, RefusedAltersNothing}
+use Rattle.desk.proofs.Lengths.{lengths-same, same-lengths, other-lengths, lengths-other}
+use Rattle.desk_laws.specs.InWords.{AllHeld, NoneHeld, SomeFree, NoneHas, LowestFree, onFrom, NextHeld, OfItsLength, FreshInWords, OpenInWords, CloseInWords, TurnInWords, HandsBack, RefusedAltersNothing}
 use Rattle.desk_laws.proofs.OwnNumbers.{own-low}
 use Rattle.desk_laws.proofs.Sound.{own-place, place-found}
-use Rattle.desk_laws.proofs.Steps.{served-answer}
 use Rattle.desk_laws.proofs.NewDesk.{no-desk-sound}
 
 -- ---- one answer, one number
@@ -142,70 +144,70 @@ fresh-in-words long =
     go true f e = absurd (given-no (rw f) e)
 
 -- ---- open, by the four tests of its definition
-data Opens (c : List ℕ) (d : Desk) : Type 0 where
-  unsound : soundOf d ≡ false → openOf c d .answer ≡ refuses notSound → openOf c d .desk ≡ d → Opens c d
-  own : (n : ℕ) → soundOf d ≡ true → checkOf c ≡ refuses n → openOf c d .answer ≡ refuses n → openOf c d .desk ≡ d → Opens c d
-  full : soundOf d ≡ true → accepted c ≡ true → seatCount ≤ firstFrom d false 0 → openOf c d .answer ≡ refuses noSeat → openOf c d .desk ≡ d → Opens c d
-  spent : soundOf d ≡ true → accepted c ≡ true → firstFrom d false 0 < seatCount → lastTicket ≤ d .issued
-      → openOf c d .answer ≡ refuses noMoreTickets → openOf c d .desk ≡ d → Opens c d
-  given : openOf c d .answer ≡ gives (d .issued + 1) → Opens c d
+data Opens (r : Request) (d : Desk) : Type 0 where
+  unsound : soundOf d ≡ false → openOf r d .answer ≡ refuses notSound → openOf r d .desk ≡ d → Opens r d
+  own : (n : ℕ) → soundOf d ≡ true → checkOf (r .condition) ≡ refuses n → openOf r d .answer ≡ refuses n → openOf r d .desk ≡ d → Opens r d
+  full : soundOf d ≡ true → accepted (r .condition) ≡ true → seatCount ≤ firstFrom d false 0 → openOf r d .answer ≡ refuses noSeat → openOf r d .desk ≡ d → Opens r d
+  spent : soundOf d ≡ true → accepted (r .condition) ≡ true → firstFrom d false 0 < seatCount → lastTicket ≤ d .issued
+      → openOf r d .answer ≡ refuses noMoreTickets → openOf r d .desk ≡ d → Opens r d
+  given : openOf r d .answer ≡ gives (d .issued + 1) → Opens r d
 
-module _ (c : List ℕ) (d : Desk) where
-  opens-checked : (a : Answer (Unit {0})) → soundOf d ≡ true → checkOf c ≡ a → Opens c d
+module _ (r : Request) (d : Desk) where
+  opens-checked : (a : Answer (Unit {0})) → soundOf d ≡ true → checkOf (r .condition) ≡ a → Opens r d
   unfolding openOf
   opens-checked (refuses n) e f = own n e f (rw (e, f)) (rw (e, f))
   opens-checked (gives u) e f = go (ltb (firstFrom d false 0) seatCount) (ltb (d .issued) lastTicket) refl refl
     where
-      go : (x y : Bool) → ltb (firstFrom d false 0) seatCount ≡ x → ltb (d .issued) lastTicket ≡ y → Opens c d
-      go false y g h = full e (checked-accepted c u f) (ltb-false _ _ g) (rw (e, f, g)) (rw (e, f, g))
-      go true false g h = spent e (checked-accepted c u f) (ltb-true _ _ g) (ltb-false _ _ h) (rw (e, f, g, h)) (rw (e, f, g, h))
+      go : (x y : Bool) → ltb (firstFrom d false 0) seatCount ≡ x → ltb (d .issued) lastTicket ≡ y → Opens r d
+      go false y g h = full e (checked-accepted (r .condition) u f) (ltb-false _ _ g) (rw (e, f, g)) (rw (e, f, g))
+      go true false g h = spent e (checked-accepted (r .condition) u f) (ltb-true _ _ g) (ltb-false _ _ h) (rw (e, f, g, h)) (rw (e, f, g, h))
       go true true g h = given (rw (e, f, g, h))
 
-  opens : Opens c d
+  opens : Opens r d
   unfolding openOf
   opens = go (soundOf d) refl
     where
-      go : (a : Bool) → soundOf d ≡ a → Opens c d
+      go : (a : Bool) → soundOf d ≡ a → Opens r d
       go false e = unsound e (rw e) (rw e)
-      go true e = opens-checked (checkOf c) e refl
+      go true e = opens-checked (checkOf (r .condition)) e refl
 
-  not-sound-if : Opens c d → openOf c d .answer ≡ refuses notSound → soundOf d ≡ false
+  not-sound-if : Opens r d → openOf r d .answer ≡ refuses notSound → soundOf d ≡ false
   not-sound-if (unsound s e k) h = s
-  not-sound-if (own n s f e k) h = absurd (omega (arith, own-low c n f, same-number n notSound e h))
+  not-sound-if (own n s f e k) h = absurd (omega (arith, own-low (r .condition) n f, same-number n notSound e h))
   not-sound-if (full s g l e k) h = absurd (omega (arith, same-number noSeat notSound e h))
   not-sound-if (spent s g l i e k) h = absurd (omega (arith, same-number noMoreTickets notSound e h))
   not-sound-if (given e) h = absurd (given-no (ap isGiven e) h)
 
-  own-if : (m : ℕ) → checkOf c ≡ refuses m → Opens c d → openOf c d .answer ≡ refuses m → soundOf d ≡ true
-  own-if m f (unsound s e k) h = absurd (omega (arith, own-low c m f, same-number notSound m e h))
+  own-if : (m : ℕ) → checkOf (r .condition) ≡ refuses m → Opens r d → openOf r d .answer ≡ refuses m → soundOf d ≡ true
+  own-if m f (unsound s e k) h = absurd (omega (arith, own-low (r .condition) m f, same-number notSound m e h))
   own-if m f (own n s g e k) h = s
   own-if m f (full s g l e k) h = s
   own-if m f (spent s g l i e k) h = s
   own-if m f (given e) h = absurd (given-no (ap isGiven e) h)
 
-  full-if : Opens c d → openOf c d .answer ≡ refuses noSeat → (soundOf d ≡ true) × (accepted c ≡ true) × AllHeld d
+  full-if : Opens r d → openOf r d .answer ≡ refuses noSeat → (soundOf d ≡ true) × (accepted (r .condition) ≡ true) × AllHeld d
   full-if (unsound s e k) h = absurd (omega (arith, same-number notSound noSeat e h))
-  full-if (own n s f e k) h = absurd (omega (arith, own-low c n f, same-number n noSeat e h))
+  full-if (own n s f e k) h = absurd (omega (arith, own-low (r .condition) n f, same-number n noSeat e h))
   full-if (full s g l e k) h = (s, g, all-held d l)
   full-if (spent s g l i e k) h = absurd (omega (arith, same-number noMoreTickets noSeat e h))
   full-if (given e) h = absurd (given-no (ap isGiven e) h)
 
-  spent-if : Opens c d → openOf c d .answer ≡ refuses noMoreTickets
-      → (soundOf d ≡ true) × (accepted c ≡ true) × SomeFree d × (lastTicket ≤ d .issued)
+  spent-if : Opens r d → openOf r d .answer ≡ refuses noMoreTickets
+      → (soundOf d ≡ true) × (accepted (r .condition) ≡ true) × SomeFree d × (lastTicket ≤ d .issued)
   spent-if (unsound s e k) h = absurd (omega (arith, same-number notSound noMoreTickets e h))
-  spent-if (own n s f e k) h = absurd (omega (arith, own-low c n f, same-number n noMoreTickets e h))
+  spent-if (own n s f e k) h = absurd (omega (arith, own-low (r .condition) n f, same-number n noMoreTickets e h))
   spent-if (full s g l e k) h = absurd (omega (arith, same-number noSeat noMoreTickets e h))
   spent-if (spent s g l i e k) h = (s, g, found-free d l, i)
   spent-if (given e) h = absurd (given-no (ap isGiven e) h)
 
-  open-back : Opens c d → HandsBack d (openOf c d)
+  open-back : Opens r d → HandsBack d (openOf r d)
   open-back (unsound s e k) n h = k
   open-back (own m s f e k) n h = k
   open-back (full s g l e k) n h = k
   open-back (spent s g l i e k) n h = k
   open-back (given e) n h = absurd (given-no (ap isGiven e) h)
 
-  pub open-in-words : OpenInWords c d
+  pub open-in-words : OpenInWords r d
   unfolding openOf
   open-in-words =
       record {
@@ -215,15 +217,15 @@ module _ (c : List ℕ) (d : Desk) where
           only = full-if opens;
           always = λ w.
               let l : seatCount ≤ firstFrom d false 0 = omega (arith, none-free d (w .2)) in
-              rw (w .0, accepted-checked c (w .1), le-ltb _ _ l);
+              rw (w .0, accepted-checked (r .condition) (w .1), le-ltb _ _ l);
         };
         spent = record {
           only = spent-if opens;
-          always = λ w. rw (w .0, accepted-checked c (w .1), lt-ltb _ _ (free-found d (w .2)), le-ltb _ _ (w .3));
+          always = λ w. rw (w .0, accepted-checked (r .condition) (w .1), lt-ltb _ _ (free-found d (w .2)), le-ltb _ _ (w .3));
         };
         takes = λ i s g w l.
             let m = w .place in
-            rw (s, accepted-checked c g, lowest d i w, lt-ltb i seatCount m, lt-ltb _ _ l);
+            rw (s, accepted-checked (r .condition) g, lowest d i w, lt-ltb i seatCount m, lt-ltb _ _ l);
       }
 
 -- ---- close
@@ -268,87 +270,87 @@ module _ (k : ℕ) (d : Desk) where
       }
 
 -- ---- turn
-module _ (t : List ℕ) (d : Desk) where
+module _ (f : Files) (d : Desk) where
   -- a seat that is served is not Idle: its answer names its ticket, and Idle names none
   served-not-idle : soundOf d ≡ true → firstFrom d true (d .«last_served» + 1) < d .«last_served» + 1 + seatCount
-      → turnOf t d .answer ≡ gives (serveOf t (seatAt d (firstFrom d true (d .«last_served» + 1) % seatCount)) .answer)
-      → turnOf t d .answer ≡ gives idle → ⊥
+      → turnOf f d .answer ≡ gives (serveOf f (seatAt d (firstFrom d true (d .«last_served» + 1) % seatCount)) .answer)
+      → turnOf f d .answer ≡ gives idle → ⊥
   served-not-idle s l e h =
       let j = firstFrom d true (d .«last_served» + 1) in
       let i = j % seatCount in
       let m : first (heldIs d true) (d .«last_served» + 1) seatCount < d .«last_served» + 1 + seatCount = l in
       let held = beq-true (seatAt d i .held) (first-found (heldIs d true) (d .«last_served» + 1) seatCount m) in
       let some = servable _ _ _ (sound-seat d s i (omega arith) held) .numbered in
-      let q : gives (serveOf t (seatAt d i) .answer) ≡ gives idle = sym e ∙ h in
-      let r : serveOf t (seatAt d i) .answer ≡ idle = cc in
-      let z : seatAt d i .ticket ≡ 0 = sym (served-answer t (seatAt d i)) ∙ ap ticketOf r in
+      let q : gives (serveOf f (seatAt d i) .answer) ≡ gives idle = sym e ∙ h in
+      let r : serveOf f (seatAt d i) .answer ≡ idle = cc in
+      let z : seatAt d i .ticket ≡ 0 = sym (served-answer f (seatAt d i)) ∙ ap ticketOf r in
       omega arith
 
-  turn-unsound : turnOf t d .answer ≡ refuses notSound → soundOf d ≡ false
+  turn-unsound : turnOf f d .answer ≡ refuses notSound → soundOf d ≡ false
   unfolding turnOf nextOf
-  turn-unsound h = go (soundOf d) (eqb (length t) (d .«timetable_length»)) (ltb (firstFrom d true (d .«last_served» + 1)) (d .«last_served» + 1 + seatCount)) refl refl refl
+  turn-unsound h = go (soundOf d) (haveLengths f d) (ltb (firstFrom d true (d .«last_served» + 1)) (d .«last_served» + 1 + seatCount)) refl refl refl
     where
-      go : (a b x : Bool) → soundOf d ≡ a → eqb (length t) (d .«timetable_length») ≡ b
+      go : (a b x : Bool) → soundOf d ≡ a → haveLengths f d ≡ b
           → ltb (firstFrom d true (d .«last_served» + 1)) (d .«last_served» + 1 + seatCount) ≡ x → soundOf d ≡ false
-      go false b x e f g = e
-      go true false x e f g = absurd (omega (arith, same-number wrongTimetable notSound (rw (e, f)) h))
-      go true true false e f g = absurd (given-no (rw (e, f, g)) h)
-      go true true true e f g = absurd (given-no (rw (e, f, g)) h)
+      go false b x e l g = e
+      go true false x e l g = absurd (omega (arith, same-number wrongTimetable notSound (rw (e, l)) h))
+      go true true false e l g = absurd (given-no (rw (e, l, g)) h)
+      go true true true e l g = absurd (given-no (rw (e, l, g)) h)
 
-  turn-length : turnOf t d .answer ≡ refuses wrongTimetable → (soundOf d ≡ true) × (length t ≡ d .«timetable_length» → ⊥)
+  turn-length : turnOf f d .answer ≡ refuses wrongTimetable → (soundOf d ≡ true) × (OfItsLength f d → ⊥)
   unfolding turnOf nextOf
-  turn-length h = go (soundOf d) (eqb (length t) (d .«timetable_length»)) (ltb (firstFrom d true (d .«last_served» + 1)) (d .«last_served» + 1 + seatCount)) refl refl refl
+  turn-length h = go (soundOf d) (haveLengths f d) (ltb (firstFrom d true (d .«last_served» + 1)) (d .«last_served» + 1 + seatCount)) refl refl refl
     where
-      go : (a b x : Bool) → soundOf d ≡ a → eqb (length t) (d .«timetable_length») ≡ b
-          → ltb (firstFrom d true (d .«last_served» + 1)) (d .«last_served» + 1 + seatCount) ≡ x → (soundOf d ≡ true) × (length t ≡ d .«timetable_length» → ⊥)
-      go false b x e f g = absurd (omega (arith, same-number notSound wrongTimetable (rw e) h))
-      go true false x e f g = (e, eqb-false _ _ f)
-      go true true false e f g = absurd (given-no (rw (e, f, g)) h)
-      go true true true e f g = absurd (given-no (rw (e, f, g)) h)
+      go : (a b x : Bool) → soundOf d ≡ a → haveLengths f d ≡ b
+          → ltb (firstFrom d true (d .«last_served» + 1)) (d .«last_served» + 1 + seatCount) ≡ x → (soundOf d ≡ true) × (OfItsLength f d → ⊥)
+      go false b x e l g = absurd (omega (arith, same-number notSound wrongTimetable (rw e) h))
+      go true false x e l g = (e, lengths-other f d l)
+      go true true false e l g = absurd (given-no (rw (e, l, g)) h)
+      go true true true e l g = absurd (given-no (rw (e, l, g)) h)
 
-  turn-nobody : turnOf t d .answer ≡ gives idle
-      → (soundOf d ≡ true) × (length t ≡ d .«timetable_length») × NoneHeld d × (turnOf t d .desk ≡ d)
+  turn-nobody : turnOf f d .answer ≡ gives idle
+      → (soundOf d ≡ true) × OfItsLength f d × NoneHeld d × (turnOf f d .desk ≡ d)
   unfolding turnOf nextOf
-  turn-nobody h = go (soundOf d) (eqb (length t) (d .«timetable_length»)) (ltb (firstFrom d true (d .«last_served» + 1)) (d .«last_served» + 1 + seatCount)) refl refl refl
+  turn-nobody h = go (soundOf d) (haveLengths f d) (ltb (firstFrom d true (d .«last_served» + 1)) (d .«last_served» + 1 + seatCount)) refl refl refl
     where
-      go : (a b x : Bool) → soundOf d ≡ a → eqb (length t) (d .«timetable_length») ≡ b
+      go : (a b x : Bool) → soundOf d ≡ a → haveLengths f d ≡ b
           → ltb (firstFrom d true (d .«last_served» + 1)) (d .«last_served» + 1 + seatCount) ≡ x
-          → (soundOf d ≡ true) × (length t ≡ d .«timetable_length») × NoneHeld d × (turnOf t d .desk ≡ d)
-      go false b x e f g = absurd (refused-no (rw e) h)
-      go true false x e f g = absurd (refused-no (rw (e, f)) h)
-      go true true false e f g = (e, eqb-true _ _ f, next-nobody d (sound-last d e) (ltb-false _ _ g), rw (e, f, g))
-      go true true true e f g = absurd (served-not-idle e (ltb-true _ _ g) (rw (e, f, g)) h)
+          → (soundOf d ≡ true) × OfItsLength f d × NoneHeld d × (turnOf f d .desk ≡ d)
+      go false b x e l g = absurd (refused-no (rw e) h)
+      go true false x e l g = absurd (refused-no (rw (e, l)) h)
+      go true true false e l g = (e, lengths-same f d l, next-nobody d (sound-last d e) (ltb-false _ _ g), rw (e, l, g))
+      go true true true e l g = absurd (served-not-idle e (ltb-true _ _ g) (rw (e, l, g)) h)
 
-  turn-back : HandsBack d (turnOf t d)
+  turn-back : HandsBack d (turnOf f d)
   unfolding turnOf nextOf
-  turn-back n h = go (soundOf d) (eqb (length t) (d .«timetable_length»)) (ltb (firstFrom d true (d .«last_served» + 1)) (d .«last_served» + 1 + seatCount)) refl refl refl
+  turn-back n h = go (soundOf d) (haveLengths f d) (ltb (firstFrom d true (d .«last_served» + 1)) (d .«last_served» + 1 + seatCount)) refl refl refl
     where
-      go : (a b x : Bool) → soundOf d ≡ a → eqb (length t) (d .«timetable_length») ≡ b
-          → ltb (firstFrom d true (d .«last_served» + 1)) (d .«last_served» + 1 + seatCount) ≡ x → turnOf t d .desk ≡ d
-      go false b x e f g = rw e
-      go true false x e f g = rw (e, f)
-      go true true false e f g = rw (e, f, g)
-      go true true true e f g = absurd (given-no (rw (e, f, g)) h)
+      go : (a b x : Bool) → soundOf d ≡ a → haveLengths f d ≡ b
+          → ltb (firstFrom d true (d .«last_served» + 1)) (d .«last_served» + 1 + seatCount) ≡ x → turnOf f d .desk ≡ d
+      go false b x e l g = rw e
+      go true false x e l g = rw (e, l)
+      go true true false e l g = rw (e, l, g)
+      go true true true e l g = absurd (given-no (rw (e, l, g)) h)
 
-  pub turn-in-words : TurnInWords t d
+  pub turn-in-words : TurnInWords f d
   unfolding turnOf nextOf
   turn-in-words =
       record {
         unsound = record { only = turn-unsound; always = λ e. rw e };
-        otherLength = record { only = turn-length; always = λ w. rw (w .0, ne-eqb _ _ (w .1)) };
+        otherLength = record { only = turn-length; always = λ w. rw (w .0, other-lengths f d (w .1)) };
         nobody = record {
           only = λ h. (let w = turn-nobody h in (w .0, w .1, w .2));
           always = λ w.
               let last = sound-last d (w .0) in
               let l : d .«last_served» + 1 + seatCount ≤ firstFrom d true (d .«last_served» + 1) = omega (arith, nobody-next d last (w .2)) in
-              rw (w .0, eq-eqb _ _ (w .1), le-ltb _ _ l);
+              rw (w .0, same-lengths f d (w .1), le-ltb _ _ l);
         };
         stays = λ h. turn-nobody h .3;
         serves = λ n s e w.
             let a = w .within in
-            let f = next-is d (sound-last d s) n w in
+            let q = next-is d (sound-last d s) n w in
             let l : d .«last_served» + n < d .«last_served» + 1 + seatCount = omega arith in
-            rw (s, eq-eqb _ _ e, f, lt-ltb _ _ l);
+            rw (s, same-lengths f d e, q, lt-ltb _ _ l);
       }
 
 -- ---- a refused call hands the desk back as it came
@@ -363,7 +365,7 @@ fresh-back long n h = go (leb long maxTimetable) refl
 pub refused-alters-nothing : RefusedAltersNothing
 refused-alters-nothing =
     record {
-      byOpen = λ c d. open-back c d (opens c d);
+      byOpen = λ r d. open-back r d (opens r d);
       byClose = close-back;
       byTurn = turn-back;
       byFresh = fresh-back;

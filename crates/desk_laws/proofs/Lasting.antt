@@ -2,16 +2,18 @@
 -- another query's opening, closing and answers alter no seat of this one.
 use mathlib.Core.Path.{_≡_, refl, sym, ap, _∙_}
 use mathlib.Core.Bool.{true, false, true≢false}
-use mathlib.Core.List.{List}
 use mathlib.Core.Logic.{⊎-elim, inl, inr}
 use Prim.Native.Nat.{ℕ, _+_, _%_, _<_}
 use native.Mathlib.Decide.{ℕ-discrete}
 use native.Mathlib.Omega.{arith}
 use lib.ListN.{length}
 use Rattle.basis.specs.Answer.{Answer, gives, refuses}
+use Rattle.seat.specs.Files.{Files}
+use Rattle.seat.specs.Request.{Request}
 use Rattle.seat.specs.Answers.{Turned, ticketOf}
 use Rattle.seat.specs.Seat.{freeSeat, seatFor}
 use Rattle.seat.specs.Serving.{serveOf}
+use Rattle.seat.proofs.Serving.{served-answer}
 use Rattle.desk.specs.Bounds.{seatCount}
 use Rattle.desk.specs.Answers.{After}
 use Rattle.desk.specs.Seats.{seatAt, firstFrom, placeOf}
@@ -19,40 +21,40 @@ use Rattle.desk.specs.Soundness.{soundOf}
 use Rattle.desk.specs.Desk.{openOf, closeOf, turnOf}
 use Rattle.desk.specs.declared.Desk.{Desk}
 use Rattle.desk_laws.proofs.Sound.{Sound, sound-in, sound-out, place-found, replaced, at-other}
-use Rattle.desk_laws.proofs.Steps.{open-cases, was-free, opened-sound, close-cases, closed-sound, Turns, turn-cases, turned-sound, turn-refused, served-answer}
+use Rattle.desk_laws.proofs.Steps.{open-cases, was-free, opened-sound, close-cases, closed-sound, Turns, turn-cases, turned-sound, turn-refused}
 
 module _ (d : Desk) (o : Sound d) where
-  pub open-lasts : (c : List ℕ) → Sound (openOf c d .desk)
-  open-lasts c = ⊎-elim (λ n. rw (n .1) o) (λ w. rw (w .is) (opened-sound c d o w)) (open-cases c d)
+  pub open-lasts : (r : Request) → Sound (openOf r d .desk)
+  open-lasts r = ⊎-elim (λ n. rw (n .1) o) (λ w. rw (w .is) (opened-sound r d o w)) (open-cases r d)
 
   pub close-lasts : (k : ℕ) → Sound (closeOf k d .desk)
   close-lasts k = ⊎-elim (λ n. rw n o) (λ w. rw (w .1) (closed-sound d o (placeOf d k) (w .0))) (close-cases k d)
 
-  pub turn-lasts : (t : List ℕ) → Sound (turnOf t d .desk)
-  turn-lasts t =
-      ⊎-elim (λ e. ⊎-elim (λ n. rw n o) (λ w. turned-sound t d o e w) (turn-cases t d o e)) (λ n. rw (n .1) o) (turn-refused t d)
+  pub turn-lasts : (f : Files) → Sound (turnOf f d .desk)
+  turn-lasts f =
+      ⊎-elim (λ e. ⊎-elim (λ n. rw n o) (λ w. turned-sound f d o e w) (turn-cases f d o e)) (λ n. rw (n .1) o) (turn-refused f d)
 
 -- ---- a sound desk of 16 seats is handed back as a sound desk of 16 seats
 module _ (d : Desk) (z : length (d .seats) ≡ seatCount) (h : soundOf d ≡ true) where
-  pub open-keeps-sound : (c : List ℕ) → soundOf (openOf c d .desk) ≡ true
-  open-keeps-sound c = sound-out (openOf c d .desk) (open-lasts d (sound-in d z h) c)
+  pub open-keeps-sound : (r : Request) → soundOf (openOf r d .desk) ≡ true
+  open-keeps-sound r = sound-out (openOf r d .desk) (open-lasts d (sound-in d z h) r)
 
   pub close-keeps-sound : (k : ℕ) → soundOf (closeOf k d .desk) ≡ true
   close-keeps-sound k = sound-out (closeOf k d .desk) (close-lasts d (sound-in d z h) k)
 
-  pub turn-keeps-sound : (t : List ℕ) → soundOf (turnOf t d .desk) ≡ true
-  turn-keeps-sound t = sound-out (turnOf t d .desk) (turn-lasts d (sound-in d z h) t)
+  pub turn-keeps-sound : (f : Files) → soundOf (turnOf f d .desk) ≡ true
+  turn-keeps-sound f = sound-out (turnOf f d .desk) (turn-lasts d (sound-in d z h) f)
 
 -- ---- another query's seat
 module _ (d : Desk) (o : Sound d) (i : ℕ) (li : i < seatCount) (held : seatAt d i .held ≡ true) where
-  pub open-alters-no-held : (c : List ℕ) → seatAt (openOf c d .desk) i ≡ seatAt d i
-  open-alters-no-held c =
+  pub open-alters-no-held : (r : Request) → seatAt (openOf r d .desk) i ≡ seatAt d i
+  open-alters-no-held r =
       ⊎-elim (λ n. rw (n .1))
       (λ w.
       let p = firstFrom d false 0 in
-      let ne : i ≡ p → ⊥ = λ q. true≢false (sym held ∙ rw q (was-free c d o w)) in
-      rw (w .is) (at-other d o p (w .free) (seatFor (d .issued + 1) c) (d .«last_served») (d .issued + 1) i ne))
-      (open-cases c d)
+      let ne : i ≡ p → ⊥ = λ q. true≢false (sym held ∙ rw q (was-free r d o w)) in
+      rw (w .is) (at-other d o p (w .free) (seatFor (d .issued + 1) r) (d .«last_served») (d .issued + 1) i ne))
+      (open-cases r d)
 
   pub close-alters-no-other : (k : ℕ) → (seatAt d i .ticket ≡ k → ⊥) → seatAt (closeOf k d .desk) i ≡ seatAt d i
   close-alters-no-other k nk =
@@ -63,18 +65,18 @@ module _ (d : Desk) (o : Sound d) (i : ℕ) (li : i < seatCount) (held : seatAt 
       rw (w .1) (at-other d o p (w .0) freeSeat (d .«last_served») (d .issued) i ne))
       (close-cases k d)
 
-  pub turn-alters-no-other : (t : List ℕ) (a : Turned) → turnOf t d .answer ≡ gives a → (ticketOf a ≡ seatAt d i .ticket → ⊥)
-      → seatAt (turnOf t d .desk) i ≡ seatAt d i
-  turn-alters-no-other t a says na =
+  pub turn-alters-no-other : (f : Files) (a : Turned) → turnOf f d .answer ≡ gives a → (ticketOf a ≡ seatAt d i .ticket → ⊥)
+      → seatAt (turnOf f d .desk) i ≡ seatAt d i
+  turn-alters-no-other f a says na =
       ⊎-elim
       (λ e.
       ⊎-elim (λ n. rw n)
       (λ w.
       let p = firstFrom d true (d .«last_served» + 1) % seatCount in
-      let f : gives (serveOf t (seatAt d p) .answer) ≡ gives a = sym (ap (λ (x : After Turned). x .answer) (w .is)) ∙ says in
-      let q : serveOf t (seatAt d p) .answer ≡ a = cc in
-      let ne : i ≡ p → ⊥ = λ r. na (rw (← q) (served-answer t (seatAt d p) ∙ ap (λ (x : ℕ). seatAt d x .ticket) (sym r))) in
-      rw (w .is) (at-other d o p (omega arith) (serveOf t (seatAt d p) .seat) p (d .issued) i ne))
-      (turn-cases t d o e))
+      let g : gives (serveOf f (seatAt d p) .answer) ≡ gives a = sym (ap (λ (x : After Turned). x .answer) (w .is)) ∙ says in
+      let q : serveOf f (seatAt d p) .answer ≡ a = cc in
+      let ne : i ≡ p → ⊥ = λ r. na (rw (← q) (served-answer f (seatAt d p) ∙ ap (λ (x : ℕ). seatAt d x .ticket) (sym r))) in
+      rw (w .is) (at-other d o p (omega arith) (serveOf f (seatAt d p) .seat) p (d .issued) i ne))
+      (turn-cases f d o e))
       (λ n. rw (n .1))
-      (turn-refused t d)
+      (turn-refused f d)

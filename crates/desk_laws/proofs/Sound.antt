@@ -6,18 +6,18 @@ use mathlib.Core.Logic.{⊎-elim, _⊎_, inl, inr}
 use Prim.Native.Nat.{ℕ, _+_, _≤_, _<_}
 use native.Mathlib.Decide.{ℕ-discrete}
 use native.Mathlib.Omega.{arith}
-use borrow.Author.Tests.{lt-ltb, le-leb, eq-eqb, leb-true, eqb-true}
+use borrow.Author.Tests.{lt-ltb, le-leb, eq-eqb, leb-true, ltb-true, eqb-true}
 use lib.Dec.{eqb}
 use lib.ListN.{length, getD, set, length-set}
 use lib.Seq.{getD-set-same, getD-set-other}
 use Rattle.basis.specs.Choice.{pick, both, every}
 use Rattle.basis.proofs.Tests.{both-left, both-right}
-use Rattle.timetable.specs.Lines.{nextLine}
 use Rattle.timetable.proofs.Offsets.{next-within, next-further}
+use Rattle.seat.specs.Files.{Files}
 use Rattle.seat.specs.Bounds.{maxTimetable}
 use Rattle.seat.specs.Query.{Result, hit, miss, unreadable}
 use Rattle.seat.specs.Soundness.{seatSound}
-use Rattle.seat.specs.Serving.{judgedAs}
+use Rattle.seat.specs.Serving.{hasLine, afterLine, judgedAs}
 use Rattle.seat.specs.declared.Seat.{Seat}
 use Rattle.seat.proofs.Soundness.{every-at}
 use Rattle.desk.specs.Bounds.{seatCount}
@@ -145,20 +145,21 @@ module _ (d : Desk) (o : Sound d) (i : ℕ) (li : i < seatCount) (s : Seat) (las
           }
 
 -- ---- a seat that is served stays sound
-pub judged-sound : (t : List ℕ) (k : ℕ) (s : Seat) (v : Result) → s .offset < length t → seatSound k (length t) s ≡ true
-    → seatSound k (length t) (judgedAs (nextLine t (s .offset)) s v .seat) ≡ true
+pub judged-sound : (f : Files) (k : ℕ) (s : Seat) (v : Result) → hasLine f s ≡ true → seatSound k (length (f .timetable)) s ≡ true
+    → seatSound k (length (f .timetable)) (judgedAs (afterLine f s) s v .seat) ≡ true
 unfolding seatSound both
-judged-sound t k s v l h =
+judged-sound f k s v l h =
     let a = every-at _ 0 h in
     let b = every-at _ 1 h in
     let r = every-at _ 2 h in
     let g = every-at _ 3 h in
     let c : s .hits + s .unreadable ≤ s .offset = leb-true _ _ (every-at _ 5 h) in
-    let w = next-within t (s .offset) (omega arith) in
-    let f = next-further t (s .offset) l in
+    let on : s .offset < length (f .timetable) = ltb-true _ _ l in
+    let w = next-within (f .timetable) (s .offset) (omega arith) in
+    let further = next-further (f .timetable) (s .offset) on in
     unfold every in
     elim v [
-      | hit ↦ (let m : s .hits + 1 + s .unreadable ≤ nextLine t (s .offset) = omega arith in simp (a, b, r, g, le-leb _ _ w, le-leb _ _ m))
-      | miss ↦ (let m : s .hits + s .unreadable ≤ nextLine t (s .offset) = omega arith in simp (a, b, r, g, le-leb _ _ w, le-leb _ _ m))
-      | unreadable x ↦ (let m : s .hits + (s .unreadable + 1) ≤ nextLine t (s .offset) = omega arith in simp (a, b, r, g, le-leb _ _ w, le-leb _ _ m))
+      | hit ↦ (let m : s .hits + 1 + s .unreadable ≤ afterLine f s = omega arith in simp (a, b, r, g, le-leb _ _ w, le-leb _ _ m))
+      | miss ↦ (let m : s .hits + s .unreadable ≤ afterLine f s = omega arith in simp (a, b, r, g, le-leb _ _ w, le-leb _ _ m))
+      | unreadable x ↦ (let m : s .hits + (s .unreadable + 1) ≤ afterLine f s = omega arith in simp (a, b, r, g, le-leb _ _ w, le-leb _ _ m))
     ]

@@ -4,11 +4,12 @@
 -- `close-in-words`, `turn-in-words` and `refused-alters-nothing` (proofs/InWords.antt).
 use mathlib.Core.Path.{_≡_}
 use mathlib.Core.Bool.{true, false}
-use mathlib.Core.List.{List}
 use Prim.Native.Nat.{ℕ, _+_, _%_, _≤_, _<_}
 use lib.ListN.{length}
 use Rattle.basis.specs.Answer.{gives, refuses}
 use Rattle.value.specs.Refusals.{noSeat, wrongTimetable, notSound, noTicket, noMoreTickets}
+use Rattle.seat.specs.Files.{Files}
+use Rattle.seat.specs.Request.{Request}
 use Rattle.seat.specs.Bounds.{maxTimetable}
 use Rattle.seat.specs.Query.{accepted, checkOf}
 use Rattle.seat.specs.Answers.{idle}
@@ -75,19 +76,19 @@ pub record FreshInWords (long : ℕ) : Type 0 where
   pub made : long ≤ maxTimetable → freshOf long ≡ record { desk = freshDesk long; answer = gives tt }
 
 -- ---- open
-pub record OpenInWords (c : List ℕ) (d : Desk) : Type 0 where
+pub record OpenInWords (r : Request) (d : Desk) : Type 0 where
   -- 12: "desk not sound"
-  pub unsound : Exactly (openOf c d .answer ≡ refuses notSound) (soundOf d ≡ false)
+  pub unsound : Exactly (openOf r d .answer ≡ refuses notSound) (soundOf d ≡ false)
   -- 7, 8, 9, or a literal's own number: that of the condition's checks, where the desk is sound
-  pub own : (n : ℕ) → checkOf c ≡ refuses n → Exactly (openOf c d .answer ≡ refuses n) (soundOf d ≡ true)
+  pub own : (n : ℕ) → checkOf (r .condition) ≡ refuses n → Exactly (openOf r d .answer ≡ refuses n) (soundOf d ≡ true)
   -- 10: "all seats held", where the desk is sound and the condition accepted
-  pub full : Exactly (openOf c d .answer ≡ refuses noSeat) ((soundOf d ≡ true) × (accepted c ≡ true) × AllHeld d)
+  pub full : Exactly (openOf r d .answer ≡ refuses noSeat) ((soundOf d ≡ true) × (accepted (r .condition) ≡ true) × AllHeld d)
   -- 14: "ticket 4,294,967,295 was already issued", where besides a seat is free
-  pub spent : Exactly (openOf c d .answer ≡ refuses noMoreTickets)
-      ((soundOf d ≡ true) × (accepted c ≡ true) × SomeFree d × (lastTicket ≤ d .issued))
+  pub spent : Exactly (openOf r d .answer ≡ refuses noMoreTickets)
+      ((soundOf d ≡ true) × (accepted (r .condition) ≡ true) × SomeFree d × (lastTicket ≤ d .issued))
   -- else the lowest free seat is taken, with the next ticket
-  pub takes : (i : ℕ) → soundOf d ≡ true → accepted c ≡ true → LowestFree d i → d .issued < lastTicket
-      → openOf c d ≡ record { desk = seated c d i; answer = gives (d .issued + 1) }
+  pub takes : (i : ℕ) → soundOf d ≡ true → accepted (r .condition) ≡ true → LowestFree d i → d .issued < lastTicket
+      → openOf r d ≡ record { desk = seated r d i; answer = gives (d .issued + 1) }
 
 -- ---- close
 pub record CloseInWords (ticket : ℕ) (d : Desk) : Type 0 where
@@ -99,19 +100,24 @@ pub record CloseInWords (ticket : ℕ) (d : Desk) : Type 0 where
   pub frees : (i : ℕ) → soundOf d ≡ true → SeatOf d ticket i → closeOf ticket d ≡ record { desk = freed d i; answer = gives tt }
 
 -- ---- turn
-pub record TurnInWords (t : List ℕ) (d : Desk) : Type 0 where
+
+-- a timetable "of the desk's length"
+abbrev pub OfItsLength : Files → Desk → Type 0
+OfItsLength f d = length (f .timetable) ≡ d .«timetable_length»
+
+pub record TurnInWords (f : Files) (d : Desk) : Type 0 where
   -- 12: "desk not sound"
-  pub unsound : Exactly (turnOf t d .answer ≡ refuses notSound) (soundOf d ≡ false)
+  pub unsound : Exactly (turnOf f d .answer ≡ refuses notSound) (soundOf d ≡ false)
   -- 11: timetable "not of the desk's length", where the desk is sound
-  pub otherLength : Exactly (turnOf t d .answer ≡ refuses wrongTimetable)
-      ((soundOf d ≡ true) × (length t ≡ d .«timetable_length» → ⊥))
+  pub otherLength : Exactly (turnOf f d .answer ≡ refuses wrongTimetable)
+      ((soundOf d ≡ true) × (OfItsLength f d → ⊥))
   -- "With none held it is Idle and nothing alters"
-  pub nobody : Exactly (turnOf t d .answer ≡ gives idle)
-      ((soundOf d ≡ true) × (length t ≡ d .«timetable_length») × NoneHeld d)
-  pub stays : turnOf t d .answer ≡ gives idle → turnOf t d .desk ≡ d
+  pub nobody : Exactly (turnOf f d .answer ≡ gives idle)
+      ((soundOf d ≡ true) × OfItsLength f d × NoneHeld d)
+  pub stays : turnOf f d .answer ≡ gives idle → turnOf f d .desk ≡ d
   -- else the first held seat after the last served is served, and becomes last served
-  pub serves : (n : ℕ) → soundOf d ≡ true → length t ≡ d .«timetable_length» → NextHeld d n
-      → turnOf t d ≡ afterStep d (onFrom d n) (serveOf t (seatAt d (onFrom d n)))
+  pub serves : (n : ℕ) → soundOf d ≡ true → OfItsLength f d → NextHeld d n
+      → turnOf f d ≡ afterStep d (onFrom d n) (serveOf f (seatAt d (onFrom d n)))
 
 -- ---- "A refusal answers its number and no value; .. the desk comes back equal, and a refused fresh desk is no desk."
 
@@ -120,8 +126,8 @@ abbrev pub HandsBack : {A : Type 0} → Desk → After A → Type 0
 HandsBack d r = (n : ℕ) → r .answer ≡ refuses n → r .desk ≡ d
 
 pub record RefusedAltersNothing : Type 0 where
-  pub byOpen : (c : List ℕ) (d : Desk) → HandsBack d (openOf c d)
+  pub byOpen : (r : Request) (d : Desk) → HandsBack d (openOf r d)
   pub byClose : (ticket : ℕ) (d : Desk) → HandsBack d (closeOf ticket d)
-  pub byTurn : (t : List ℕ) (d : Desk) → HandsBack d (turnOf t d)
+  pub byTurn : (f : Files) (d : Desk) → HandsBack d (turnOf f d)
   pub byFresh : (long : ℕ) → HandsBack noDesk (freshOf long)
   pub unsound : soundOf noDesk ≡ false
