@@ -9,6 +9,7 @@ use lib.Dec.{eqb}
 use lib.ListN.{replicate}
 use Rattle.basis.specs.Choice.{pick}
 use Rattle.basis.specs.Answer.{Answer, gives, refuses}
+use Rattle.seat.specs.Files.{Files}
 use Rattle.seat.specs.Answers.{Turned, ticketOf}
 use Rattle.desk.specs.Desk.{openOf, closeOf, turnOf}
 use Rattle.desk.specs.declared.Desk.{Desk}
@@ -25,15 +26,15 @@ mine-append k (gives a) xs ys = go (eqb (ticketOf a) k)
     go true = refl
     go false = refl
 
-pub answers-append : (k : ℕ) (t : List ℕ) (d : Desk) (es fs : List Event)
-    → answersOf k t d (es ++ fs) ≡ answersOf k t d es ++ answersOf k t (afterAll t d es) fs
+pub answers-append : (k : ℕ) (f : Files) (d : Desk) (es fs : List Event)
+    → answersOf k f d (es ++ fs) ≡ answersOf k f d es ++ answersOf k f (afterAll f d es) fs
 unfolding answersOf afterAll
-answers-append k t d [] fs = refl
-answers-append k t d (opens c ∷ es) fs = answers-append k t (openOf c d .desk) es fs
-answers-append k t d (closes j ∷ es) fs = answers-append k t (closeOf j d .desk) es fs
-answers-append k t d (turns ∷ es) fs =
-    ap (mine k (turnOf t d .answer)) (answers-append k t (turnOf t d .desk) es fs)
-    ∙ mine-append k (turnOf t d .answer) (answersOf k t (turnOf t d .desk) es) (answersOf k t (afterAll t (turnOf t d .desk) es) fs)
+answers-append k f d [] fs = refl
+answers-append k f d (opens c ∷ es) fs = answers-append k f (openOf c d .desk) es fs
+answers-append k f d (closes j ∷ es) fs = answers-append k f (closeOf j d .desk) es fs
+answers-append k f d (turns ∷ es) fs =
+    ap (mine k (turnOf f d .answer)) (answers-append k f (turnOf f d .desk) es fs)
+    ∙ mine-append k (turnOf f d .answer) (answersOf k f (turnOf f d .desk) es) (answersOf k f (afterAll f (turnOf f d .desk) es) fs)
 
 unclosed-append : (k : ℕ) (es fs : List Event) → Unclosed k es → Unclosed k fs → Unclosed k (es ++ fs)
 unfolding Unclosed
@@ -50,14 +51,14 @@ count-append (closes j ∷ es) fs = count-append es fs
 count-append (turns ∷ es) fs = omega (arith, count-append es fs)
 
 pub demand3-any-time : Demand3AnyTime
-demand3-any-time t c d k es q u =
-    let m = turns-count (turnsFor t) in
-    let g = count-append es (replicate (turnsFor t) turns) in (
-      answersOf k t (afterAll t (openOf c d .desk) es) (replicate (turnsFor t) turns),
-      sym (answers-append k t (openOf c d .desk) es (replicate (turnsFor t) turns))
-          ∙ demand3-lines t c d k (es ++ replicate (turnsFor t) turns) q
+demand3-any-time f c d k es q u =
+    let m = turns-count (turnsFor f) in
+    let g = count-append es (replicate (turnsFor f) turns) in (
+      answersOf k f (afterAll f (openOf c d .desk) es) (replicate (turnsFor f) turns),
+      sym (answers-append k f (openOf c d .desk) es (replicate (turnsFor f) turns))
+          ∙ demand3-lines f c d k (es ++ replicate (turnsFor f) turns) q
           (record {
-            unclosed = unclosed-append k es (replicate (turnsFor t) turns) u (only-turns k (turnsFor t));
+            unclosed = unclosed-append k es (replicate (turnsFor f) turns) u (only-turns k (turnsFor f));
             taken = omega arith;
           }),
     )

@@ -2,29 +2,23 @@
 -- in nothing but the ticket.
 use mathlib.Core.Path.{_≡_, refl, sym, ap, _∙_}
 use mathlib.Core.Bool.{Bool, true, false}
-use mathlib.Core.List.{List, [], _∷_, map}
-use Prim.Native.Nat.{ℕ, zero, suc, _+_, _≤_}
+use mathlib.Core.List.{map}
+use Prim.Native.Nat.{ℕ, zero, suc, _≤_}
 use native.Mathlib.Omega.{arith}
-use borrow.Author.Tests.{le-leb}
-use lib.Dec.{ltb, leb}
-use lib.ListN.{length, replicate}
+use lib.ListN.{replicate}
 use Rattle.basis.specs.Choice.{pick}
-use Rattle.timetable.specs.Lines.{lineCount, nextLine}
-use Rattle.seat.specs.Bounds.{maxTimetable}
-use Rattle.seat.specs.Query.{accepted, Result, hit, miss, unreadable}
-use Rattle.seat.specs.Answers.{Turned, doneWith}
+use Rattle.seat.specs.Files.{Files}
+use Rattle.seat.specs.Query.{Result, hit, miss, unreadable}
+use Rattle.seat.specs.Answers.{doneWith}
 use Rattle.seat.specs.Seat.{freeSeat, seatFor}
-use Rattle.seat.specs.Serving.{Step, judgedAs, resultOf, serveOf}
+use Rattle.seat.specs.Serving.{Step, hasLine, afterLine, resultOf, judgedAs, serveOf}
+use Rattle.seat.specs.TurnsLeft.{turnsAsked}
 use Rattle.seat.specs.declared.Seat.{Seat}
-use Rattle.seat.proofs.Conditions.{accepted-checked}
-use Rattle.desk.specs.Soundness.{soundOf}
-use Rattle.desk.specs.Desk.{freshDesk, freshOf, openOf}
-use Rattle.desk.specs.declared.Desk.{Desk}
-use Rattle.desk_laws.proofs.NewDesk.{fresh-sound, fresh-free}
-use Rattle.desk_laws.proofs.Steps.{Seated}
-use Rattle.fairness.specs.Runs.{Event, turns, answersOf, turnCount, Unclosed}
-use Rattle.fairness.specs.Demand3.{Query, Run, turnsFor, gets, alone, ticketAside, Demand3}
-use Rattle.fairness.proofs.Fair.{serves, seated-by, before-sound, accepted-gets}
+use Rattle.desk.specs.Desk.{freshFor}
+use Rattle.desk_laws.proofs.NewDesk.{new-for, new-accepts}
+use Rattle.fairness.specs.Runs.{turns, turnCount, Unclosed}
+use Rattle.fairness.specs.Demand3.{Query, Run, turnsFor, ticketAside, Demand3}
+use Rattle.fairness.proofs.Fair.{serves, seated-by, before-sound, query-gets}
 
 -- ---- the ticket of a seat aside
 strip : Seat → Seat
@@ -39,60 +33,46 @@ strip s =
       condition = s .condition;
     }
 
-outcome : List ℕ → Seat → Bool → Result → Step
-outcome t s b v =
-    pick b (judgedAs (nextLine t (s .offset)) s v) (record { seat = freeSeat; answer = doneWith (s .ticket) (s .hits) (s .unreadable) })
+outcome : Files → Seat → Bool → Result → Step
+outcome f s b v =
+    pick b (judgedAs (afterLine f s) s v) (record { seat = freeSeat; answer = doneWith (s .ticket) (s .hits) (s .unreadable) })
 
-module _ (t : List ℕ) where
-  outcome-seat : (s : Seat) (b : Bool) (v : Result) → strip (outcome t s b v .seat) ≡ strip (outcome t (strip s) b v .seat)
+module _ (f : Files) where
+  outcome-seat : (s : Seat) (b : Bool) (v : Result) → strip (outcome f s b v .seat) ≡ strip (outcome f (strip s) b v .seat)
   unfolding strip outcome
   outcome-seat s true hit = refl
   outcome-seat s true miss = refl
   outcome-seat s true (unreadable n) = refl
   outcome-seat s false v = refl
 
-  outcome-answer : (s : Seat) (b : Bool) (v : Result) → ticketAside (outcome t s b v .answer) ≡ ticketAside (outcome t (strip s) b v .answer)
+  outcome-answer : (s : Seat) (b : Bool) (v : Result) → ticketAside (outcome f s b v .answer) ≡ ticketAside (outcome f (strip s) b v .answer)
   unfolding strip outcome
   outcome-answer s true hit = refl
   outcome-answer s true miss = refl
   outcome-answer s true (unreadable n) = refl
   outcome-answer s false v = refl
 
-  strip-seat : (s : Seat) → strip (serveOf t s .seat) ≡ strip (serveOf t (strip s) .seat)
+  strip-seat : (s : Seat) → strip (serveOf f s .seat) ≡ strip (serveOf f (strip s) .seat)
   unfolding serveOf strip outcome
-  strip-seat s = outcome-seat s (ltb (s .offset) (length t)) (resultOf t s)
+  strip-seat s = outcome-seat s (hasLine f s) (resultOf f s)
 
-  strip-answer : (s : Seat) → ticketAside (serveOf t s .answer) ≡ ticketAside (serveOf t (strip s) .answer)
+  strip-answer : (s : Seat) → ticketAside (serveOf f s .answer) ≡ ticketAside (serveOf f (strip s) .answer)
   unfolding serveOf strip outcome
-  strip-answer s = outcome-answer s (ltb (s .offset) (length t)) (resultOf t s)
+  strip-answer s = outcome-answer s (hasLine f s) (resultOf f s)
 
-  same-aside : (n : ℕ) (s s′ : Seat) → strip s ≡ strip s′ → map ticketAside (serves n t s) ≡ map ticketAside (serves n t s′)
+  same-aside : (n : ℕ) (s s′ : Seat) → strip s ≡ strip s′ → map ticketAside (serves n f s) ≡ map ticketAside (serves n f s′)
   unfolding serves
   same-aside zero s s′ e = refl
   same-aside (suc n) s s′ e =
-      let a : ticketAside (serveOf t s .answer) ≡ ticketAside (serveOf t s′ .answer) =
-      strip-answer s ∙ ap (λ (x : Seat). ticketAside (serveOf t x .answer)) e ∙ sym (strip-answer s′)
+      let a : ticketAside (serveOf f s .answer) ≡ ticketAside (serveOf f s′ .answer) =
+      strip-answer s ∙ ap (λ (x : Seat). ticketAside (serveOf f x .answer)) e ∙ sym (strip-answer s′)
       in
-      let b : strip (serveOf t s .seat) ≡ strip (serveOf t s′ .seat) =
-      strip-seat s ∙ ap (λ (x : Seat). strip (serveOf t x .seat)) e ∙ sym (strip-seat s′)
+      let b : strip (serveOf f s .seat) ≡ strip (serveOf f s′ .seat) =
+      strip-seat s ∙ ap (λ (x : Seat). strip (serveOf f x .seat)) e ∙ sym (strip-seat s′)
       in
-      rw (a, same-aside n (serveOf t s .seat) (serveOf t s′ .seat) b)
+      rw (a, same-aside n (serveOf f s .seat) (serveOf f s′ .seat) b)
 
 -- ---- a desk of its own
-fresh-made : (n : ℕ) → n ≤ maxTimetable → freshOf n .desk ≡ freshDesk n
-unfolding freshOf
-fresh-made n l = rw (le-leb n maxTimetable l)
-
-fresh-seated : (n : ℕ) (c : List ℕ) → n ≤ maxTimetable → accepted c ≡ true → Seated c (freshDesk n)
-unfolding openOf
-fresh-seated n c l g =
-    record {
-      sound = fresh-sound n l;
-      good = g;
-      free = rw (fresh-free n) (omega arith);
-      is = rw (fresh-sound n l, accepted-checked c g, fresh-free n);
-    }
-
 pub only-turns : (k n : ℕ) → Unclosed k (replicate n turns)
 unfolding Unclosed
 only-turns k zero = tt
@@ -104,17 +84,11 @@ turns-count zero = refl
 turns-count (suc n) = ap suc (turns-count n)
 
 pub demand3 : Demand3
-demand3 t c d k es q run =
-    let sb = seated-by t c d k q in
-    let w = sb .0 in
-    let kq = sb .1 in
-    let z = q .desk in
-    let e = q .timetable in
-    let m : length t ≤ maxTimetable = omega (arith, before-sound t c d z e w .short) in
-    let mine-are = accepted-gets t c d z e w es (rw kq (run .unclosed)) (run .taken) in
-    let theirs = accepted-gets t c (freshDesk (length t)) refl refl (fresh-seated (length t) c m (w .good)) (replicate (turnsFor t) turns)
-    (only-turns 1 (turnsFor t)) (omega (arith, turns-count (turnsFor t)))
-    in
-    rw (← kq, fresh-made (length t) m)
-    (ap (map ticketAside) mine-are ∙ same-aside t (suc (lineCount t)) (seatFor (d .issued + 1) c) (seatFor 1 c) (unfold strip in refl)
-    ∙ sym (ap (map ticketAside) theirs))
+demand3 f c d k es q run =
+    let w = seated-by f c d k q .0 in
+    let new = new-for f d (before-sound f c d (q .desk) (q .lengths) w) (q .lengths) in
+    let alone : Query f c (freshFor f .desk) 1 = record { desk = new .size; lengths = new .lengths; accepted = new-accepts f c d (freshFor f .desk) new w } in
+    let turned : Run f 1 (replicate (turnsFor f) turns) = record { unclosed = only-turns 1 (turnsFor f); taken = omega (arith, turns-count (turnsFor f)) } in
+    ap (map ticketAside) (query-gets f c d k es q run)
+    ∙ same-aside f (suc (turnsAsked f)) (seatFor k c) (seatFor 1 c) (unfold strip in refl)
+    ∙ sym (ap (map ticketAside) (query-gets f c (freshFor f .desk) 1 (replicate (turnsFor f) turns) alone turned))

@@ -7,6 +7,8 @@ use Prim.Native.Nat.{ℕ, _+_, _≤_, _<_}
 use native.Mathlib.Omega.{arith}
 use lib.ListN.{length}
 use Rattle.basis.specs.Answer.{gives, refuses}
+use Rattle.seat.specs.Files.{Files}
+use Rattle.seat.specs.Request.{Request}
 use Rattle.seat.specs.Answers.{Turned}
 use Rattle.seat.specs.Seat.{freeSeat, seatFor}
 use Rattle.desk.specs.Bounds.{seatCount}
@@ -22,38 +24,38 @@ use Rattle.fairness.specs.Runs.{Event, opens, closes, turns, after, afte
 use Rattle.fairness.specs.Lasting.{SoundLasts, TicketsOnce, Untouched, OthersUntouched}
 
 -- ---- soundness
-sound-after : (t : List ℕ) (d : Desk) (e : Event) → Sound d → Sound (after t d e)
-sound-after t d (opens c) o = open-lasts d o c
-sound-after t d (closes k) o = close-lasts d o k
-sound-after t d turns o = turn-lasts d o t
+sound-after : (f : Files) (d : Desk) (e : Event) → Sound d → Sound (after f d e)
+sound-after f d (opens c) o = open-lasts d o c
+sound-after f d (closes k) o = close-lasts d o k
+sound-after f d turns o = turn-lasts d o f
 
-sound-all : (t : List ℕ) (d : Desk) (es : List Event) → Sound d → Sound (afterAll t d es)
+sound-all : (f : Files) (d : Desk) (es : List Event) → Sound d → Sound (afterAll f d es)
 unfolding afterAll
-sound-all t d [] o = o
-sound-all t d (e ∷ es) o = sound-all t (after t d e) es (sound-after t d e o)
+sound-all f d [] o = o
+sound-all f d (e ∷ es) o = sound-all f (after f d e) es (sound-after f d e o)
 
 pub sound-lasts : SoundLasts
-sound-lasts t d es z h = sound-out (afterAll t d es) (sound-all t d es (sound-in d z h))
+sound-lasts f d es z h = sound-out (afterAll f d es) (sound-all f d es (sound-in d z h))
 
 -- ---- tickets
-open-issued : (c : List ℕ) (d : Desk) → d .issued ≤ openOf c d .desk .issued
+open-issued : (c : Request) (d : Desk) → d .issued ≤ openOf c d .desk .issued
 open-issued c d = ⊎-elim (λ n. rw (n .1) (omega arith)) (λ w. rw (w .is) (omega arith)) (open-cases c d)
 
 close-issued : (k : ℕ) (d : Desk) → d .issued ≤ closeOf k d .desk .issued
 close-issued k d = ⊎-elim (λ n. rw n (omega arith)) (λ w. rw (w .1) (omega arith)) (close-cases k d)
 
-issued-after : (t : List ℕ) (d : Desk) (e : Event) → d .issued ≤ after t d e .issued
-issued-after t d (opens c) = open-issued c d
-issued-after t d (closes k) = close-issued k d
-issued-after t d turns = omega (arith, turn-issued t d)
+issued-after : (f : Files) (d : Desk) (e : Event) → d .issued ≤ after f d e .issued
+issued-after f d (opens c) = open-issued c d
+issued-after f d (closes k) = close-issued k d
+issued-after f d turns = omega (arith, turn-issued f d)
 
-issued-all : (t : List ℕ) (d : Desk) (es : List Event) → d .issued ≤ afterAll t d es .issued
+issued-all : (f : Files) (d : Desk) (es : List Event) → d .issued ≤ afterAll f d es .issued
 unfolding afterAll
-issued-all t d [] = omega arith
-issued-all t d (e ∷ es) = omega (arith, issued-after t d e, issued-all t (after t d e) es)
+issued-all f d [] = omega arith
+issued-all f d (e ∷ es) = omega (arith, issued-after f d e, issued-all f (after f d e) es)
 
 -- a ticket given is the next one, and is then the last issued
-given-next : (c : List ℕ) (d : Desk) (k : ℕ) → openOf c d .answer ≡ gives k → (k ≡ d .issued + 1) × (openOf c d .desk .issued ≡ k)
+given-next : (c : Request) (d : Desk) (k : ℕ) → openOf c d .answer ≡ gives k → (k ≡ d .issued + 1) × (openOf c d .desk .issued ≡ k)
 given-next c d k a =
     ⊎-elim
     (λ n.
@@ -67,10 +69,10 @@ given-next c d k a =
     (open-cases c d)
 
 pub tickets-once : TicketsOnce
-tickets-once t c later d es k j first second =
+tickets-once f c later d es k j first second =
     let a = given-next c d k first in
-    let b = given-next later (afterAll t (openOf c d .desk) es) j second in
-    let m = issued-all t (openOf c d .desk) es in
+    let b = given-next later (afterAll f (openOf c d .desk) es) j second in
+    let m = issued-all f (openOf c d .desk) es in
     omega arith
 
 -- ---- another query's seat

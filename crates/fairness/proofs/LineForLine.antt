@@ -1,70 +1,81 @@
 -- Line for line: the answers of a seat by itself are the results at the lines from its offset on, and Done with its counts
 -- and those of these lines. An accepted query starts at offset 0 with both counts 0.
-use mathlib.Core.Path.{_≡_, refl, sym, ap, _∙_}
+use mathlib.Core.Path.{_≡_, _∙_}
+use mathlib.Core.Bool.{true, false}
 use mathlib.Core.List.{List, [], _∷_, _++_, map}
 use mathlib.Core.Logic.{⊎-elim}
-use Prim.Native.Nat.{ℕ, zero, suc, _+_, _≤_, _<_}
+use Prim.Native.Nat.{ℕ, zero, suc, _+_}
 use native.Mathlib.Nat.{add-zero, zero-add, add-assoc}
 use native.Mathlib.Omega.{arith}
-use lib.ListN.{length, drop}
+use borrow.Author.Tests.{ltb-true, ltb-false}
 use lib.Seq.{take-append-seam}
-use Rattle.timetable.specs.Lines.{Line, lineCount, linesFrom, placedLines, lineAt, nextLine}
-use Rattle.timetable.proofs.Offsets.{line-or-end, line-offset, lines-next, lines-end, count-next, count-end}
-use Rattle.seat.specs.Query.{Result, hit, miss, unreadable, resultAt}
+use Rattle.timetable.specs.Lines.{Line, linesFrom, placedLines, lineAt}
+use Rattle.timetable.proofs.Offsets.{line-offset, lines-next, lines-end}
+use Rattle.seat.specs.Files.{Files}
+use Rattle.seat.specs.Request.{Request}
+use Rattle.seat.specs.Query.{Result, hit, miss, unreadable}
 use Rattle.seat.specs.Answers.{Turned, doneWith}
 use Rattle.seat.specs.Seat.{seatFor, conditionOf}
-use Rattle.seat.specs.Serving.{judgedAs, resultOf, serveOf}
+use Rattle.seat.specs.Serving.{hasLine, afterLine, resultOf, judgedAs}
+use Rattle.seat.specs.TurnsLeft.{turnsAsked, turnsLeft}
 use Rattle.seat.specs.declared.Seat.{Seat}
-use Rattle.seat.proofs.Serving.{serve-line, serve-done}
-use Rattle.desk.specs.declared.Desk.{Desk}
-use Rattle.fairness.specs.Runs.{Event}
-use Rattle.fairness.specs.Demand3.{Query, Run, gets, answerFor, lineAnswers, hitIn, unreadableIn, howMany, expected, Demand3Lines}
-use Rattle.fairness.proofs.Fair.{serves, left, seated-by, accepted-gets}
+use Rattle.seat.proofs.Serving.{line-or-done, serve-line, serve-done}
+use Rattle.seat.proofs.TurnsLeft.{left-start, left-on, left-off}
+use Rattle.fairness.specs.Demand3.{answerFor, lineAnswers, hitIn, unreadableIn, howMany, expected, Demand3Lines}
+use Rattle.fairness.proofs.Fair.{serves, query-gets}
 
 -- the answers at some lines, with h hits and u unreadable lines before them
 abbrev answersOn : ℕ → List ℕ → ℕ → ℕ → List Line → List Turned
 answersOn k c h u ls =
     lineAnswers k c ls ++ (doneWith k (h + howMany hitIn (lineAnswers k c ls)) (u + howMany unreadableIn (lineAnswers k c ls)) ∷ [])
 
--- as for a seat, at the lines from its offset on
-abbrev answersFrom : List ℕ → Seat → List Turned
-answersFrom t s = answersOn (s .ticket) (conditionOf s) (s .hits) (s .unreadable) (linesFrom t (s .offset))
+-- the lines that a seat has before it
+abbrev linesOn : Files → Seat → List Line
+linesOn f s = linesFrom (f .timetable) (s .offset)
 
-module _ (t : List ℕ) where
+-- the answers at those
+abbrev answersFrom : Files → Seat → List Turned
+answersFrom f s = answersOn (s .ticket) (conditionOf s) (s .hits) (s .unreadable) (linesOn f s)
+
+-- ---- the walk over the lines
+module _ (f : Files) (s : Seat) where
+  on-lines : hasLine f s ≡ true → linesOn f s ≡ lineAt (f .timetable) (s .offset) ∷ linesFrom (f .timetable) (afterLine f s)
+  on-lines l = lines-next (f .timetable) (s .offset) (ltb-true _ _ l)
+
+  off-lines : hasLine f s ≡ false → linesOn f s ≡ []
+  off-lines l = lines-end (f .timetable) (s .offset) (ltb-false _ _ l)
+
+module _ (f : Files) where
   -- one line: its answer, then those of the lines after it
   one-line : (n o : ℕ) (s : Seat) (v : Result)
-      → ((s′ : Seat) → s′ .offset ≡ o → serves (suc n) t s′ ≡ answersFrom t s′)
-      → judgedAs o s v .answer ∷ serves (suc n) t (judgedAs o s v .seat)
+      → serves (suc n) f (judgedAs o s v .seat) ≡ answersFrom f (judgedAs o s v .seat)
+      → judgedAs o s v .answer ∷ serves (suc n) f (judgedAs o s v .seat)
       ≡ answerFor (s .ticket) (s .offset) v
-      ∷ (lineAnswers (s .ticket) (conditionOf s) (linesFrom t o)
+      ∷ (lineAnswers (s .ticket) (conditionOf s) (linesFrom (f .timetable) o)
       ++ (doneWith (s .ticket)
-      (s .hits + (hitIn (answerFor (s .ticket) (s .offset) v) + howMany hitIn (lineAnswers (s .ticket) (conditionOf s) (linesFrom t o))))
-      (s .unreadable + (unreadableIn (answerFor (s .ticket) (s .offset) v) + howMany unreadableIn (lineAnswers (s .ticket) (conditionOf s) (linesFrom t o))))
+      (s .hits + (hitIn (answerFor (s .ticket) (s .offset) v) + howMany hitIn (lineAnswers (s .ticket) (conditionOf s) (linesFrom (f .timetable) o))))
+      (s .unreadable + (unreadableIn (answerFor (s .ticket) (s .offset) v) + howMany unreadableIn (lineAnswers (s .ticket) (conditionOf s) (linesFrom (f .timetable) o))))
       ∷ []))
-  one-line n o s hit ih = rw (ih (judgedAs o s hit .seat) refl, add-assoc, zero-add)
-  one-line n o s miss ih = rw (ih (judgedAs o s miss .seat) refl, zero-add, zero-add)
-  one-line n o s (unreadable x) ih = rw (ih (judgedAs o s (unreadable x) .seat) refl, add-assoc, zero-add)
+  one-line n o s hit ih = rw (ih, add-assoc, zero-add)
+  one-line n o s miss ih = rw (ih, zero-add, zero-add)
+  one-line n o s (unreadable x) ih = rw (ih, add-assoc, zero-add)
 
-  lines-from : (n : ℕ) (s : Seat) → left t s ≡ n → serves (suc n) t s ≡ answersFrom t s
+  lines-from : (n : ℕ) (s : Seat) → turnsLeft f s ≡ n → serves (suc n) f s ≡ answersFrom f s
   unfolding serves howMany
   lines-from zero s e =
-      let l : length t ≤ s .offset = ⊎-elim (λ h. absurd (omega (arith, count-next t (s .offset) h))) (λ h. h) (line-or-end t (s .offset)) in
-      rw (serve-done t s l, lines-end t (s .offset) l, add-zero, add-zero)
+      let z : hasLine f s ≡ false = ⊎-elim (λ l. absurd (omega (arith, left-on f s l))) (λ z. z) (line-or-done f s) in
+      rw (serve-done f s z, off-lines f s z, add-zero, add-zero)
   lines-from (suc n) s e =
-      let l : s .offset < length t = ⊎-elim (λ h. h) (λ h. absurd (omega (arith, count-end t (s .offset) h))) (line-or-end t (s .offset)) in
-      let c = count-next t (s .offset) l in
-      rw (serve-line t s l, lines-next t (s .offset) l, line-offset t (s .offset))
-      (one-line n (nextLine t (s .offset)) s (resultOf t s) (λ s′ q. lines-from n s′ (rw q (omega arith))))
+      let l : hasLine f s ≡ true = ⊎-elim (λ l. l) (λ z. absurd (omega (arith, left-off f s z))) (line-or-done f s) in
+      let next : turnsLeft f s ≡ suc (turnsLeft f (judgedAs (afterLine f s) s (resultOf f s) .seat)) = rw (serve-line f s l) at (left-on f s l) in
+      rw (serve-line f s l, on-lines f s l, line-offset (f .timetable) (s .offset))
+      (one-line n (afterLine f s) s (resultOf f s) (lines-from n (judgedAs (afterLine f s) s (resultOf f s) .seat) (omega arith)))
 
-pub expected-serves : (t c : List ℕ) (k : ℕ) → serves (suc (lineCount t)) t (seatFor k c) ≡ expected k t c
+pub expected-serves : (f : Files) (c : Request) (k : ℕ) → serves (suc (turnsAsked f)) f (seatFor k c) ≡ expected k f c
 unfolding placedLines
-expected-serves t c k =
-    let on = lines-from t (lineCount t) (seatFor k c) refl in
+expected-serves f c k =
+    let on = lines-from f (turnsAsked f) (seatFor k c) (left-start f k c) in
     rw (take-append-seam, zero-add, zero-add) at on
 
 pub demand3-lines : Demand3Lines
-demand3-lines t c d k es q run =
-    let sb = seated-by t c d k q in
-    let kq = sb .1 in
-    let are = accepted-gets t c d (q .desk) (q .timetable) (sb .0) es (rw kq (run .unclosed)) (run .taken) in
-    rw (← kq) (are ∙ expected-serves t c (d .issued + 1))
+demand3-lines f c d k es q run = query-gets f c d k es q run ∙ expected-serves f c k

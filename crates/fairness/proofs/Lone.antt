@@ -5,24 +5,26 @@ use mathlib.Core.List.{List, [], _∷_}
 use mathlib.Core.Logic.{⊎-elim}
 use Prim.Native.Nat.{ℕ, zero, suc, _+_, _%_, _≤_, _<_}
 use native.Mathlib.Decide.{ℕ-discrete}
-use native.Mathlib.Nat.{eq-or-lt-of-le}
 use native.Mathlib.Omega.{arith}
 use lib.ListN.{length, take, replicate}
-use Rattle.timetable.specs.Lines.{lineCount}
+use Rattle.seat.specs.Files.{Files}
 use Rattle.seat.specs.Answers.{Turned}
 use Rattle.seat.specs.Seat.{seatFor}
 use Rattle.seat.specs.Serving.{serveOf}
+use Rattle.seat.specs.TurnsLeft.{turnsAsked, turnsLeft}
 use Rattle.seat.specs.declared.Seat.{Seat}
+use Rattle.seat.proofs.Serving.{line-or-done, served-answer}
+use Rattle.seat.proofs.TurnsLeft.{left-start, left-on, left-off}
 use Rattle.desk.specs.Bounds.{seatCount}
 use Rattle.desk.specs.Seats.{seatAt, firstFrom}
 use Rattle.desk.specs.Desk.{openOf, turnOf}
 use Rattle.desk.specs.declared.Desk.{Desk}
 use Rattle.desk_laws.proofs.Sound.{at-other}
-use Rattle.desk_laws.proofs.Steps.{Seated, served-answer}
+use Rattle.desk_laws.proofs.Steps.{Seated}
 use Rattle.fairness.specs.Runs.{Event, turns, mine, answersOf}
 use Rattle.fairness.specs.Demand3.{Query, expected, LoneQuery}
-use Rattle.fairness.proofs.Tracks.{Track, is-mine, within, works, it-track, it-gone, it-answer, it-others}
-use Rattle.fairness.proofs.Fair.{serves, left, left-on, left-off, gone, seated-by, before-sound, some-ticket, taken}
+use Rattle.fairness.proofs.Tracks.{Track, is-mine, works, it-track, it-gone, it-answer, it-others}
+use Rattle.fairness.proofs.Fair.{serves, gone, seated-by, before-sound, some-ticket, taken}
 use Rattle.fairness.proofs.LineForLine.{expected-serves}
 
 -- only place i is held
@@ -33,48 +35,46 @@ take-none : (n : ℕ) → _≡_ {A = List Turned} (take n []) []
 take-none zero = refl
 take-none (suc n) = refl
 
-module _ (t : List ℕ) (k : ℕ) (pos : 1 ≤ k) where
+module _ (f : Files) (k : ℕ) (pos : 1 ≤ k) where
   -- the place found is the query's
-  found : (d : Desk) (i : ℕ) (s : Seat) → Track t k pos d i s → Only d i → firstFrom d true (d .«last_served» + 1) % seatCount ≡ i
+  found : (d : Desk) (i : ℕ) (s : Seat) → Track f k pos d i s → Only d i → firstFrom d true (d .«last_served» + 1) % seatCount ≡ i
   found d i s r only =
       let p = firstFrom d true (d .«last_served» + 1) % seatCount in
-      elim (ℕ-discrete p i) [ yes q ↦ q | no n ↦ absurd (true≢false (sym (works t k pos d i s r .held) ∙ only p (omega arith) n)) ]
+      elim (ℕ-discrete p i) [ yes q ↦ q | no n ↦ absurd (true≢false (sym (works f k pos d i s r .held) ∙ only p (omega arith) n)) ]
 
-  served-each : (n : ℕ) (d : Desk) (i : ℕ) (s : Seat) → Track t k pos d i s → Only d i
-      → answersOf k t d (replicate n turns) ≡ take n (serves (suc (left t s)) t s)
+  served-each : (n : ℕ) (d : Desk) (i : ℕ) (s : Seat) → Track f k pos d i s → Only d i
+      → answersOf k f d (replicate n turns) ≡ take n (serves (suc (turnsLeft f s)) f s)
   unfolding answersOf serves
   served-each zero d i s r only = refl
   served-each (suc n) d i s r only =
       let e = found d i s r only in
-      let mineEq : mine k (turnOf t d .answer) (answersOf k t (turnOf t d .desk) (replicate n turns))
-      ≡ serveOf t s .answer ∷ answersOf k t (turnOf t d .desk) (replicate n turns) =
-      rw (it-answer t k pos d i s r e) (is-mine k (serveOf t s .answer) _ (served-answer t s ∙ r .tick))
+      let mineEq : mine k (turnOf f d .answer) (answersOf k f (turnOf f d .desk) (replicate n turns))
+      ≡ serveOf f s .answer ∷ answersOf k f (turnOf f d .desk) (replicate n turns) =
+      rw (it-answer f k pos d i s r e) (is-mine k (serveOf f s .answer) _ (served-answer f s ∙ r .tick))
       in
       mineEq
-      ∙ ap (λ (x : List Turned). serveOf t s .answer ∷ x)
+      ∙ ap (λ (x : List Turned). serveOf f s .answer ∷ x)
       (⊎-elim
-      (λ z.
-      let f = left-off t s (omega (arith, z)) in
-      gone t k pos (replicate n turns) (turnOf t d .desk) (it-gone t k pos d i s r e (omega (arith, z))) ∙ rw f (sym (take-none n)))
       (λ l.
-      let lf = left-on t s l in
-      served-each n (turnOf t d .desk) i (serveOf t s .seat) (it-track t k pos d i s r e l)
-      (λ j lj ne. rw (it-others t k pos d i s r e j ne) (only j lj ne))
+      let lf = left-on f s l in
+      served-each n (turnOf f d .desk) i (serveOf f s .seat) (it-track f k pos d i s r e l)
+      (λ j lj ne. rw (it-others f k pos d i s r e j ne) (only j lj ne))
       ∙ rw lf)
-      (eq-or-lt-of-le (within t k pos d i s r)))
+      (λ z. gone f k pos (replicate n turns) (turnOf f d .desk) (it-gone f k pos d i s r e z) ∙ rw (left-off f s z) (sym (take-none n)))
+      (line-or-done f s))
 
 pub lone-query : LoneQuery
-lone-query t c d k n q free =
-    let sb = seated-by t c d k q in
+lone-query f c d k n q free =
+    let sb = seated-by f c d k q in
     let w = sb .0 in
     let kq = sb .1 in
     let z = q .desk in
-    let e = q .timetable in
+    let e = q .lengths in
     let p = firstFrom d false 0 in
     let only : Only (openOf c d .desk) (firstFrom d false 0) = λ j lj ne.
     rw (w .is)
-    (rw (at-other d (before-sound t c d z e w) p (w .free) (seatFor (d .issued + 1) c) (d .«last_served») (d .issued + 1) j ne) (free j lj))
+    (rw (at-other d (before-sound f c d z e w) p (w .free) (seatFor (d .issued + 1) c) (d .«last_served») (d .issued + 1) j ne) (free j lj))
     in
     rw (← kq)
-    (served-each t (d .issued + 1) (some-ticket (d .issued)) n (openOf c d .desk) (firstFrom d false 0) (seatFor (d .issued + 1) c) (taken t c d z e w) only
-    ∙ rw (expected-serves t c (d .issued + 1)))
+    (served-each f (d .issued + 1) (some-ticket (d .issued)) n (openOf c d .desk) (firstFrom d false 0) (seatFor (d .issued + 1) c) (taken f c d z e w) only
+    ∙ rw (left-start f (d .issued + 1) c, expected-serves f c (d .issued + 1)))

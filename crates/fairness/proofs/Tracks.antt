@@ -7,21 +7,22 @@ use mathlib.Core.Logic.{⊎-elim, _⊎_, inl, inr}
 use Prim.Native.Nat.{ℕ, suc, _+_, _%_, _≤_, _<_}
 use native.Mathlib.Omega.{arith}
 use borrow.Author.Tests.{eq-eqb, ne-eqb}
-use lib.ListN.{length}
 use Rattle.basis.specs.Answer.{Answer, gives, refuses}
+use Rattle.seat.specs.Files.{Files}
+use Rattle.seat.specs.Request.{Request}
 use Rattle.seat.specs.Answers.{Turned, ticketOf}
 use Rattle.seat.specs.Seat.{freeSeat, seatFor}
-use Rattle.seat.specs.Serving.{serveOf}
+use Rattle.seat.specs.Serving.{hasLine, serveOf}
 use Rattle.seat.specs.declared.Seat.{Seat}
-use Rattle.seat.proofs.Soundness.{servable}
+use Rattle.seat.proofs.Serving.{on-held, on-ticket, off-free, served-ticket, served-answer}
 use Rattle.desk.specs.Bounds.{seatCount}
 use Rattle.desk.specs.Answers.{After}
 use Rattle.desk.specs.Seats.{seatAt, heldIs, firstFrom, placeOf}
-use Rattle.desk.specs.Desk.{openOf, closeOf, turnOf, afterStep}
+use Rattle.desk.specs.Desk.{openOf, closeOf, haveLengths, turnOf, afterStep}
 use Rattle.desk.specs.declared.Desk.{Desk}
 use Rattle.desk.proofs.Scans.{first-le}
 use Rattle.desk_laws.proofs.Sound.{Sound, place-found, replaced, at-same, at-other, which}
-use Rattle.desk_laws.proofs.Steps.{Seated, open-cases, was-free, opened-sound, old-ticket, close-cases, closed-sound, Turns, turns-if, turn-cases, turned-sound, on-held, on-ticket, off-free, served-ticket, served-answer}
+use Rattle.desk_laws.proofs.Steps.{Seated, open-cases, was-free, opened-sound, old-ticket, close-cases, closed-sound, Turns, turns-if, turn-cases, turned-sound}
 use Rattle.fairness.specs.Runs.{mine}
 use Rattle.fairness.proofs.Round.{dist, there, nearer, not-there}
 
@@ -38,11 +39,11 @@ not-mine k (refuses n) others ne = refl
 pub is-mine : (k : ℕ) (a : Turned) (others : List Turned) → ticketOf a ≡ k → mine k (gives a) others ≡ a ∷ others
 is-mine k a others e = rw (eq-eqb _ _ e)
 
-module _ (t : List ℕ) (k : ℕ) (pos : 1 ≤ k) where
+module _ (f : Files) (k : ℕ) (pos : 1 ≤ k) where
   -- ticket k is held, at place i, by the seat s
   pub record Track (d : Desk) (i : ℕ) (s : Seat) : Type 0 where
     pub sound : Sound d
-    pub len : length t ≡ d .«timetable_length»
+    pub lengths : haveLengths f d ≡ true
     pub li : i < seatCount
     pub here : seatAt d i ≡ s
     pub held : s .held ≡ true
@@ -51,12 +52,12 @@ module _ (t : List ℕ) (k : ℕ) (pos : 1 ≤ k) where
   -- ticket k was issued, and is held no more
   pub record Gone (d : Desk) : Type 0 where
     pub sound : Sound d
-    pub len : length t ≡ d .«timetable_length»
+    pub lengths : haveLengths f d ≡ true
     pub old : k ≤ d .issued
     pub none : (i : ℕ) → i < seatCount → seatAt d i .held ≡ true → seatAt d i .ticket ≡ k → ⊥
 
   -- ---- open
-  pub gone-open : (c : List ℕ) (d : Desk) → Gone d → Gone (openOf c d .desk)
+  pub gone-open : (c : Request) (d : Desk) → Gone d → Gone (openOf c d .desk)
   gone-open c d g =
       ⊎-elim (λ n. rw (n .1) g)
       (λ w.
@@ -66,15 +67,15 @@ module _ (t : List ℕ) (k : ℕ) (pos : 1 ≤ k) where
       rw (w .is)
       (record {
         sound = opened-sound c d o w;
-        len = g .len;
+        lengths = g .lengths;
         old = omega arith;
         none = λ i l h e.
-            ⊎-elim (λ q. (let f = rw (q .1) at e in omega arith)) (λ q. g .none i l (rw (q .1) at h) (rw (q .1) at e))
+            ⊎-elim (λ q. (let same = rw (q .1) at e in omega arith)) (λ q. g .none i l (rw (q .1) at h) (rw (q .1) at e))
             (which d o p (w .free) (seatFor (d .issued + 1) c) (d .«last_served») (d .issued + 1) i);
       }))
       (open-cases c d)
 
-  pub track-open : (c : List ℕ) (d : Desk) (i : ℕ) (s : Seat) → Track d i s
+  pub track-open : (c : Request) (d : Desk) (i : ℕ) (s : Seat) → Track d i s
       → Track (openOf c d .desk) i s × (openOf c d .desk .«last_served» ≡ d .«last_served»)
   track-open c d i s r =
       ⊎-elim (λ n. rw (n .1) (r, refl))
@@ -85,7 +86,7 @@ module _ (t : List ℕ) (k : ℕ) (pos : 1 ≤ k) where
       rw (w .is) (
         record {
           sound = opened-sound c d o w;
-          len = r .len;
+          lengths = r .lengths;
           li = r .li;
           here = at-other d o p (w .free) (seatFor (d .issued + 1) c) (d .«last_served») (d .issued + 1) i ne ∙ r .here;
           held = r .held;
@@ -104,7 +105,7 @@ module _ (t : List ℕ) (k : ℕ) (pos : 1 ≤ k) where
       rw (w .1)
       (record {
         sound = closed-sound d o (placeOf d j) (w .0);
-        len = g .len;
+        lengths = g .lengths;
         old = g .old;
         none = λ i l h e.
             ⊎-elim (λ q. true≢false (sym (rw (q .1) at h))) (λ q. g .none i l (rw (q .1) at h) (rw (q .1) at e))
@@ -125,7 +126,7 @@ module _ (t : List ℕ) (k : ℕ) (pos : 1 ≤ k) where
       rw (w .1) (
         record {
           sound = closed-sound d o p (w .0);
-          len = r .len;
+          lengths = r .lengths;
           li = r .li;
           here = at-other d o p (w .0) freeSeat (d .«last_served») (d .issued) i ne ∙ r .here;
           held = r .held;
@@ -136,27 +137,27 @@ module _ (t : List ℕ) (k : ℕ) (pos : 1 ≤ k) where
       (close-cases j d)
 
   -- ---- turn, once it is gone
-  gone-served : (d : Desk) (g : Gone d) (w : Turns t d (g .sound) (g .len)) → Gone (turnOf t d .desk)
+  gone-served : (d : Desk) (g : Gone d) (w : Turns f d (g .sound) (g .lengths)) → Gone (turnOf f d .desk)
   gone-served d g w =
       let o = g .sound in
       let i = firstFrom d true (d .«last_served» + 1) % seatCount in
       let s = seatAt d (firstFrom d true (d .«last_served» + 1) % seatCount) in
-      let st : Sound (turnOf t d .desk) = turned-sound t d o (g .len) w in
+      let st : Sound (turnOf f d .desk) = turned-sound f d o (g .lengths) w in
       rw (w .is)
       (record {
         sound = rw (w .is) at st;
-        len = g .len;
+        lengths = g .lengths;
         old = g .old;
         none = λ j l h q.
             ⊎-elim
             (λ v.
-            let h2 : serveOf t s .seat .held ≡ true = rw (v .1) at h in
-            g .none i (omega arith) (w .held) (sym (served-ticket t s h2) ∙ (rw (v .1) at q)))
+            let h2 : serveOf f s .seat .held ≡ true = rw (v .1) at h in
+            g .none i (omega arith) (w .held) (sym (served-ticket f s h2) ∙ (rw (v .1) at q)))
             (λ v. g .none j l (rw (v .1) at h) (rw (v .1) at q))
-            (which d o i (omega arith) (serveOf t s .seat) i (d .issued) j);
+            (which d o i (omega arith) (serveOf f s .seat) i (d .issued) j);
       })
 
-  pub gone-turn : (d : Desk) → Gone d → Gone (turnOf t d .desk) × (whose (turnOf t d .answer) ≡ k → ⊥)
+  pub gone-turn : (d : Desk) → Gone d → Gone (turnOf f d .desk) × (whose (turnOf f d .answer) ≡ k → ⊥)
   gone-turn d g =
       ⊎-elim (λ n. rw n (g, (λ q. omega arith)))
       (λ w.
@@ -164,18 +165,12 @@ module _ (t : List ℕ) (k : ℕ) (pos : 1 ≤ k) where
       let s = seatAt d (firstFrom d true (d .«last_served» + 1) % seatCount) in
       let here : seatAt d i .ticket ≡ k → ⊥ = g .none i (omega arith) (w .held) in (
         gone-served d g w,
-        λ q. here (sym (served-answer t s) ∙ ap whose (sym (ap (λ (x : After Turned). x .answer) (w .is))) ∙ q),
+        λ q. here (sym (served-answer f s) ∙ ap whose (sym (ap (λ (x : After Turned). x .answer) (w .is))) ∙ q),
       ))
-      (turn-cases t d (g .sound) (g .len))
+      (turn-cases f d (g .sound) (g .lengths))
 
   -- ---- turn, while it is held
   module _ (d : Desk) (i : ℕ) (s : Seat) (r : Track d i s) where
-    pub within : s .offset ≤ length t
-    within =
-        let h = rw (r .here) at (r .sound .seat i (r .li) (rw (r .here) (r .held))) in
-        let w = servable _ _ _ h .within in
-        omega (arith, r .len)
-
     pub reach : firstFrom d true (d .«last_served» + 1) ≤ d .«last_served» + dist (d .«last_served») i
     reach =
         let o = r .sound in
@@ -184,83 +179,83 @@ module _ (t : List ℕ) (k : ℕ) (pos : 1 ≤ k) where
         let h : heldIs d true (d .«last_served» + dist (d .«last_served») i) ≡ true = rw (q, r .here, r .held) in
         first-le (heldIs d true) (d .«last_served» + 1) seatCount (d .«last_served» + dist (d .«last_served») i) (omega arith) h
 
-    pub works : Turns t d (r .sound) (r .len)
-    works = turns-if t d (r .sound) (r .len) (omega (arith, reach))
+    pub works : Turns f d (r .sound) (r .lengths)
+    works = turns-if f d (r .sound) (r .lengths) (omega (arith, reach))
 
     -- the turn serves another
     module _ (l : firstFrom d true (d .«last_served» + 1) < d .«last_served» + dist (d .«last_served») i) where
       away : i ≡ firstFrom d true (d .«last_served» + 1) % seatCount → ⊥
       away = not-there (d .«last_served») i (firstFrom d true (d .«last_served» + 1)) (r .sound .lastIn) (r .li) (works .from) l
 
-      pub other-track : Track (turnOf t d .desk) i s
+      pub other-track : Track (turnOf f d .desk) i s
       other-track =
           let p = firstFrom d true (d .«last_served» + 1) % seatCount in
           let o = r .sound in
-          let st : Sound (turnOf t d .desk) = turned-sound t d o (r .len) works in
+          let st : Sound (turnOf f d .desk) = turned-sound f d o (r .lengths) works in
           rw (works .is)
           (record {
             sound = rw (works .is) at st;
-            len = r .len;
+            lengths = r .lengths;
             li = r .li;
-            here = at-other d o p (omega arith) (serveOf t (seatAt d p) .seat) p (d .issued) i away ∙ r .here;
+            here = at-other d o p (omega arith) (serveOf f (seatAt d p) .seat) p (d .issued) i away ∙ r .here;
             held = r .held;
             tick = r .tick;
           })
 
-      pub other-near : dist (turnOf t d .desk .«last_served») i < dist (d .«last_served») i
+      pub other-near : dist (turnOf f d .desk .«last_served») i < dist (d .«last_served») i
       other-near =
           rw (works .is) (nearer (d .«last_served») i (firstFrom d true (d .«last_served» + 1)) (r .sound .lastIn) (r .li) (works .from) l)
 
-      pub other-answer : whose (turnOf t d .answer) ≡ k → ⊥
+      pub other-answer : whose (turnOf f d .answer) ≡ k → ⊥
       other-answer =
           let p = firstFrom d true (d .«last_served» + 1) % seatCount in
           rw (works .is)
           (λ q.
           away
           (r .sound .apart i p (r .li) (omega arith) (rw (r .here) (r .held)) (works .held)
-          (rw (r .here) (r .tick ∙ sym q ∙ served-answer t (seatAt d p)))))
+          (rw (r .here) (r .tick ∙ sym q ∙ served-answer f (seatAt d p)))))
 
     -- the turn serves it
     module _ (q : firstFrom d true (d .«last_served» + 1) % seatCount ≡ i) where
-      at-it : turnOf t d ≡ afterStep d i (serveOf t s)
+      at-it : turnOf f d ≡ afterStep d i (serveOf f s)
       at-it = works .is ∙ rw (q, r .here)
 
-      it-sound : Sound (afterStep d i (serveOf t s) .desk)
-      it-sound = rw at-it at (turned-sound t d (r .sound) (r .len) works)
+      it-sound : Sound (afterStep d i (serveOf f s) .desk)
+      it-sound = rw at-it at (turned-sound f d (r .sound) (r .lengths) works)
 
-      pub it-track : s .offset < length t → Track (turnOf t d .desk) i (serveOf t s .seat)
+      pub it-track : hasLine f s ≡ true → Track (turnOf f d .desk) i (serveOf f s .seat)
       it-track l =
           rw at-it
           (record {
             sound = it-sound;
-            len = r .len;
+            lengths = r .lengths;
             li = r .li;
-            here = at-same d (r .sound) i (r .li) (serveOf t s .seat) i (d .issued);
-            held = on-held t s l ∙ r .held;
-            tick = on-ticket t s l ∙ r .tick;
+            here = at-same d (r .sound) i (r .li) (serveOf f s .seat) i (d .issued);
+            held = on-held f s l ∙ r .held;
+            tick = on-ticket f s l ∙ r .tick;
           })
 
-      pub it-gone : length t ≤ s .offset → Gone (turnOf t d .desk)
+      pub it-gone : hasLine f s ≡ false → Gone (turnOf f d .desk)
       it-gone l =
           let o = r .sound in
           let u = old-ticket d o i (r .li) (rw (r .here) (r .held)) in
           rw at-it
           (record {
             sound = it-sound;
-            len = r .len;
+            lengths = r .lengths;
             old = subst (λ (x : ℕ). x ≤ d .issued) (ap (λ (x : Seat). x .ticket) (r .here) ∙ r .tick) u;
             none = λ j lj h q.
-                ⊎-elim (λ v. true≢false (sym (rw (v .1) at h) ∙ off-free t s l))
+                ⊎-elim (λ v. true≢false (sym (rw (v .1) at h) ∙ off-free f s l))
                 (λ v. v .0 (o .apart j i lj (r .li) (rw (v .1) at h) (rw (r .here) (r .held)) ((rw (v .1) at q) ∙ sym (rw (r .here) (r .tick)))))
-                (which d o i (r .li) (serveOf t s .seat) i (d .issued) j);
+                (which d o i (r .li) (serveOf f s .seat) i (d .issued) j);
           })
 
-      pub it-answer : turnOf t d .answer ≡ gives (serveOf t s .answer)
+      pub it-answer : turnOf f d .answer ≡ gives (serveOf f s .answer)
       it-answer = rw at-it
 
-      pub it-last : turnOf t d .desk .«last_served» ≡ i
+      pub it-last : turnOf f d .desk .«last_served» ≡ i
       it-last = rw at-it
 
       -- the other places have what they had
-      pub it-others : (j : ℕ) → (j ≡ i → ⊥) → seatAt (turnOf t d .desk) j ≡ seatAt d j
-      it-others j ne = rw at-it (at-other d (r .sound) i (r .li) (serveOf t s .seat) i (d .issued) j ne)
+      pub it-others : (j : ℕ) → (j ≡ i → ⊥) → seatAt (turnOf f d .desk) j ≡ seatAt d j
+      it-others j ne = rw at-it (at-other d (r .sound) i (r .li) (serveOf f s .seat) i (d .issued) j ne)

@@ -6,42 +6,46 @@
 --   would get with the desk to itself, line for line, only the ticket number aside, however many others open or close
 --   queries meanwhile."
 --
--- The theorems are `demand3`, `demand3-lines`, `demand3-any-time`, `demand3-in-time` and `lone-query` (proofs/).
+-- The theorems are `demand3`, `demand3-lines`, `demand3-any-time`, `demand3-in-time` and `lone-query` (proofs/). In all of them
+-- f is what the turns read, r what was asked of Open, d the desk that was asked, k the ticket that it gave.
 use mathlib.Core.Path.{_≡_}
-use mathlib.Core.Bool.{false}
+use mathlib.Core.Bool.{true, false}
 use mathlib.Core.List.{List, [], _∷_, _++_, map}
 use Prim.Native.Nat.{ℕ, _+_, _*_, _≤_, _<_}
 use lib.ListN.{length, take, replicate}
 use Rattle.basis.specs.Answer.{gives}
-use Rattle.timetable.specs.Lines.{Line, lineCount, placedLines}
+use Rattle.timetable.specs.Lines.{Line, placedLines}
+use Rattle.seat.specs.Files.{Files}
+use Rattle.seat.specs.Request.{Request}
 use Rattle.seat.specs.Query.{Result, hit, miss, unreadable, resultAt}
 use Rattle.seat.specs.Answers.{Turned, idle, hitAt, missAt, unreadableAt, doneWith}
+use Rattle.seat.specs.TurnsLeft.{turnsAsked}
 use Rattle.desk.specs.Bounds.{seatCount}
 use Rattle.desk.specs.Seats.{seatAt}
-use Rattle.desk.specs.Desk.{freshOf, openOf}
+use Rattle.desk.specs.Desk.{freshFor, openOf, haveLengths}
 use Rattle.desk.specs.declared.Desk.{Desk}
 use Rattle.fairness.specs.Runs.{Event, turns, answersOf, turnCount, Unclosed}
 
--- "a query the desk accepted": d, a desk of 16 seats, was asked to open the condition c and gave the ticket k.
--- "every turn the same timetable, of the length the desk was made for": it is t.
-pub record Query (t c : List ℕ) (d : Desk) (k : ℕ) : Type 0 where
+-- "a query the desk accepted": d, a desk of 16 seats, was asked to open r and gave the ticket k.
+-- "every turn the same timetable, of the length the desk was made for": the turns are over f.
+pub record Query (f : Files) (r : Request) (d : Desk) (k : ℕ) : Type 0 where
   pub desk : length (d .seats) ≡ seatCount
-  pub timetable : length t ≡ d .«timetable_length»
-  pub accepted : openOf c d .answer ≡ gives k
+  pub lengths : haveLengths f d ≡ true
+  pub accepted : openOf r d .answer ≡ gives k
 
 -- "each later open, close or turn is given the desk as the one before handed it back": `es` is any run of events from
 -- there, and these are the answers that the query gets in it
-abbrev pub gets : (t c : List ℕ) (d : Desk) (k : ℕ) → List Event → List Turned
-gets t c d k es = answersOf k t (openOf c d .desk) es
+abbrev pub gets : Files → Request → Desk → ℕ → List Event → List Turned
+gets f r d k es = answersOf k f (openOf r d .desk) es
 
--- "the 16 x (L + 1)th turn"
-abbrev pub turnsFor : List ℕ → ℕ
-turnsFor t = seatCount * (lineCount t + 1)
+-- "the 16 x (L + 1)th turn": L, the timetable's lines, is `turnsAsked`
+abbrev pub turnsFor : Files → ℕ
+turnsFor f = seatCount * (turnsAsked f + 1)
 
 -- "nobody closes the query's ticket", and the 16 x (L + 1)th turn after acceptance has been taken
-pub record Run (t : List ℕ) (k : ℕ) (es : List Event) : Type 0 where
+pub record Run (f : Files) (k : ℕ) (es : List Event) : Type 0 where
   pub unclosed : Unclosed k es
-  pub taken : turnsFor t ≤ turnCount es
+  pub taken : turnsFor f ≤ turnCount es
 
 -- ---- the first form: as with the desk to itself
 
@@ -53,14 +57,14 @@ ticketAside (missAt k o) = missAt 0 o
 ticketAside (unreadableAt k o n) = unreadableAt 0 o n
 ticketAside (doneWith k h u) = doneWith 0 h u
 
--- "those it would get with the desk to itself": on a fresh desk for that timetable, which opens this condition alone
-abbrev pub alone : List ℕ → List ℕ → List Turned
-alone t c = gets t c (freshOf (length t) .desk) 1 (replicate (turnsFor t) turns)
+-- "those it would get with the desk to itself": on a fresh desk for that timetable, which is asked to open this alone
+abbrev pub alone : Files → Request → List Turned
+alone f r = gets f r (freshFor f .desk) 1 (replicate (turnsFor f) turns)
 
 abbrev pub Demand3 : Type 0
 Demand3 =
-    (t c : List ℕ) (d : Desk) (k : ℕ) (es : List Event) → Query t c d k → Run t k es
-    → map ticketAside (gets t c d k es) ≡ map ticketAside (alone t c)
+    (f : Files) (r : Request) (d : Desk) (k : ℕ) (es : List Event) → Query f r d k → Run f k es
+    → map ticketAside (gets f r d k es) ≡ map ticketAside (alone f r)
 
 -- ---- the second form: line for line
 
@@ -70,6 +74,7 @@ answerFor k offset hit = hitAt k offset
 answerFor k offset miss = missAt k offset
 answerFor k offset (unreadable n) = unreadableAt k offset n
 
+-- the answers at some lines, where the condition c was asked for
 abbrev pub lineAnswers : ℕ → List ℕ → List Line → List Turned
 lineAnswers k c ls = map (λ l. answerFor k (l .offset) (resultAt c (l .text))) ls
 
@@ -89,33 +94,35 @@ unreadableIn (unreadableAt k o n) = 1
 unreadableIn (doneWith k h u) = 0
 
 unfoldable pub howMany : (Turned → ℕ) → List Turned → ℕ
-howMany f [] = 0
-howMany f (a ∷ others) = f a + howMany f others
+howMany count [] = 0
+howMany count (a ∷ others) = count a + howMany count others
 
--- an answer for each line of the timetable in order, then Done with the two counts of that list
-abbrev pub expected : ℕ → List ℕ → List ℕ → List Turned
-expected k t c =
-    lineAnswers k c (placedLines t)
-    ++ (doneWith k (howMany hitIn (lineAnswers k c (placedLines t))) (howMany unreadableIn (lineAnswers k c (placedLines t))) ∷ [])
+-- an answer for each line of the timetable in order
+abbrev pub answersIn : ℕ → Files → Request → List Turned
+answersIn k f r = lineAnswers k (r .condition) (placedLines (f .timetable))
+
+-- then Done with the two counts of that list
+abbrev pub expected : ℕ → Files → Request → List Turned
+expected k f r = answersIn k f r ++ (doneWith k (howMany hitIn (answersIn k f r)) (howMany unreadableIn (answersIn k f r)) ∷ [])
 
 abbrev pub Demand3Lines : Type 0
 Demand3Lines =
-    (t c : List ℕ) (d : Desk) (k : ℕ) (es : List Event) → Query t c d k → Run t k es → gets t c d k es ≡ expected k t c
+    (f : Files) (r : Request) (d : Desk) (k : ℕ) (es : List Event) → Query f r d k → Run f k es → gets f r d k es ≡ expected k f r
 
 -- ---- at any earlier time the answers so far are a prefix of that list
 abbrev pub Demand3AnyTime : Type 0
 Demand3AnyTime =
-    (t c : List ℕ) (d : Desk) (k : ℕ) (es : List Event) → Query t c d k → Unclosed k es
-    → (rest : List Turned) × (gets t c d k es ++ rest ≡ expected k t c)
+    (f : Files) (r : Request) (d : Desk) (k : ℕ) (es : List Event) → Query f r d k → Unclosed k es
+    → (rest : List Turned) × (gets f r d k es ++ rest ≡ expected k f r)
 
 -- ---- each answer in its time: at the 16 x nth turn after acceptance at least n of its L + 1 answers are there
 abbrev pub Demand3InTime : Type 0
 Demand3InTime =
-    (t c : List ℕ) (d : Desk) (k n : ℕ) (es : List Event) → Query t c d k → Unclosed k es → n ≤ lineCount t + 1 → seatCount * n ≤ turnCount es
-    → n ≤ length (gets t c d k es)
+    (f : Files) (r : Request) (d : Desk) (k n : ℕ) (es : List Event) → Query f r d k → Unclosed k es → n ≤ turnsAsked f + 1 → seatCount * n ≤ turnCount es
+    → n ≤ length (gets f r d k es)
 
 -- ---- a lone query is served at every turn: empty seats are passed over
 abbrev pub LoneQuery : Type 0
 LoneQuery =
-    (t c : List ℕ) (d : Desk) (k n : ℕ) → Query t c d k → ((i : ℕ) → i < seatCount → seatAt d i .held ≡ false)
-    → gets t c d k (replicate n turns) ≡ take n (expected k t c)
+    (f : Files) (r : Request) (d : Desk) (k n : ℕ) → Query f r d k → ((i : ℕ) → i < seatCount → seatAt d i .held ≡ false)
+    → gets f r d k (replicate n turns) ≡ take n (expected k f r)

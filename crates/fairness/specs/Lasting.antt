@@ -6,6 +6,8 @@ use mathlib.Core.List.{List}
 use Prim.Native.Nat.{ℕ, _<_}
 use lib.ListN.{length}
 use Rattle.basis.specs.Answer.{gives}
+use Rattle.seat.specs.Files.{Files}
+use Rattle.seat.specs.Request.{Request}
 use Rattle.seat.specs.Answers.{Turned, ticketOf}
 use Rattle.desk.specs.Bounds.{seatCount}
 use Rattle.desk.specs.Seats.{seatAt}
@@ -16,14 +18,14 @@ use Rattle.fairness.specs.Runs.{Event, afterAll}
 
 abbrev pub SoundLasts : Type 0
 SoundLasts =
-    (t : List ℕ) (d : Desk) (es : List Event) → length (d .seats) ≡ seatCount → soundOf d ≡ true → soundOf (afterAll t d es) ≡ true
+    (f : Files) (d : Desk) (es : List Event) → length (d .seats) ≡ seatCount → soundOf d ≡ true → soundOf (afterAll f d es) ≡ true
 
 -- a ticket given later is greater
 abbrev pub TicketsOnce : Type 0
 TicketsOnce =
-    (t c later : List ℕ) (d : Desk) (es : List Event) (k j : ℕ)
-    → openOf c d .answer ≡ gives k
-    → openOf later (afterAll t (openOf c d .desk) es) .answer ≡ gives j
+    (f : Files) (r later : Request) (d : Desk) (es : List Event) (k j : ℕ)
+    → openOf r d .answer ≡ gives k
+    → openOf later (afterAll f (openOf r d .desk) es) .answer ≡ gives j
     → k < j
 
 -- the seat at place i is held by a query
@@ -34,10 +36,10 @@ pub record Seated (d : Desk) (i : ℕ) : Type 0 where
   pub held : seatAt d i .held ≡ true
 
 pub record Untouched (d : Desk) (i : ℕ) : Type 0 where
-  pub byOpening : (c : List ℕ) → seatAt (openOf c d .desk) i ≡ seatAt d i
+  pub byOpening : (r : Request) → seatAt (openOf r d .desk) i ≡ seatAt d i
   pub byClosing : (j : ℕ) → (seatAt d i .ticket ≡ j → ⊥) → seatAt (closeOf j d .desk) i ≡ seatAt d i
-  pub byAnswers : (t : List ℕ) (a : Turned) → turnOf t d .answer ≡ gives a → (ticketOf a ≡ seatAt d i .ticket → ⊥)
-      → seatAt (turnOf t d .desk) i ≡ seatAt d i
+  pub byAnswers : (f : Files) (a : Turned) → turnOf f d .answer ≡ gives a → (ticketOf a ≡ seatAt d i .ticket → ⊥)
+      → seatAt (turnOf f d .desk) i ≡ seatAt d i
 
 abbrev pub OthersUntouched : Type 0
 OthersUntouched = (d : Desk) (i : ℕ) → Seated d i → Untouched d i
