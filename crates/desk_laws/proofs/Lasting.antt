@@ -1,13 +1,12 @@
 -- Every call on a sound desk hands back a sound desk, and no call alters a held seat that is not the one it is about:
 -- another query's opening, closing and answers alter no seat of this one.
-use mathlib.Core.Path.{_≡_, refl, sym, ap, _∙_}
+use mathlib.Core.Path.{_≡_, sym, ap, _∙_}
 use mathlib.Core.Bool.{true, false, true≢false}
-use mathlib.Core.Logic.{⊎-elim, inl, inr}
+use mathlib.Core.Logic.{⊎-elim}
 use Prim.Native.Nat.{ℕ, _+_, _%_, _<_}
-use native.Mathlib.Decide.{ℕ-discrete}
 use native.Mathlib.Omega.{arith}
 use lib.ListN.{length}
-use Rattle.basis.specs.Answer.{Answer, gives, refuses}
+use Rattle.basis.specs.Answer.{gives}
 use Rattle.seat.specs.Files.{Files}
 use Rattle.seat.specs.Request.{Request}
 use Rattle.seat.specs.Answers.{Turned, ticketOf}
@@ -20,8 +19,8 @@ use Rattle.desk.specs.Seats.{seatAt, firstFrom, placeOf}
 use Rattle.desk.specs.Soundness.{soundOf}
 use Rattle.desk.specs.Desk.{openOf, closeOf, turnOf}
 use Rattle.desk.specs.declared.Desk.{Desk}
-use Rattle.desk_laws.proofs.Sound.{Sound, sound-in, sound-out, place-found, replaced, at-other}
-use Rattle.desk_laws.proofs.Steps.{open-cases, was-free, opened-sound, close-cases, closed-sound, Turns, turn-cases, turned-sound, turn-refused}
+use Rattle.desk_laws.proofs.Sound.{Sound, sound-in, sound-out, place-found, at-other}
+use Rattle.desk_laws.proofs.Steps.{open-cases, was-free, opened-sound, close-cases, closed-sound, turn-cases, turned-sound, turn-refused}
 
 module _ (d : Desk) (o : Sound d) where
   pub open-lasts : (r : Request) → Sound (openOf r d .desk)

@@ -1,14 +1,13 @@
 -- Soundness as a list of facts, both ways, and that it lasts where a seat is replaced by a good one.
 use mathlib.Core.Path.{_≡_, refl, sym, ap, _∙_}
 use mathlib.Core.Bool.{Bool, true, false}
-use mathlib.Core.List.{List, [], _∷_}
 use mathlib.Core.Logic.{⊎-elim, _⊎_, inl, inr}
 use Prim.Native.Nat.{ℕ, _+_, _≤_, _<_}
 use native.Mathlib.Decide.{ℕ-discrete}
 use native.Mathlib.Omega.{arith}
 use borrow.Author.Tests.{lt-ltb, le-leb, eq-eqb, leb-true, ltb-true, eqb-true}
 use lib.Dec.{eqb}
-use lib.ListN.{length, getD, set, length-set}
+use lib.ListN.{length, set, length-set}
 use lib.Seq.{getD-set-same, getD-set-other}
 use Rattle.basis.specs.Choice.{pick, both, every}
 use Rattle.basis.proofs.Tests.{both-left, both-right}
@@ -21,7 +20,7 @@ use Rattle.seat.specs.Serving.{hasLine, afterLine, judgedAs}
 use Rattle.seat.specs.declared.Seat.{Seat}
 use Rattle.seat.proofs.Soundness.{every-at}
 use Rattle.desk.specs.Bounds.{seatCount}
-use Rattle.desk.specs.Scan.{first, all}
+use Rattle.desk.specs.Scan.{first}
 use Rattle.desk.specs.Seats.{seatAt, hasTicket, placeOf}
 use Rattle.desk.specs.Soundness.{placeSound, soundOf}
 use Rattle.desk.specs.declared.Desk.{Desk}

@@ -1,22 +1,22 @@
 -- What each call does to a sound desk, by cases: refused it alters nothing, else it replaces one seat. The desk stays sound.
-use mathlib.Core.Path.{_≡_, refl, sym, ap, _∙_, subst}
+use mathlib.Core.Path.{_≡_, refl, sym, _∙_, subst}
 use mathlib.Core.Bool.{Bool, true, false, true≢false}
-use mathlib.Core.List.{List, _++_}
+use mathlib.Core.List.{_++_}
 use mathlib.Core.Logic.{⊎-elim, _⊎_, inl, inr}
 use Prim.Native.Nat.{ℕ, _+_, _-_, _%_, _≤_, _<_}
 use native.Mathlib.Omega.{arith}
 use borrow.Author.Tests.{lt-ltb, le-leb, leb-true, ltb-true}
-use lib.Dec.{leb, ltb}
+use lib.Dec.{ltb}
 use lib.ListN.{length, take, replicate}
 use lib.Seq.{take-append-seam}
-use Rattle.basis.specs.Choice.{pick, both, every}
+use Rattle.basis.specs.Choice.{both, every}
 use Rattle.basis.specs.Answer.{Answer, gives, refuses}
-use Rattle.value.specs.Refusals.{noSeat, wrongTimetable, notSound, noTicket, noMoreTickets}
+use Rattle.value.specs.Refusals.{noSeat, wrongTimetable, notSound, noMoreTickets}
 use Rattle.seat.specs.Files.{Files}
 use Rattle.seat.specs.Request.{Request}
 use Rattle.seat.specs.Bounds.{conditionRoom}
 use Rattle.seat.specs.Query.{accepted, checkOf}
-use Rattle.seat.specs.Answers.{Turned, idle}
+use Rattle.seat.specs.Answers.{idle}
 use Rattle.seat.specs.Seat.{freeSeat, seatFor}
 use Rattle.seat.specs.Soundness.{seatSound}
 use Rattle.seat.specs.Serving.{resultOf, serveOf}
@@ -26,14 +26,13 @@ use Rattle.seat.proofs.Soundness.{every-at}
 use Rattle.seat.proofs.Serving.{line-or-done, serve-line, off-free, served-ticket}
 use Rattle.desk.specs.Bounds.{seatCount, lastTicket}
 use Rattle.desk.specs.Scan.{first}
-use Rattle.desk.specs.Answers.{After}
 use Rattle.desk.specs.Seats.{seatAt, heldIs, firstFrom, placeOf}
 use Rattle.desk.specs.Soundness.{soundOf}
-use Rattle.desk.specs.Desk.{refused, seated, freed, openChecked, openOf, closeOf, afterStep, turnAt, nextOf, haveLengths, turnOf}
+use Rattle.desk.specs.Desk.{refused, openOf, closeOf, afterStep, turnAt, nextOf, haveLengths, turnOf}
 use Rattle.desk.specs.declared.Desk.{Desk}
 use Rattle.desk.proofs.Scans.{beq-true, beq-false, first-ge, first-found}
 use Rattle.desk.proofs.Lengths.{lengths-same}
-use Rattle.desk_laws.proofs.Sound.{Sound, sound-in, sound-out, place-found, replaced, replaced-sound, judged-sound}
+use Rattle.desk_laws.proofs.Sound.{Sound, sound-out, replaced, replaced-sound, judged-sound}
 
 -- ---- serving a seat
 served-good : (f : Files) (s : Seat) (k : ℕ) → seatSound k (length (f .timetable)) s ≡ true → serveOf f s .seat .held ≡ true

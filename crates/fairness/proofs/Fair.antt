@@ -4,7 +4,7 @@ use mathlib.Core.Path.{_≡_, refl, sym, ap, _∙_}
 use mathlib.Core.Bool.{true, false}
 use mathlib.Core.List.{List, [], _∷_}
 use mathlib.Core.Logic.{⊎-elim}
-use Prim.Native.Nat.{ℕ, zero, suc, _+_, _*_, _%_, _≤_, _<_}
+use Prim.Native.Nat.{ℕ, zero, suc, _+_, _*_, _%_, _≤_}
 use native.Mathlib.Nat.{eq-or-lt-of-le}
 use native.Mathlib.Omega.{arith}
 use lib.ListN.{length}
@@ -20,7 +20,7 @@ use Rattle.seat.proofs.Serving.{line-or-done, served-answer}
 use Rattle.seat.proofs.TurnsLeft.{left-start, left-on, left-off}
 use Rattle.desk.specs.Bounds.{seatCount}
 use Rattle.desk.specs.Answers.{After}
-use Rattle.desk.specs.Seats.{seatAt, firstFrom}
+use Rattle.desk.specs.Seats.{firstFrom}
 use Rattle.desk.specs.Desk.{openOf, closeOf, haveLengths, turnOf}
 use Rattle.desk.specs.declared.Desk.{Desk}
 use Rattle.desk_laws.proofs.Sound.{Sound, sound-in, at-same}

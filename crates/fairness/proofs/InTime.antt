@@ -11,7 +11,7 @@ use lib.ListN.{length}
 use Rattle.seat.specs.Files.{Files}
 use Rattle.seat.specs.Seat.{seatFor}
 use Rattle.seat.specs.Serving.{serveOf}
-use Rattle.seat.specs.TurnsLeft.{turnsAsked, turnsLeft}
+use Rattle.seat.specs.TurnsLeft.{turnsLeft}
 use Rattle.seat.specs.declared.Seat.{Seat}
 use Rattle.seat.proofs.Serving.{line-or-done, served-answer}
 use Rattle.seat.proofs.TurnsLeft.{left-start, left-on, left-off}

@@ -1,27 +1,20 @@
 -- Over any run of events a sound desk stays sound and tickets only rise; another query's calls alter no seat of this one.
-use mathlib.Core.Path.{_≡_, refl, sym, ap, _∙_}
-use mathlib.Core.Bool.{true}
+use mathlib.Core.Path.{_≡_, sym, ap, _∙_}
 use mathlib.Core.List.{List, [], _∷_}
 use mathlib.Core.Logic.{⊎-elim}
-use Prim.Native.Nat.{ℕ, _+_, _≤_, _<_}
+use Prim.Native.Nat.{ℕ, _+_, _≤_}
 use native.Mathlib.Omega.{arith}
-use lib.ListN.{length}
 use Rattle.basis.specs.Answer.{gives, refuses}
 use Rattle.seat.specs.Files.{Files}
 use Rattle.seat.specs.Request.{Request}
-use Rattle.seat.specs.Answers.{Turned}
-use Rattle.seat.specs.Seat.{freeSeat, seatFor}
-use Rattle.desk.specs.Bounds.{seatCount}
 use Rattle.desk.specs.Answers.{After}
-use Rattle.desk.specs.Seats.{seatAt, firstFrom, placeOf}
-use Rattle.desk.specs.Soundness.{soundOf}
-use Rattle.desk.specs.Desk.{openOf, closeOf, turnOf}
+use Rattle.desk.specs.Desk.{openOf, closeOf}
 use Rattle.desk.specs.declared.Desk.{Desk}
 use Rattle.desk_laws.proofs.Sound.{Sound, sound-in, sound-out}
-use Rattle.desk_laws.proofs.Steps.{Seated, open-cases, close-cases, turn-issued}
+use Rattle.desk_laws.proofs.Steps.{open-cases, close-cases, turn-issued}
 use Rattle.desk_laws.proofs.Lasting.{open-lasts, close-lasts, turn-lasts, open-alters-no-held, close-alters-no-other, turn-alters-no-other}
 use Rattle.fairness.specs.Runs.{Event, opens, closes, turns, after, afterAll}
-use Rattle.fairness.specs.Lasting.{SoundLasts, TicketsOnce, Untouched, OthersUntouched}
+use Rattle.fairness.specs.Lasting.{SoundLasts, TicketsOnce, OthersUntouched}
 
 -- ---- soundness
 sound-after : (f : Files) (d : Desk) (e : Event) → Sound d → Sound (after f d e)

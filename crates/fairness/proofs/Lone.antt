@@ -1,17 +1,17 @@
 -- A lone query is served at every turn: the place that a turn finds is held, and only its own is.
 use mathlib.Core.Path.{_≡_, refl, sym, ap, _∙_}
-use mathlib.Core.Bool.{Bool, true, false, true≢false}
+use mathlib.Core.Bool.{true, false, true≢false}
 use mathlib.Core.List.{List, [], _∷_}
 use mathlib.Core.Logic.{⊎-elim}
 use Prim.Native.Nat.{ℕ, zero, suc, _+_, _%_, _≤_, _<_}
 use native.Mathlib.Decide.{ℕ-discrete}
 use native.Mathlib.Omega.{arith}
-use lib.ListN.{length, take, replicate}
+use lib.ListN.{take, replicate}
 use Rattle.seat.specs.Files.{Files}
 use Rattle.seat.specs.Answers.{Turned}
 use Rattle.seat.specs.Seat.{seatFor}
 use Rattle.seat.specs.Serving.{serveOf}
-use Rattle.seat.specs.TurnsLeft.{turnsAsked, turnsLeft}
+use Rattle.seat.specs.TurnsLeft.{turnsLeft}
 use Rattle.seat.specs.declared.Seat.{Seat}
 use Rattle.seat.proofs.Serving.{line-or-done, served-answer}
 use Rattle.seat.proofs.TurnsLeft.{left-start, left-on, left-off}
@@ -20,9 +20,8 @@ use Rattle.desk.specs.Seats.{seatAt, firstFrom}
 use Rattle.desk.specs.Desk.{openOf, turnOf}
 use Rattle.desk.specs.declared.Desk.{Desk}
 use Rattle.desk_laws.proofs.Sound.{at-other}
-use Rattle.desk_laws.proofs.Steps.{Seated}
-use Rattle.fairness.specs.Runs.{Event, turns, mine, answersOf}
-use Rattle.fairness.specs.Demand3.{Query, expected, LoneQuery}
+use Rattle.fairness.specs.Runs.{turns, mine, answersOf}
+use Rattle.fairness.specs.Demand3.{LoneQuery}
 use Rattle.fairness.proofs.Tracks.{Track, is-mine, works, it-track, it-gone, it-answer, it-others}
 use Rattle.fairness.proofs.Fair.{serves, gone, seated-by, before-sound, some-ticket, taken}
 use Rattle.fairness.proofs.LineForLine.{expected-serves}

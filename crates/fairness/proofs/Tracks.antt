@@ -1,10 +1,10 @@
 -- One ticket followed through the calls: while it is held, at one place by one seat, and once it is held no more. Another's
 -- opening, closing or turn leaves both as they are; a turn of its own serves its seat.
 use mathlib.Core.Path.{_≡_, refl, sym, ap, _∙_, subst}
-use mathlib.Core.Bool.{Bool, true, false, true≢false}
-use mathlib.Core.List.{List, [], _∷_}
-use mathlib.Core.Logic.{⊎-elim, _⊎_, inl, inr}
-use Prim.Native.Nat.{ℕ, suc, _+_, _%_, _≤_, _<_}
+use mathlib.Core.Bool.{true, false, true≢false}
+use mathlib.Core.List.{List, _∷_}
+use mathlib.Core.Logic.{⊎-elim, _⊎_}
+use Prim.Native.Nat.{ℕ, _+_, _%_, _≤_, _<_}
 use native.Mathlib.Omega.{arith}
 use borrow.Author.Tests.{eq-eqb, ne-eqb}
 use Rattle.basis.specs.Answer.{Answer, gives, refuses}
@@ -21,8 +21,8 @@ use Rattle.desk.specs.Seats.{seatAt, heldIs, firstFrom, placeOf}
 use Rattle.desk.specs.Desk.{openOf, closeOf, haveLengths, turnOf, afterStep}
 use Rattle.desk.specs.declared.Desk.{Desk}
 use Rattle.desk.proofs.Scans.{first-le}
-use Rattle.desk_laws.proofs.Sound.{Sound, place-found, replaced, at-same, at-other, which}
-use Rattle.desk_laws.proofs.Steps.{Seated, open-cases, was-free, opened-sound, old-ticket, close-cases, closed-sound, Turns, turns-if, turn-cases, turned-sound}
+use Rattle.desk_laws.proofs.Sound.{Sound, place-found, at-same, at-other, which}
+use Rattle.desk_laws.proofs.Steps.{open-cases, was-free, opened-sound, old-ticket, close-cases, closed-sound, Turns, turns-if, turn-cases, turned-sound}
 use Rattle.fairness.specs.Runs.{mine}
 use Rattle.fairness.proofs.Round.{dist, there, nearer, not-there}
 
