@@ -8,21 +8,20 @@ use Prim.Native.Nat.{ℕ, _+_, _%_, _≤_, _<_, min}
 use native.Mathlib.Omega.{arith}
 use lib.ListN.{length, take, length-take}
 use Rattle.basis.specs.Answer.{gives}
-use Rattle.timetable.specs.Lines.{nextLine}
-use Rattle.timetable.proofs.Offsets.{line-or-end}
 use Rattle.numerals.specs.Writing.{textIn, longest}
 use Rattle.numerals.specs.declared.Text.{Text}
+use Rattle.seat.specs.Files.{Files}
 use Rattle.seat.specs.Bounds.{maxTimetable}
 use Rattle.seat.specs.Query.{Result, hit, miss, unreadable}
 use Rattle.seat.specs.Answers.{Turned, turnMeaning}
-use Rattle.seat.specs.Serving.{judgedAs, resultOf, serveOf}
+use Rattle.seat.specs.Serving.{afterLine, resultOf, judgedAs, serveOf}
 use Rattle.seat.specs.declared.Seat.{Seat}
 use Rattle.seat.proofs.Soundness.{Servable, servable}
-use Rattle.seat.proofs.Serving.{serve-line, serve-done}
+use Rattle.seat.proofs.Serving.{line-or-done, serve-line, serve-done}
 use Rattle.desk.specs.Bounds.{seatCount}
 use Rattle.desk.specs.Answers.{After, afterTurn}
 use Rattle.desk.specs.Seats.{seatAt, firstFrom}
-use Rattle.desk.specs.Desk.{turnOf, nextOf}
+use Rattle.desk.specs.Desk.{nextOf, haveLengths, turnOf}
 use Rattle.desk.specs.declared.Desk.{Desk}
 use Rattle.desk.specs.declared.AfterTurn.{AfterTurn}
 use Rattle.desk_laws.proofs.Sound.{Sound}
@@ -34,30 +33,30 @@ judged-within next s hit l = l
 judged-within next s miss l = l
 judged-within next s (unreadable n) l = l
 
-served-within : (t : List ℕ) (long : ℕ) (s : Seat) → Servable long s → long ≤ maxTimetable → Within (gives (serveOf t s .answer))
-served-within t long s v l =
+served-within : (f : Files) (long : ℕ) (s : Seat) → Servable long s → long ≤ maxTimetable → Within (gives (serveOf f s .answer))
+served-within f long s v l =
     let w = v .within in
     let c = v .counts in
-    ⊎-elim (λ b. rw (serve-line t s b) (judged-within (nextLine t (s .offset)) s (resultOf t s) (omega arith)))
-    (λ b. rw (serve-done t s b) (omega arith, omega arith))
-    (line-or-end t (s .offset))
+    ⊎-elim (λ b. rw (serve-line f s b) (judged-within (afterLine f s) s (resultOf f s) (omega arith)))
+    (λ b. rw (serve-done f s b) (omega arith, omega arith))
+    (line-or-done f s)
 
-module _ (t : List ℕ) (d : Desk) (o : Sound d) (e : length t ≡ d .«timetable_length») where
-  turn-within : Within (turnOf t d .answer)
+module _ (f : Files) (d : Desk) (o : Sound d) (e : haveLengths f d ≡ true) where
+  turn-within : Within (turnOf f d .answer)
   turn-within =
       ⊎-elim (λ n. rw n tt)
       (λ w.
       let i = firstFrom d true (d .«last_served» + 1) % seatCount in
-      rw (w .is) (served-within t (d .«timetable_length») (seatAt d i) (servable _ _ _ (o .seat i (omega arith) (w .held))) (o .short)))
-      (turn-cases t d o e)
+      rw (w .is) (served-within f (d .«timetable_length») (seatAt d i) (servable _ _ _ (o .seat i (omega arith) (w .held))) (o .short)))
+      (turn-cases f d o e)
 
   -- what the turn of a desk known to be sound handed back
-  module _ (r : AfterTurn) (h : afterTurn r ≡ nextOf t d) where
-    pub next-desk : r .desk ≡ turnOf t d .desk
-    next-desk = ap (λ (x : After Turned). x .desk) (h ∙ sym (turn-next t d o e))
+  module _ (r : AfterTurn) (h : afterTurn r ≡ nextOf f d) where
+    pub next-desk : r .desk ≡ turnOf f d .desk
+    next-desk = ap (λ (x : After Turned). x .desk) (h ∙ sym (turn-next f d o e))
 
-    pub next-answer : turnMeaning (r .answer) ≡ turnOf t d .answer
-    next-answer = ap (λ (x : After Turned). x .answer) (h ∙ sym (turn-next t d o e))
+    pub next-answer : turnMeaning (r .answer) ≡ turnOf f d .answer
+    next-answer = ap (λ (x : After Turned). x .answer) (h ∙ sym (turn-next f d o e))
 
     pub next-within : Within (turnMeaning (r .answer))
     next-within = rw next-answer turn-within

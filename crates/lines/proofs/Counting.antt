@@ -11,6 +11,7 @@ use lib.ListN.{length, length-append}
 use Rattle.basis.specs.Choice.{pick}
 use Rattle.basis.specs.Answer.{Answer, gives, refuses}
 use Rattle.timetable.specs.Lines.{newline}
+use Rattle.seat.specs.Files.{Files}
 use Rattle.seat.specs.Answers.{Turned, idle, hitAt, missAt, unreadableAt, doneWith}
 use Rattle.desk.specs.Desk.{turnOf}
 use Rattle.desk.specs.declared.Desk.{Desk}
@@ -33,35 +34,35 @@ abbrev then-on : Bool → Bool → List ℕ → Desk → Desk → Taken → Take
 then-on fits stops line d next rest = pick fits (onto line (pick stops (record { desk = next; text = []; idle = true }) rest)) (none d)
 
 -- with as many as bytes are left, more change nothing
-enough : (n m : ℕ) (t : List ℕ) (d : Desk) (left : ℕ) → left ≤ n → left ≤ m → atMost n t d left ≡ atMost m t d left
+enough : (n m : ℕ) (f : Files) (d : Desk) (left : ℕ) → left ≤ n → left ≤ m → atMost n f d left ≡ atMost m f d left
 unfolding atMost
-enough zero zero t d left a b = refl
-enough zero (suc m) t d left a b =
-    let s = line-some (turnOf t d .answer) in
-    rw (lt-leb (length (turnLine (turnOf t d .answer))) left (omega arith))
-enough (suc n) zero t d left a b =
-    let s = line-some (turnOf t d .answer) in
-    rw (lt-leb (length (turnLine (turnOf t d .answer))) left (omega arith))
-enough (suc n) (suc m) t d left a b =
-    let line = turnLine (turnOf t d .answer) in
-    let s = line-some (turnOf t d .answer) in
-    let next = enough n m t (turnOf t d .desk) (left - length (turnLine (turnOf t d .answer))) (omega arith) (omega arith) in
-    ap (then-on (leb (length (turnLine (turnOf t d .answer))) left) (isIdle (turnOf t d .answer)) (turnLine (turnOf t d .answer)) d (turnOf t d .desk)) next
+enough zero zero f d left a b = refl
+enough zero (suc m) f d left a b =
+    let s = line-some (turnOf f d .answer) in
+    rw (lt-leb (length (turnLine (turnOf f d .answer))) left (omega arith))
+enough (suc n) zero f d left a b =
+    let s = line-some (turnOf f d .answer) in
+    rw (lt-leb (length (turnLine (turnOf f d .answer))) left (omega arith))
+enough (suc n) (suc m) f d left a b =
+    let line = turnLine (turnOf f d .answer) in
+    let s = line-some (turnOf f d .answer) in
+    let next = enough n m f (turnOf f d .desk) (left - length (turnLine (turnOf f d .answer))) (omega arith) (omega arith) in
+    ap (then-on (leb (length (turnLine (turnOf f d .answer))) left) (isIdle (turnOf f d .answer)) (turnLine (turnOf f d .answer)) d (turnOf f d .desk)) next
 
 -- the turns that fit, by the next one
-pub taken-next : (t : List ℕ) (d : Desk) (left : ℕ)
-    → taken t d left
-    ≡ pick (leb (length (turnLine (turnOf t d .answer))) left)
-    (onto (turnLine (turnOf t d .answer))
-    (pick (isIdle (turnOf t d .answer)) (record { desk = turnOf t d .desk; text = []; idle = true })
-    (taken t (turnOf t d .desk) (left - length (turnLine (turnOf t d .answer))))))
+pub taken-next : (f : Files) (d : Desk) (left : ℕ)
+    → taken f d left
+    ≡ pick (leb (length (turnLine (turnOf f d .answer))) left)
+    (onto (turnLine (turnOf f d .answer))
+    (pick (isIdle (turnOf f d .answer)) (record { desk = turnOf f d .desk; text = []; idle = true })
+    (taken f (turnOf f d .desk) (left - length (turnLine (turnOf f d .answer))))))
     (none d)
 unfolding atMost
-taken-next t d zero =
-    let s = line-some (turnOf t d .answer) in
-    rw (lt-leb (length (turnLine (turnOf t d .answer))) 0 (omega arith))
-taken-next t d (suc left) =
-    let s = line-some (turnOf t d .answer) in
-    let next = enough left (suc left - length (turnLine (turnOf t d .answer))) t (turnOf t d .desk) (suc left - length (turnLine (turnOf t d .answer)))
+taken-next f d zero =
+    let s = line-some (turnOf f d .answer) in
+    rw (lt-leb (length (turnLine (turnOf f d .answer))) 0 (omega arith))
+taken-next f d (suc left) =
+    let s = line-some (turnOf f d .answer) in
+    let next = enough left (suc left - length (turnLine (turnOf f d .answer))) f (turnOf f d .desk) (suc left - length (turnLine (turnOf f d .answer)))
     (omega arith) (omega arith) in
-    ap (then-on (leb (length (turnLine (turnOf t d .answer))) (suc left)) (isIdle (turnOf t d .answer)) (turnLine (turnOf t d .answer)) d (turnOf t d .desk)) next
+    ap (then-on (leb (length (turnLine (turnOf f d .answer))) (suc left)) (isIdle (turnOf f d .answer)) (turnLine (turnOf f d .answer)) d (turnOf f d .desk)) next

@@ -8,6 +8,7 @@ use borrow.Author.Tests.{le-leb, lt-leb}
 use lib.ListN.{length, take, drop, length-append, length-drop}
 use lib.Seq.{take-at, drop-at, length-take-le, drop-drop, take-append-seam}
 use Rattle.basis.specs.Answer.{Answer, gives, refuses}
+use Rattle.seat.specs.Files.{Files}
 use Rattle.seat.specs.Bounds.{maxTimetable}
 use Rattle.seat.specs.Answers.{Turned, idle, hitAt, missAt, unreadableAt, doneWith}
 use Rattle.desk.specs.Desk.{turnOf}
@@ -20,19 +21,19 @@ use Rattle.lines.specs.declared.Run.{Run}
 use Rattle.lines.proofs.Counting.{line-some, taken-next}
 
 -- from the desk d₀ and the room before, the loop stands at a desk, with so many bytes written
-pub record Going (t : List ℕ) (d₀ : Desk) (before : List ℕ) (d : Desk) (at : ℕ) (room : List ℕ) : Type 0 where
+pub record Going (f : Files) (d₀ : Desk) (before : List ℕ) (d : Desk) (at : ℕ) (room : List ℕ) : Type 0 where
   pub within : at ≤ length before
   pub size : length room ≡ length before
   pub rest : drop at room ≡ drop at before
-  pub so : taken t d₀ (length before) ≡ onto (take at room) (taken t d (length before - at))
+  pub so : taken f d₀ (length before) ≡ onto (take at room) (taken f d (length before - at))
 
-module _ (t : List ℕ) (d₀ : Desk) (before : List ℕ) where
-  pub going-starts : Going t d₀ before d₀ 0 before
+module _ (f : Files) (d₀ : Desk) (before : List ℕ) where
+  pub going-starts : Going f d₀ before d₀ 0 before
   going-starts =
       let z : length before - 0 ≡ length before = omega arith in
       record { within = omega arith; size = refl; rest = refl; so = rw z }
 
-  module _ (d : Desk) (at : ℕ) (room : List ℕ) (g : Going t d₀ before d at room) where
+  module _ (d : Desk) (at : ℕ) (room : List ℕ) (g : Going f d₀ before d at room) where
     -- the bytes written, and the rest of the room
     whole : room ≡ take at room ++ drop at before
     whole = sym (lib.ListN.take-append-drop at room) ∙ ap (λ (x : List ℕ). take at room ++ x) (g .rest)
@@ -41,20 +42,20 @@ module _ (t : List ℕ) (d₀ : Desk) (before : List ℕ) where
     written = length-take-le at room (omega (arith, g .within, g .size))
 
     -- no line fits any more
-    pub going-stops : length before - at < length (turnLine (turnOf t d .answer)) → (r : Run) → r .desk ≡ d → r .written .count ≡ at → r .written .idle ≡ false
-        → Ran r (taken t d₀ (length before)) before room
+    pub going-stops : length before - at < length (turnLine (turnOf f d .answer)) → (r : Run) → r .desk ≡ d → r .written .count ≡ at → r .written .idle ≡ false
+        → Ran r (taken f d₀ (length before)) before room
     going-stops l r rd rc ri =
-        let e : taken t d (length before - at) ≡ none d = taken-next t d (length before - at) ∙ rw (lt-leb _ _ l) in
-        let f : taken t d₀ (length before) ≡ record { desk = d; text = take at room; idle = false } = g .so ∙ rw (e, append-nil) in
+        let e : taken f d (length before - at) ≡ none d = taken-next f d (length before - at) ∙ rw (lt-leb _ _ l) in
+        let all : taken f d₀ (length before) ≡ record { desk = d; text = take at room; idle = false } = g .so ∙ rw (e, append-nil) in
         let w = written in
-        rw f (record { desk = rd; count = rc ∙ sym w; idle = ri; room = whole ∙ rw w })
+        rw all (record { desk = rd; count = rc ∙ sym w; idle = ri; room = whole ∙ rw w })
 
     -- the room is full
     pub going-full : length before ≤ at → (r : Run) → r .desk ≡ d → r .written .count ≡ at → r .written .idle ≡ false
-        → Ran r (taken t d₀ (length before)) before room
-    going-full l = going-stops (omega (arith, line-some (turnOf t d .answer)))
+        → Ran r (taken f d₀ (length before)) before room
+    going-full l = going-stops (omega (arith, line-some (turnOf f d .answer)))
 
-    module _ (line : List ℕ) (is : line ≡ turnLine (turnOf t d .answer)) (fits : at + length line ≤ length before)
+    module _ (line : List ℕ) (is : line ≡ turnLine (turnOf f d .answer)) (fits : at + length line ≤ length before)
         (room′ : List ℕ) (put : room′ ≡ take at room ++ (line ++ drop (at + length line) room)) where
       room-is : room′ ≡ (take at room ++ line) ++ drop (at + length line) room
       room-is = put ∙ sym (append-assoc (take at room) line (drop (at + length line) room))
@@ -76,16 +77,16 @@ module _ (t : List ℕ) (d₀ : Desk) (before : List ℕ) where
           rw room-is
           (omega (arith, length-append (take at room ++ line) (drop (at + length line) room), length-drop (at + length line) room, end-is, g .size))
 
-      goes-so : taken t d₀ (length before) ≡ onto (take at room) (taken t d (length before - at))
+      goes-so : taken f d₀ (length before) ≡ onto (take at room) (taken f d (length before - at))
       goes-so = g .so
 
-      pub going-on : isIdle (turnOf t d .answer) ≡ false → Going t d₀ before (turnOf t d .desk) (at + length line) room′
+      pub going-on : isIdle (turnOf f d .answer) ≡ false → Going f d₀ before (turnOf f d .desk) (at + length line) room′
       going-on more =
-          let fit : length (turnLine (turnOf t d .answer)) ≤ length before - at = omega (arith, ap length is) in
-          let e : taken t d (length before - at)
-          ≡ onto (turnLine (turnOf t d .answer)) (taken t (turnOf t d .desk) (length before - at - length (turnLine (turnOf t d .answer)))) =
-          taken-next t d (length before - at) ∙ rw (le-leb _ _ fit, more) in
-          let z : length before - at - length (turnLine (turnOf t d .answer)) ≡ length before - (at + length line) = omega (arith, ap length is) in
+          let fit : length (turnLine (turnOf f d .answer)) ≤ length before - at = omega (arith, ap length is) in
+          let e : taken f d (length before - at)
+          ≡ onto (turnLine (turnOf f d .answer)) (taken f (turnOf f d .desk) (length before - at - length (turnLine (turnOf f d .answer)))) =
+          taken-next f d (length before - at) ∙ rw (le-leb _ _ fit, more) in
+          let z : length before - at - length (turnLine (turnOf f d .answer)) ≡ length before - (at + length line) = omega (arith, ap length is) in
           record {
             within = fits;
             size = going-size;
@@ -93,16 +94,16 @@ module _ (t : List ℕ) (d₀ : Desk) (before : List ℕ) where
             so = goes-so ∙ rw (e, z, took, is, append-assoc);
           }
 
-      pub going-idle : isIdle (turnOf t d .answer) ≡ true → (r : Run) → r .desk ≡ turnOf t d .desk → r .written .count ≡ at + length line
-          → r .written .idle ≡ true → Ran r (taken t d₀ (length before)) before room′
+      pub going-idle : isIdle (turnOf f d .answer) ≡ true → (r : Run) → r .desk ≡ turnOf f d .desk → r .written .count ≡ at + length line
+          → r .written .idle ≡ true → Ran r (taken f d₀ (length before)) before room′
       going-idle last r rd rc ri =
-          let fit : length (turnLine (turnOf t d .answer)) ≤ length before - at = omega (arith, ap length is) in
-          let e : taken t d (length before - at)
-          ≡ onto (turnLine (turnOf t d .answer)) (record { desk = turnOf t d .desk; text = []; idle = true }) =
-          taken-next t d (length before - at) ∙ rw (le-leb _ _ fit, last) in
-          let f : taken t d₀ (length before) ≡ record { desk = turnOf t d .desk; text = take at room ++ line; idle = true } =
+          let fit : length (turnLine (turnOf f d .answer)) ≤ length before - at = omega (arith, ap length is) in
+          let e : taken f d (length before - at)
+          ≡ onto (turnLine (turnOf f d .answer)) (record { desk = turnOf f d .desk; text = []; idle = true }) =
+          taken-next f d (length before - at) ∙ rw (le-leb _ _ fit, last) in
+          let all : taken f d₀ (length before) ≡ record { desk = turnOf f d .desk; text = take at room ++ line; idle = true } =
           goes-so ∙ rw (e, is, append-nil) in
-          rw f (record {
+          rw all (record {
             desk = rd;
             count = rc ∙ sym end-is;
             idle = ri;

@@ -11,14 +11,15 @@ use lib.ListN.{length, take, drop}
 use Rattle.basis.specs.Answer.{gives}
 use Rattle.numerals.specs.Writing.{textIn}
 use Rattle.numerals.specs.declared.Text.{Text}
+use Rattle.seat.specs.Files.{Files}
 use Rattle.seat.specs.Answers.{turnMeaning, idle}
 use Rattle.seat.specs.declared.TurnAnswer.the-variants as TV
 use Rattle.desk.specs.Answers.{afterTurn}
-use Rattle.desk.specs.Desk.{turnOf, nextOf}
+use Rattle.desk.specs.Desk.{nextOf, haveLengths, turnOf}
 use Rattle.desk.specs.declared.Desk.{Desk}
 use Rattle.desk.specs.declared.AfterTurn.{AfterTurn}
 use Rattle.desk_laws.proofs.Sound.{Sound}
-use Rattle.desk_laws.proofs.Steps.{turn-length}
+use Rattle.desk_laws.proofs.Steps.{turn-lengths}
 use Rattle.desk_laws.proofs.Lasting.{turn-lasts}
 use Rattle.lines.specs.Text.{turnLine, Holds}
 use Rattle.lines.specs.Turns.{isIdle, taken, Ran}
@@ -28,26 +29,26 @@ use Rattle.lines.proofs.Putting.{Put, put-fits, put-end, put-room, put-
 use Rattle.lines.proofs.Going.{Going, going-stops, going-full, going-on, going-idle}
 
 -- where the loop stands
-pub record Loop (t before : List ℕ) (d₀ : Desk) (room : List ℕ) (d : Desk) (at : ℕ) : Type 0 where
+pub record Loop (f : Files) (before : List ℕ) (d₀ : Desk) (room : List ℕ) (d : Desk) (at : ℕ) : Type 0 where
   pub sound : Sound d
-  pub same : length t ≡ d .«timetable_length»
-  pub going : Going t d₀ before d at room
+  pub same : haveLengths f d ≡ true
+  pub going : Going f d₀ before d at room
 
-module _ {t before room : List ℕ} {d₀ d : Desk} {at : ℕ} (g : Loop t before d₀ room d at) where
+module _ {f : Files} {before room : List ℕ} {d₀ d : Desk} {at : ℕ} (g : Loop f before d₀ room d at) where
   -- the room is full
-  pub ran-full : length room ≤ at → Ran (record { desk = d; written = record { count = at; idle = false } }) (taken t d₀ (length before)) before room
-  ran-full l = going-full t d₀ before d at room (g .going) (omega (arith, g .going .size)) _ refl refl refl
+  pub ran-full : length room ≤ at → Ran (record { desk = d; written = record { count = at; idle = false } }) (taken f d₀ (length before)) before room
+  ran-full l = going-full f d₀ before d at room (g .going) (omega (arith, g .going .size)) _ refl refl refl
 
   -- a turn of the desk, and the line of its answer, put where it fits
-  module _ (r : AfterTurn) (h : afterTurn r ≡ nextOf t d) (line : Text) (hl : Holds line (turnLine (turnMeaning (r .answer))))
+  module _ (r : AfterTurn) (h : afterTurn r ≡ nextOf f d) (line : Text) (hl : Holds line (turnLine (turnMeaning (r .answer))))
       {end : ℕ} {room′ : List ℕ} (p : Put at line room end room′) where
-    answer-is : turnMeaning (r .answer) ≡ turnOf t d .answer
-    answer-is = next-answer t d (g .sound) (g .same) r h
+    answer-is : turnMeaning (r .answer) ≡ turnOf f d .answer
+    answer-is = next-answer f d (g .sound) (g .same) r h
 
-    desk-is : r .desk ≡ turnOf t d .desk
-    desk-is = next-desk t d (g .sound) (g .same) r h
+    desk-is : r .desk ≡ turnOf f d .desk
+    desk-is = next-desk f d (g .sound) (g .same) r h
 
-    line-is : textIn line ≡ turnLine (turnOf t d .answer)
+    line-is : textIn line ≡ turnLine (turnOf f d .answer)
     line-is = hl .text ∙ ap turnLine answer-is
 
     long : length (textIn line) ≡ line .len
@@ -57,11 +58,11 @@ module _ {t before room : List ℕ} {d₀ d : Desk} {at : ℕ} (g : Loop t befor
     has-byte = omega (arith, hl .size, line-some (turnMeaning (r .answer)))
 
     -- its line does not fit
-    pub ran-out : end ≤ at → Ran (record { desk = d; written = record { count = at; idle = false } }) (taken t d₀ (length before)) before room′
+    pub ran-out : end ≤ at → Ran (record { desk = d; written = record { count = at; idle = false } }) (taken f d₀ (length before)) before room′
     ran-out l =
         let m = put-lacks at line room p has-byte l in
         rw (put-nothing at line room p has-byte l)
-        (going-stops t d₀ before d at room (g .going) (omega (arith, g .going .size, long, ap length line-is)) _ refl refl refl)
+        (going-stops f d₀ before d at room (g .going) (omega (arith, g .going .size, long, ap length line-is)) _ refl refl refl)
 
     module _ (l : at < end) where
       in-room : at + length (textIn line) ≤ length before
@@ -73,30 +74,30 @@ module _ {t before room : List ℕ} {d₀ d : Desk} {at : ℕ} (g : Loop t befor
       put-is : room′ ≡ take at room ++ (textIn line ++ drop (at + length (textIn line)) room)
       put-is = rw long (put-room at line room p l)
 
-      pub goes-on : isIdle (turnMeaning (r .answer)) ≡ false → Loop t before d₀ room′ (r .desk) end
+      pub goes-on : isIdle (turnMeaning (r .answer)) ≡ false → Loop f before d₀ room′ (r .desk) end
       goes-on no-idle =
           let q = rw answer-is at no-idle in
-          let x = going-on t d₀ before d at room (g .going) (textIn line) line-is in-room room′ put-is q in
+          let x = going-on f d₀ before d at room (g .going) (textIn line) line-is in-room room′ put-is q in
           rw (desk-is, end-is)
           (record {
-            sound = turn-lasts d (g .sound) t;
-            same = g .same ∙ sym (turn-length t d);
+            sound = turn-lasts d (g .sound) f;
+            same = turn-lengths f f d ∙ g .same;
             going = x;
           })
 
       ran-last : isIdle (turnMeaning (r .answer)) ≡ true
-          → Ran (record { desk = r .desk; written = record { count = end; idle = true } }) (taken t d₀ (length before)) before room′
+          → Ran (record { desk = r .desk; written = record { count = end; idle = true } }) (taken f d₀ (length before)) before room′
       ran-last is-idle =
           let q = rw answer-is at is-idle in
-          going-idle t d₀ before d at room (g .going) (textIn line) line-is in-room room′ put-is q _ desk-is end-is refl
+          going-idle f d₀ before d at room (g .going) (textIn line) line-is in-room room′ put-is q _ desk-is end-is refl
 
   -- at Idle it stops, whether the line fits or not
-  module _ (h : afterTurn (record { desk = d; answer = TV.Idle }) ≡ nextOf t d) (line : Text) (hl : Holds line (turnLine (gives idle)))
+  module _ (h : afterTurn (record { desk = d; answer = TV.Idle }) ≡ nextOf f d) (line : Text) (hl : Holds line (turnLine (gives idle)))
       {end : ℕ} {room′ : List ℕ} (p : Put at line room end room′) where
-    pub ran-idle : Ran (record { desk = d; written = record { count = end; idle = ltb at end } }) (taken t d₀ (length before)) before room′
+    pub ran-idle : Ran (record { desk = d; written = record { count = end; idle = ltb at end } }) (taken f d₀ (length before)) before room′
     ran-idle = go (ltb at end) refl
       where
-        go : (b : Bool) → ltb at end ≡ b → Ran (record { desk = d; written = record { count = end; idle = ltb at end } }) (taken t d₀ (length before)) before room′
+        go : (b : Bool) → ltb at end ≡ b → Ran (record { desk = d; written = record { count = end; idle = ltb at end } }) (taken f d₀ (length before)) before room′
         go true e = rw e (ran-last (record { desk = d; answer = TV.Idle }) h line hl p (ltb-true _ _ e) refl)
         go false e =
             let l : end ≤ at = ltb-false _ _ e in

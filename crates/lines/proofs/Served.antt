@@ -2,32 +2,31 @@
 -- stored, and that is the turn.
 use mathlib.Core.Path.{_≡_, refl, sym, ap, _∙_}
 use mathlib.Core.Bool.{Bool, true, false}
-use mathlib.Core.List.{List}
 use mathlib.Core.Logic.{⊎-elim}
 use Prim.Native.Nat.{ℕ, _+_, _-_, _%_, _≤_, _<_}
 use native.Mathlib.Omega.{arith}
 use borrow.Author.Tests.{lt-ltb, le-ltb}
 use lib.ListN.{length}
 use Rattle.basis.specs.Answer.{gives}
-use Rattle.timetable.specs.Lines.{nextLine}
-use Rattle.timetable.proofs.Offsets.{line-or-end}
+use Rattle.seat.specs.Files.{Files}
 use Rattle.seat.specs.Bounds.{maxTimetable}
 use Rattle.seat.specs.Query.{Result, hit, miss, unreadable}
 use Rattle.seat.specs.Answers.{turnMeaning}
 use Rattle.seat.specs.Soundness.{seatSound}
-use Rattle.seat.specs.Serving.{judgedAs, resultOf, serveOf, Steps}
+use Rattle.seat.specs.Serving.{afterLine, resultOf, judgedAs, serveOf, Steps}
 use Rattle.seat.specs.declared.Seat.{Seat}
 use Rattle.seat.specs.declared.AfterServing.{AfterServing}
 use Rattle.seat.specs.declared.TurnAnswer.the-variants as TV
-use Rattle.seat.proofs.Serving.{serve-line, serve-done}
+use Rattle.seat.proofs.Serving.{line-or-done, serve-line, serve-done}
 use Rattle.desk.specs.Bounds.{seatCount}
 use Rattle.desk.specs.Answers.{afterTurn}
 use Rattle.desk.specs.Scan.{first}
 use Rattle.desk.specs.Seats.{seatAt, heldIs, firstFrom}
-use Rattle.desk.specs.Desk.{nextOf}
+use Rattle.desk.specs.Desk.{nextOf, haveLengths}
 use Rattle.desk.specs.declared.Desk.{Desk}
 use Rattle.desk.specs.declared.AfterTurn.{AfterTurn}
 use Rattle.desk.proofs.Scans.{first-hit, first-miss, first-end, first-found, beq-true}
+use Rattle.desk.proofs.Lengths.{lengths-same}
 use Rattle.desk_laws.proofs.Sound.{Sound, replaced}
 use Rattle.lines.specs.Turns.{isIdle}
 
@@ -75,31 +74,32 @@ judged-some next s hit = refl
 judged-some next s miss = refl
 judged-some next s (unreadable n) = refl
 
-served-some : (t : List ℕ) (s : Seat) → isIdle (gives (serveOf t s .answer)) ≡ false
-served-some t s =
-    ⊎-elim (λ b. rw (serve-line t s b) (judged-some (nextLine t (s .offset)) s (resultOf t s))) (λ b. rw (serve-done t s b) refl)
-    (line-or-end t (s .offset))
+served-some : (f : Files) (s : Seat) → isIdle (gives (serveOf f s .answer)) ≡ false
+served-some f s =
+    ⊎-elim (λ b. rw (serve-line f s b) (judged-some (afterLine f s) s (resultOf f s))) (λ b. rw (serve-done f s b) refl)
+    (line-or-done f s)
 
-module _ (t : List ℕ) (d : Desk) (j : ℕ) (f : Found d j) where
+module _ (f : Files) (d : Desk) (j : ℕ) (at : Found d j) where
   -- no seat is held
-  pub idle-next : endOf d ≤ j → afterTurn (record { desk = d; answer = TV.Idle }) ≡ nextOf t d
+  pub idle-next : endOf d ≤ j → afterTurn (record { desk = d; answer = TV.Idle }) ≡ nextOf f d
   unfolding nextOf
-  idle-next l = rw (f, le-ltb _ _ l)
+  idle-next l = rw (at, le-ltb _ _ l)
 
   module _ (l : j < endOf d) where
     -- the seat found can be served
-    pub found-sound : Sound d → length t ≡ d .«timetable_length»
-        → ((k : ℕ) × (seatSound k (length t) (seatAt d (j % seatCount)) ≡ true)) × (length t ≤ maxTimetable)
+    pub found-sound : Sound d → haveLengths f d ≡ true
+        → ((k : ℕ) × (seatSound k (length (f .timetable)) (seatAt d (j % seatCount)) ≡ true)) × (length (f .timetable) ≤ maxTimetable)
     found-sound o e =
-        let m : firstFrom d true (d .«last_served» + 1) < endOf d = omega (arith, f) in
-        let held : heldIs d true j ≡ true = rw (sym f) (first-found (heldIs d true) (d .«last_served» + 1) seatCount m) in
-        ((d .issued, rw e (o .seat (j % seatCount) (omega arith) (beq-true _ held))), omega (arith, o .short, e))
+        let same = lengths-same f d e in
+        let m : firstFrom d true (d .«last_served» + 1) < endOf d = omega (arith, at) in
+        let held : heldIs d true j ≡ true = rw (sym at) (first-found (heldIs d true) (d .«last_served» + 1) seatCount m) in
+        ((d .issued, rw same (o .seat (j % seatCount) (omega arith) (beq-true _ held))), omega (arith, o .short, same))
 
     -- stored, it is the turn, and that is not Idle
-    module _ (x : AfterServing) (s : Steps x (serveOf t (seatAt d (j % seatCount)))) where
-      pub stored-next : afterTurn (stored d (j % seatCount) x) ≡ nextOf t d
+    module _ (x : AfterServing) (s : Steps x (serveOf f (seatAt d (j % seatCount)))) where
+      pub stored-next : afterTurn (stored d (j % seatCount) x) ≡ nextOf f d
       unfolding nextOf
-      stored-next = rw (f, lt-ltb _ _ l, s .seat, s .answer)
+      stored-next = rw (at, lt-ltb _ _ l, s .seat, s .answer)
 
       pub stored-some : isIdle (turnMeaning (x .answer)) ≡ false
-      stored-some = rw (s .answer) (served-some t (seatAt d (j % seatCount)))
+      stored-some = rw (s .answer) (served-some f (seatAt d (j % seatCount)))

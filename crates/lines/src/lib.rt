@@ -11,7 +11,9 @@ ghost use lib.Dec.{leb};
 ghost use lib.ListN.{length, take, drop};
 ghost use Rattle.basis.specs.Choice.{pick};
 ghost use Rattle.numerals.specs.Writing.{textIn, longest};
+ghost use Rattle.seat.specs.Files.{over};
 ghost use Rattle.desk.specs.Soundness.{soundOf};
+ghost use Rattle.desk.specs.Desk.{haveLengths};
 ghost use Rattle.lines.specs.Turns.{taken, Ran, turnsOf, roomAfter, turnsMeaning, afterTurns};
 
 pub mod text; // text.rt: the lines themselves
@@ -63,8 +65,8 @@ fn put_fitting(room: &mut [u8], at: usize, line: Text) -> usize
 // Turns of a desk that is known to be sound, over a timetable of its length: as long as the line of the next one fits. The
 // desk stands in one variable, where a turn stores the one seat that it serves.
 fn take_turns(desk: Desk, t: &[u8], room: &mut [u8]) -> Run
-    requires { ⌜ (soundOf desk ≡ true) × (length (now t) ≡ desk .«timetable_length») ⌝ }
-    ensures { λ r. ⌜ Ran r (taken (now (t .entry)) desk (length (now (room .entry)))) (now (room .entry)) (now (room .exit)) ⌝ }
+    requires { ⌜ (soundOf desk ≡ true) × (haveLengths (over (now t)) desk ≡ true) ⌝ }
+    ensures { λ r. ⌜ Ran r (taken (over (now (t .entry))) desk (length (now (room .entry)))) (now (room .entry)) (now (room .exit)) ⌝ }
 {
     let mut desk = desk;
     let mut count = 0;
@@ -105,7 +107,7 @@ fn take_turns(desk: Desk, t: &[u8], room: &mut [u8]) -> Run
 // Takes turns as long as the next answer's line fits in what is left of the room, and stops after Idle. The desk is
 // checked once. A refusal leaves desk and room as they were.
 pub fn turns(desk: Desk, t: &[u8], room: &mut [u8]) -> AfterTurns
-    ensures { λ r. ⌜ (afterTurns r ≡ turnsOf (now (t .entry)) desk (length (now (room .entry)))) × (now (room .exit) ≡ roomAfter (now (t .entry)) desk (now (room .entry))) ⌝ }
+    ensures { λ r. ⌜ (afterTurns r ≡ turnsOf (over (now (t .entry))) desk (length (now (room .entry)))) × (now (room .exit) ≡ roomAfter (over (now (t .entry))) desk (now (room .entry))) ⌝ }
 {
     if !desk.sound() {
         return AfterTurns {
@@ -142,7 +144,7 @@ pub fn turns(desk: Desk, t: &[u8], room: &mut [u8]) -> AfterTurns
 
 // Takes turns of a desk that is updated where it stands.
 pub fn turns_in(desk: &mut Desk, t: &[u8], room: &mut [u8]) -> TurnsAnswer
-    ensures { λ r. ⌜ (now (desk .exit) ≡ turnsOf (now (t .entry)) (now (desk .entry)) (length (now (room .entry))) .desk) × (turnsMeaning r ≡ turnsOf (now (t .entry)) (now (desk .entry)) (length (now (room .entry))) .answer) × (now (room .exit) ≡ roomAfter (now (t .entry)) (now (desk .entry)) (now (room .entry))) ⌝ }
+    ensures { λ r. ⌜ (now (desk .exit) ≡ turnsOf (over (now (t .entry))) (now (desk .entry)) (length (now (room .entry))) .desk) × (turnsMeaning r ≡ turnsOf (over (now (t .entry))) (now (desk .entry)) (length (now (room .entry))) .answer) × (now (room .exit) ≡ roomAfter (over (now (t .entry))) (now (desk .entry)) (now (room .entry))) ⌝ }
 {
     let after = turns(*desk, t, room);
     *desk = after.desk;

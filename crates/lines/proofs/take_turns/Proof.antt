@@ -5,6 +5,7 @@ use Prim.Native.Nat.{ℕ, _+_, _-_, _%_, _≤_, _<_}
 use lib.ListN.{length}
 use borrow.Author.Needs.{needs}
 use Rattle.numerals.specs.Writing.{longest}
+use Rattle.seat.specs.Files.{over}
 use Rattle.desk.specs.Bounds.{seatCount}
 use Rattle.desk.specs.Answers.{afterTurn}
 use Rattle.desk.specs.Desk.{nextOf}
@@ -30,7 +31,7 @@ abbrev μ-loop2 : tie.MeasureT-loop2
 μ-loop2 t room desk count end j₀ j = end - j
 
 abbrev Inv-loop : tie.InvT-loop
-Inv-loop t room₀ desk₀ count₀ room desk count = Loop t room₀ desk₀ room desk count
+Inv-loop t room₀ desk₀ count₀ room desk count = Loop (over t) room₀ desk₀ room desk count
 
 abbrev μ-loop : tie.MeasureT-loop
 μ-loop t room₀ desk₀ count₀ room desk count = length room₀ - count
@@ -49,7 +50,7 @@ after x =
 
 turned : (x : tie.After-served Inv-loop2 μ-loop2 Inv-loop μ-loop)
     → afterTurn (after x)
-    ≡ nextOf (x .before .before .before .before .before .before .before .before .before .args .t .now) (x .before .before .before .before .before .before .loop .desk)
+    ≡ nextOf (over (x .before .before .before .before .before .before .before .before .before .args .t .now)) (x .before .before .before .before .before .before .loop .desk)
 turned x = stored-next _ _ _ (found (x .before .before .before)) (x .before .before .if2 .left) (x .served .result) (x .served .ensures)
 
 loop-holds : tie.Need-loop-holds Inv-loop2 μ-loop2 Inv-loop μ-loop
@@ -115,7 +116,7 @@ served-requires c κs =
     let x = c .before .before in
     let o = x .before .before .before .loop in
     let t = x .before .before .before .before .before .before .args .t .now in
-    found-sound t (o .desk) (x .before .loop2 .j) (found x) (c .before .if2 .left) (o .inv .sound) (o .inv .same)
+    found-sound (over t) (o .desk) (x .before .loop2 .j) (found x) (c .before .if2 .left) (o .inv .sound) (o .inv .same)
 
 turn-line-requires-2 : tie.Need-turn-line-requires-2 Inv-loop2 μ-loop2 Inv-loop μ-loop
 turn-line-requires-2 c κs =

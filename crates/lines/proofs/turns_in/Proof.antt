@@ -41,6 +41,7 @@ use denote.Triple.Table.{entered, cited}
 use denote.Triple.Walked.{says, Stays, stay-ref, stay-none-slice, gave-slice, walkOf, AllGo, goes-none-slice, goes-gave-slice, goes-ref, Walks, ends-at, walked, walk-meets}
 use denote.Exit.{yes}
 use denote.Triple.Clauses.{ensured, lasts}
+use Rattle.seat.specs.Files.{over}
 use Rattle.desk.specs.Answers.{After}
 use Rattle.desk.specs.declared.Desk.{Desk}
 use Rattle.desk.proofs.Desk as T
@@ -118,7 +119,7 @@ module _ {M : Type 1} (𝓤 : URA M) (H : Heap 𝓤) (A : Atoms 𝓤) (W : Given
 
   -- what the call of `turns` ensures
   abbrev Says : AfterTurns → List ℕ → Type 0
-  Says r zs = (afterTurns r ≡ turnsOf (s .now) h (length ys)) × (zs ≡ roomAfter (s .now) h ys)
+  Says r zs = (afterTurns r ≡ turnsOf (over (s .now)) h (length ys)) × (zs ≡ roomAfter (over (s .now)) h ys)
 
   asked : Is T.the-row h (dv h ∷ []) → ent 𝓤 (⋆ 𝓤 H A (‵ Own ∷ ‵ OwnM ∷ (‵ (flft κ′ q′) ⊛ ‵ (flft κ″ q″) ⊛ ‵ ftrue) ∷ [])) (Turn 𝓤 H A at-mem run .pre to)
   asked was =
