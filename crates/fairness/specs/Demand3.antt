@@ -74,7 +74,7 @@ answerFor k offset hit = hitAt k offset
 answerFor k offset miss = missAt k offset
 answerFor k offset (unreadable n) = unreadableAt k offset n
 
--- the answers at some lines, where the condition c was asked for
+-- the answers at some lines to a query with the condition c
 abbrev pub lineAnswers : ℕ → List ℕ → List Line → List Turned
 lineAnswers k c ls = map (λ l. answerFor k (l .offset) (resultAt c (l .text))) ls
 
