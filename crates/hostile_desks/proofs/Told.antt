@@ -4,7 +4,7 @@ use mathlib.Core.Path.{_≡_, refl, ap, _∙_}
 use mathlib.Core.Bool.{Bool, true, false}
 use Prim.Native.Nat.{ℕ}
 use lib.ListN.{length}
-use Rattle.basis.specs.Answer.{Answer, refuses}
+use Rattle.basis.specs.Answer.{refuses}
 use Rattle.value.specs.Refusals.{wrongTimetable, notSound}
 use Rattle.seat.specs.Files.{Files}
 use Rattle.seat.specs.Answers.{Turned, turnMeaning}

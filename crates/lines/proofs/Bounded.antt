@@ -1,14 +1,14 @@
 -- A sound desk's answers have offsets and counts within a timetable's bound, so that their lines fit the text that is
 -- written; and what its turn hands back is what a turn of its own would.
-use mathlib.Core.Path.{_≡_, refl, sym, ap, _∙_}
+use mathlib.Core.Path.{_≡_, sym, ap, _∙_}
 use mathlib.Core.Bool.{true}
 use mathlib.Core.List.{List}
 use mathlib.Core.Logic.{⊎-elim}
-use Prim.Native.Nat.{ℕ, _+_, _%_, _≤_, _<_, min}
+use Prim.Native.Nat.{ℕ, _+_, _%_, _≤_}
 use native.Mathlib.Omega.{arith}
-use lib.ListN.{length, take, length-take}
+use lib.ListN.{length, length-take}
 use Rattle.basis.specs.Answer.{gives}
-use Rattle.numerals.specs.Writing.{textIn, longest}
+use Rattle.numerals.specs.Writing.{longest}
 use Rattle.numerals.specs.declared.Text.{Text}
 use Rattle.seat.specs.Files.{Files}
 use Rattle.seat.specs.Bounds.{maxTimetable}

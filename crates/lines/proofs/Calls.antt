@@ -1,6 +1,6 @@
 -- The call that takes many turns: refused as not having room exactly where the first line does not fit, and then nothing was
 -- written; else it hands back what the turns gave.
-use mathlib.Core.Path.{_≡_, refl, sym, ap, _∙_}
+use mathlib.Core.Path.{_≡_, refl, sym, _∙_}
 use mathlib.Core.Bool.{Bool, true, false}
 use mathlib.Core.List.{List, [], _++_, map}
 use Prim.Native.Nat.{ℕ, _-_, _≤_, _<_}
@@ -8,7 +8,7 @@ use native.Mathlib.Omega.{arith}
 use lib.Dec.{leb}
 use lib.ListN.{length, drop, length-append, length-map}
 use Rattle.basis.specs.Choice.{pick}
-use Rattle.basis.specs.Answer.{Answer, gives, refuses}
+use Rattle.basis.specs.Answer.{gives}
 use Rattle.value.specs.Refusals.{noRoom}
 use Rattle.seat.specs.Files.{Files}
 use Rattle.desk.specs.Answers.{After}

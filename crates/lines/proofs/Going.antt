@@ -1,22 +1,18 @@
 -- The loop that takes turns: what it has written so far, and what is still to come in the room that is left.
 use mathlib.Core.Path.{_≡_, refl, sym, ap, _∙_}
-use mathlib.Core.Bool.{Bool, true, false}
-use mathlib.Core.List.{List, [], _∷_, _++_, append-assoc, append-nil}
-use Prim.Native.Nat.{ℕ, zero, suc, _+_, _-_, _≤_, _<_}
+use mathlib.Core.Bool.{true, false}
+use mathlib.Core.List.{List, [], _++_, append-assoc, append-nil}
+use Prim.Native.Nat.{ℕ, _+_, _-_, _≤_, _<_}
 use native.Mathlib.Omega.{arith}
 use borrow.Author.Tests.{le-leb, lt-leb}
 use lib.ListN.{length, take, drop, length-append, length-drop}
-use lib.Seq.{take-at, drop-at, length-take-le, drop-drop, take-append-seam}
-use Rattle.basis.specs.Answer.{Answer, gives, refuses}
+use lib.Seq.{take-at, drop-at, length-take-le, drop-drop}
 use Rattle.seat.specs.Files.{Files}
-use Rattle.seat.specs.Bounds.{maxTimetable}
-use Rattle.seat.specs.Answers.{Turned, idle, hitAt, missAt, unreadableAt, doneWith}
+use Rattle.seat.specs.Answers.{idle}
 use Rattle.desk.specs.Desk.{turnOf}
 use Rattle.desk.specs.declared.Desk.{Desk}
-use Rattle.desk_laws.proofs.Sound.{Sound}
-use Rattle.desk_laws.proofs.Lasting.{turn-lasts}
 use Rattle.lines.specs.Text.{turnLine}
-use Rattle.lines.specs.Turns.{isIdle, Taken, none, onto, taken, Ran}
+use Rattle.lines.specs.Turns.{isIdle, none, onto, taken, Ran}
 use Rattle.lines.specs.declared.Run.{Run}
 use Rattle.lines.proofs.Counting.{line-some, taken-next}
 
