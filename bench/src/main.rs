@@ -3,6 +3,7 @@
 //!     bench PROVED INDEPENDENT FOLDER      the cases are written into FOLDER
 
 mod basex;
+mod goals;
 mod inputs;
 mod measure;
 mod plan;
@@ -41,7 +42,7 @@ fn run(programs: &Programs, work: &Path) -> io::Result<()> {
     let queries: io::Result<Vec<Option<f64>>> = plan.of(Series::Asked).into_iter().map(basex::query_time).collect();
     let shares = Shares::new(&plan, profiles.as_ref());
     report::method(&plan);
-    report::goals(&plan, &shares);
+    goals::goals(&plan, &shares, profiles.as_ref());
     report::turns_a_second(&plan);
     report::seats(&plan);
     report::timetable(&plan);

@@ -27,7 +27,7 @@ pub const PARTS: [(Part, &str); 6] = [
         "comparing and computing: `operation`, `arithmetic`, `ordering`, `adjusting`, `casting`, `shifting`, `quantities`, `instants`, `value`, \
          `results`, `givens`, `sorts`, `operators`",
     ),
-    (Part::Copying, "bytes copied, above all the desk handed on by value: `memcpy`, `memset`"),
+    (Part::Copying, "bytes copied: `memcpy`, `memset`"),
     (Part::Desk, "all else: seats, lines found, output lines"),
 ];
 
@@ -43,6 +43,11 @@ impl Profile {
 
     pub fn total(&self) -> u64 {
         self.counts.values().sum()
+    }
+
+    /// Of all instructions but those of the walk over the years.
+    pub fn share_without_the_walk(&self, part: Part) -> f64 {
+        self.of(part) as f64 / (self.total() - self.of(Part::YearWalk)) as f64
     }
 }
 
@@ -115,5 +120,6 @@ mod tests {
         assert_eq!(profile.of(Part::ConditionText), 6);
         assert_eq!(profile.of(Part::YearWalk), 30);
         assert_eq!(profile.of(Part::Copying), 1);
+        assert_eq!(profile.share_without_the_walk(Part::Copying), 1.0 / 7.0);
     }
 }

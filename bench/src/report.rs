@@ -19,18 +19,22 @@ pub fn method(plan: &Plan) {
     println!("at each turn; the independent one also makes all of Open's checks of it again.");
 }
 
-fn heading(title: &str, columns: &[&str]) {
+pub fn heading(title: &str, columns: &[&str]) {
     println!("\n### {title}\n");
     println!("| {} |", columns.join(" | "));
     println!("|{}", "---|".repeat(columns.len()));
 }
 
-fn row(cells: &[String]) {
+pub fn row(cells: &[String]) {
     println!("| {} |", cells.join(" | "));
 }
 
-fn times(ratio: f64) -> String {
+pub fn times(ratio: f64) -> String {
     format!("{ratio:.2}")
+}
+
+pub fn percent(share: f64) -> String {
+    format!("{:.1}%", 100.0 * share)
 }
 
 fn nanoseconds(cost: f64) -> String {
@@ -159,16 +163,14 @@ pub fn instructions(plan: &Plan, profiles: Option<&[Profile; 2]>) {
         return;
     };
     heading(title, &columns);
-    let percent = |part: u64, whole: u64| format!("{:.1}%", 100.0 * part as f64 / whole as f64);
     let turns = plan.last(Series::Profiled).turns as u64;
-    let rest = early.total() - early.of(Part::YearWalk);
     for (part, name) in PARTS {
-        let without = if part == Part::YearWalk { String::new() } else { percent(early.of(part), rest) };
+        let without = if part == Part::YearWalk { String::new() } else { percent(early.share_without_the_walk(part)) };
         let [in_late, in_early] = [late.of(part), early.of(part)];
         row(&[
             name.to_string(),
             thousands(in_late / turns),
-            percent(in_late, late.total()),
+            percent(in_late as f64 / late.total() as f64),
             thousands(in_early / turns),
             without,
         ]);
@@ -202,49 +204,4 @@ pub fn basex(plan: &Plan, queries: &[Option<f64>]) {
     }
     println!("\nOne query that counts the hits of each condition; its counts are the desk's. Elapsed time, the average of the first {}", basex::RUNS);
     println!("runs within one start of BaseX: the start is left out, the reading of the query and of the timetable is not.");
-}
-
-/// What counts as the same: a cost may be so many times another and still not have grown.
-const SAME: f64 = 1.1;
-/// The most that the proved program may take without the walk over the years, times the independent one's time.
-const MOST_TIMES: f64 = 3.0;
-
-pub fn goals(plan: &Plan, shares: &Shares) {
-    heading("Goals", &["Goal", "Figure", "Met"]);
-    let grown = |series| plan.last(series).costs().proved / plan.of(series)[0].costs().proved;
-    let held = [Series::SeatsOverDelays, Series::SeatsOverDepartures].map(grown);
-    let [delays, departures] = held.map(times);
-    goal(
-        "a cost of a turn that does not grow with the number of held seats",
-        format!("with 16 seats {delays} times that with 1 (delays), {departures} times (departures)"),
-        held.iter().all(|&ratio| ratio <= SAME),
-    );
-    let timetable = grown(Series::TimetableBytes);
-    let figure = format!("cost of a turn over 65,536 bytes {} times that over 8,192", times(timetable));
-    goal("linear in the timetable's length", figure, timetable <= SAME);
-    let above = [Series::Spaces, Series::TestsReadOver, Series::TestsEvaluated].map(|series| above_line(&plan.of(series)));
-    let [spaces, read_over, evaluated] = above.map(times);
-    goal(
-        "linear in the condition's length",
-        format!("the longest costs {spaces} (spaces), {read_over} (tests read), {evaluated} (tests evaluated) times what the line through two shorter ones gives"),
-        above.iter().all(|&ratio| ratio <= SAME),
-    );
-    let ratio = shares.rest() / plan.last(Series::Asked).costs().independent;
-    goal(
-        "without the walk over the years at most 3 times the independent program's time, 16 conditions over departures",
-        format!("{}{} times", if shares.exact { "" } else { "at most " }, times(ratio)),
-        ratio <= MOST_TIMES,
-    );
-    println!("\nUp to {SAME} times counts as the same.");
-}
-
-fn goal(name: &str, figure: String, met: bool) {
-    row(&[name.to_string(), figure, if met { "yes" } else { "no" }.to_string()]);
-}
-
-/// The cost of the longest condition over that on the straight line through the first one and the last but one.
-fn above_line(cases: &[&Case]) -> f64 {
-    let [first, .., middle, last] = cases else { panic!("a series has at least three cases") };
-    let expected = first.costs().proved + byte_costs(first, middle).proved * (length(last) - length(first)) as f64;
-    last.costs().proved / expected
 }

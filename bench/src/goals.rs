@@ -1,0 +1,101 @@
+//! The goals, the figure of each and whether it is met.
+
+use crate::inputs::FIRST_YEAR;
+use crate::measure::{Case, Costs};
+use crate::plan::{Plan, Series};
+use crate::profile::{Part, Profile};
+use crate::report::{heading, percent, row, times};
+use crate::shares::{byte_costs, length, Shares};
+
+/// What counts as the same: a cost may be so many times another and still not have grown.
+const SAME: f64 = 1.1;
+/// The most that the proved program may take without the walk over the years, times the independent one's time.
+const MOST_TIMES: f64 = 3.0;
+/// The most that it may take for a short test over delays, times the independent one's time.
+const MOST_TIMES_SHORT: f64 = 0.65;
+/// The most of a turn's instructions without the walk over the years that may copy bytes.
+const MOST_COPYING: f64 = 0.02;
+
+pub fn goals(plan: &Plan, shares: &Shares, profiles: Option<&[Profile; 2]>) {
+    heading("Goals", &["Goal", "Figure", "Met"]);
+    seats(plan);
+    timetable(plan);
+    condition(plan);
+    without_the_walk(plan, shares);
+    short_test(plan);
+    copying(profiles);
+    println!("\nUp to {SAME} times counts as the same. The short test is the first one over delays below, of 48 bytes.");
+}
+
+fn goal(name: &str, figure: String, met: bool) {
+    row(&[name.to_string(), figure, if met { "yes" } else { "no" }.to_string()]);
+}
+
+/// The cost of the greatest case of a series over that of its first.
+fn grown(plan: &Plan, series: Series) -> f64 {
+    plan.last(series).costs().proved / plan.of(series)[0].costs().proved
+}
+
+fn seats(plan: &Plan) {
+    let held = [Series::SeatsOverDelays, Series::SeatsOverDepartures].map(|series| grown(plan, series));
+    let [delays, departures] = held.map(times);
+    goal(
+        "a cost of a turn that does not grow with the number of held seats",
+        format!("with 16 seats {delays} times that with 1 (delays), {departures} times (departures)"),
+        held.iter().all(|&ratio| ratio <= SAME),
+    );
+}
+
+fn timetable(plan: &Plan) {
+    let ratio = grown(plan, Series::TimetableBytes);
+    let figure = format!("cost of a turn over 65,536 bytes {} times that over 8,192", times(ratio));
+    goal("linear in the timetable's length", figure, ratio <= SAME);
+}
+
+fn condition(plan: &Plan) {
+    let above = [Series::Spaces, Series::TestsReadOver, Series::TestsEvaluated].map(|series| above_line(&plan.of(series)));
+    let [spaces, read_over, evaluated] = above.map(times);
+    goal(
+        "linear in the condition's length",
+        format!("the longest costs {spaces} (spaces), {read_over} (tests read), {evaluated} (tests evaluated) times what the line through two shorter ones gives"),
+        above.iter().all(|&ratio| ratio <= SAME),
+    );
+}
+
+/// The cost of the longest condition over that on the straight line through the first one and the last but one.
+fn above_line(cases: &[&Case]) -> f64 {
+    let [first, .., middle, last] = cases else { panic!("a series has at least three cases") };
+    let expected = first.costs().proved + byte_costs(first, middle).proved * (length(last) - length(first)) as f64;
+    last.costs().proved / expected
+}
+
+fn without_the_walk(plan: &Plan, shares: &Shares) {
+    let ratio = shares.rest() / plan.last(Series::Asked).costs().independent;
+    goal(
+        &format!("without the walk over the years at most {MOST_TIMES} times the independent program's time, 16 conditions over departures"),
+        format!("{}{} times", if shares.exact { "" } else { "at most " }, times(ratio)),
+        ratio <= MOST_TIMES,
+    );
+}
+
+fn short_test(plan: &Plan) {
+    let Costs { proved, independent } = plan.of(Series::Spaces)[0].costs();
+    let ratio = proved / independent;
+    goal(
+        &format!("a short test over delays at most {MOST_TIMES_SHORT} times the independent program's time"),
+        format!("{} times", times(ratio)),
+        ratio <= MOST_TIMES_SHORT,
+    );
+}
+
+fn copying(profiles: Option<&[Profile; 2]>) {
+    let most = percent(MOST_COPYING);
+    let name = format!("bytes copied (`memcpy`, `memset`) at most {most} of a turn's instructions without the walk over the years, 16 conditions over departures");
+    match profiles {
+        None => row(&[name.as_str(), "valgrind is not there", "not measured"].map(str::to_string)),
+        Some([_, early]) => {
+            let share = early.share_without_the_walk(Part::Copying);
+            goal(&name, format!("{} (year {FIRST_YEAR})", percent(share)), share <= MOST_COPYING);
+        }
+    }
+}
