@@ -2,7 +2,7 @@
 use mathlib.Core.Path.{_≡_, refl, ap, sym, _∙_}
 use mathlib.Core.Bool.{Bool, true, false}
 use mathlib.Core.List.{List, [], _∷_, _++_, append-assoc}
-use Prim.Native.Nat.{ℕ, zero, suc, _+_, _-_, _*_, _/_, _%_, _^_, _≤_, _<_}
+use Prim.Native.Nat.{ℕ, zero, suc, _+_, _*_, _/_, _%_, _^_, _≤_, _<_}
 use native.Mathlib.Nat.{pow-suc, mul-assoc}
 use native.Mathlib.Omega.{arith}
 use lib.Dec.{ltb}
@@ -14,7 +14,7 @@ use Rattle.numerals.specs.Writing.{digits, shortest, decimal, Added}
 use Rattle.numerals.specs.declared.Text.{Text}
 use Rattle.numerals.proofs.Powers.{few-digits}
 use Rattle.numerals.proofs.Runs.{pass, stop}
-use Rattle.numerals.proofs.Texts.{then, unchanged, named}
+use Rattle.numerals.proofs.Texts.{named}
 
 pub length-digits : (k n : ℕ) → length (digits k n) ≡ k
 unfolding digits
@@ -61,20 +61,6 @@ digits-run k n rest h q =
     let z : 0 * 10 ^ k + n ≡ n = omega arith in
     let y : 0 + k ≡ k = omega arith in
     read-digits k n 0 0 rest h ∙ rw (z, y) (stop n k rest q)
-
--- writing k digits
-pub no-digits : (t : Text) (n k : ℕ) → k ≡ 0 → Added t t (digits k n) k
-unfolding digits
-no-digits t n k e = rw e (unchanged t)
-
-pub one-more : {t u r : Text} (n k : ℕ) → (k ≡ 0 → ⊥) → Added t u (digits (k - 1) (n / 10)) (k - 1) → Added u r ((48 + n % 10) ∷ []) 1 → Added t r (digits k n) k
-unfolding digits
-one-more n zero h a b = absurd (h refl)
-one-more {t} {u} {r} n (suc k) h a b =
-    let e : suc k - 1 ≡ k = omega arith in
-    let c : Added t u (digits k (n / 10)) k = rw e at a in
-    let d : Added t r (digits k (n / 10) ++ (48 + n % 10) ∷ []) (k + 1) = then c b in
-    record { text = d .text; more = omega (arith, d .more) }
 
 -- with digits enough, more change nothing
 enough : (j k n : ℕ) → n < 10 ^ suc j → n < 10 ^ suc k → shortest (suc j) n ≡ shortest (suc k) n
@@ -162,12 +148,29 @@ pub decimal-run : (n : ℕ) (rest : List ℕ) → isDigit (getD rest 0 0) ≡ fa
 unfolding decimal
 decimal-run n rest q = read-shortest (suc n) n rest (few-digits n) ∙ stop n (length (shortest (suc n) n)) rest q
 
--- writing it
-pub wrote-one : {t r : Text} (n : ℕ) → n < 10 → Added t r ((48 + n) ∷ []) 1 → Added t r (decimal n) (length (decimal n))
-wrote-one n h a = named (decimal-one n h) refl a
+-- its digits are so many of its last ones
+shortest-digits : (k n : ℕ) → digits (length (shortest k n)) n ≡ shortest k n
+unfolding digits shortest
+shortest-digits zero n = refl
+shortest-digits (suc k) n = go (ltb n 10) refl (shortest-digits k (n / 10))
+  where
+    go : (b : Bool) → ltb n 10 ≡ b → digits (length (shortest k (n / 10))) (n / 10) ≡ shortest k (n / 10)
+        → digits (length (pick b ((48 + n) ∷ []) (shortest k (n / 10) ++ (48 + n % 10) ∷ []))) n ≡ pick b ((48 + n) ∷ []) (shortest k (n / 10) ++ (48 + n % 10) ∷ [])
+    go true e r =
+        let l : n < 10 = ltb-true n 10 e in
+        let d : n % 10 ≡ n = omega arith in
+        ap (λ (x : ℕ). (48 + x) ∷ []) d
+    go false e r =
+        let l : length (shortest k (n / 10) ++ (48 + n % 10) ∷ []) ≡ suc (length (shortest k (n / 10))) = length-append (shortest k (n / 10)) ((48 + n % 10) ∷ []) ∙ omega arith in
+        ap (λ (m : ℕ). digits m n) l ∙ ap (λ (w : List ℕ). w ++ (48 + n % 10) ∷ []) r
 
-pub wrote-more : {t u r : Text} (n : ℕ) → 10 ≤ n → Added t u (decimal (n / 10)) (length (decimal (n / 10))) → Added u r ((48 + n % 10) ∷ []) 1 → Added t r (decimal n) (length (decimal n))
-wrote-more n h a b = named (decimal-more n h) (sym (length-append (decimal (n / 10)) ((48 + n % 10) ∷ []))) (then a b)
+pub decimal-digits : (n : ℕ) → digits (length (decimal n)) n ≡ decimal n
+unfolding decimal
+decimal-digits n = shortest-digits (suc n) n
+
+-- writing it
+pub wrote-all : {t r : Text} (n k : ℕ) → k ≡ length (decimal n) → Added t r (digits k n) k → Added t r (decimal n) (length (decimal n))
+wrote-all n k e a = named (sym (decimal-digits n) ∙ ap (λ (m : ℕ). digits m n) (sym e)) (sym (length-digits k n)) a
 
 pub decimal-longer : (n : ℕ) → 10 ≤ n → length (decimal n) ≡ length (decimal (n / 10)) + 1
 decimal-longer n h = ap length (decimal-more n h) ∙ length-append (decimal (n / 10)) ((48 + n % 10) ∷ [])

@@ -3,6 +3,7 @@ pub mod Powers
 pub mod Runs
 pub mod Passing
 pub mod Decimals
+pub mod Filling
 pub mod Stripping
 pub mod Texts
 pub mod Fractions

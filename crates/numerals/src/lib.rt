@@ -135,16 +135,35 @@ impl Text {
     }
 }
 
-// k digits of n, with leading zeros.
+// k digits of n, with leading zeros: the last one first, each where it stands.
 pub fn fixed(t: Text, n: u64, k: usize) -> Text
     requires { ⌜ t .len + k ≤ longest ⌝ }
     ensures { λ r. ⌜ Added t r (its.digits k n) k ⌝ }
 {
-    if k == 0 {
-        return t;
+    let mut u = t;
+    let from = t.len;
+    let mut left = n;
+    let mut i = k;
+    while 0 < i {
+        i -= 1;
+        u.bytes[from + i] = (48 + left % 10) as u8;
+        left = left / 10;
     }
-    let u = fixed(t, n / 10, k - 1);
-    u.push((48 + n % 10) as u8)
+    u.len = from + k;
+    u
+}
+
+// How many digits n has without leading zeros.
+pub fn width(n: u64) -> usize
+    ensures { λ r. ⌜ r ≡ length (its.decimal n) ⌝ }
+{
+    let mut left = n;
+    let mut k = 1;
+    while 10 <= left {
+        left = left / 10;
+        k += 1;
+    }
+    k
 }
 
 // n without leading zeros.
@@ -152,11 +171,7 @@ pub fn decimal(t: Text, n: u64) -> Text
     requires { ⌜ t .len + length (its.decimal n) ≤ longest ⌝ }
     ensures { λ r. ⌜ Added t r (its.decimal n) (length (its.decimal n)) ⌝ }
 {
-    if n < 10 {
-        return t.push((48 + n) as u8);
-    }
-    let u = decimal(t, n / 10);
-    u.push((48 + n % 10) as u8)
+    fixed(t, n, width(n))
 }
 
 // A number of k digits without its final zeros.
