@@ -15,16 +15,13 @@ pub enum Class {
 fn letter(b: u8) -> bool
     ensures { λ r. ⌜ r ≡ the.letter b ⌝ }
 {
-    if b == b':' {
-        return true;
-    }
     if b'a' <= b {
         return b <= b'z';
     }
     if b'A' <= b {
         return b <= b'Z';
     }
-    false
+    b == b':'
 }
 
 // Whether a byte is of a class.

@@ -1,20 +1,17 @@
-use Rattle.words.proofs.Letters.{letter-colon, letter-small, letter-capital, letter-other}
+use Rattle.words.proofs.Letters.{letter-small, letter-capital, letter-colon}
 use Rattle.words.proofs.letter.Statement.{statement}
 use Rattle.words.proofs.letter.Tie as tie
 use Rattle.words.proofs.letter.Reads as reads
 use Rattle.words.proofs.letter.Lts as lts
 
 returns : tie.Need-returns
-returns c = search letter-colon
+returns c = search letter-small
 
 returns-2 : tie.Need-returns-2
-returns-2 c = search letter-small
+returns-2 c = search letter-capital
 
 returns-3 : tie.Need-returns-3
-returns-3 c = search letter-capital
-
-returns-4 : tie.Need-returns-4
-returns-4 c = search letter-other
+returns-3 c = search letter-colon
 
 pub letter-spec : {M : Type 1} → statement M
-letter-spec = tie.close (tie.spec returns returns-2 returns-3 returns-4)
+letter-spec = tie.close (tie.spec returns returns-2 returns-3)
