@@ -92,10 +92,6 @@ module _ (s : List ℕ) (x : Read) where
       unfolding closedRead closedAt
       closed-at n h = rw (e, ← q, h)
 
-    pub term-got : (r : Read) → r ≡ termMoreRead s at v → r ≡ termRead s x
-    unfolding termRead
-    term-got r h = rw e h
-
 module _ (s : List ℕ) (v : Part) (at : ℕ) (y : Multiplier) (q : y ≡ multiplierAt s at) where
   scales : (z : Multiplier) → y ≡ z → told (scaled z (got v at) (λ b k p n. termMoreIn Part Mode (parts s []) s (inside 0 s []) n (timesPart b k v))) ≡ termMoreRead s at v
   unfolding termMoreRead
@@ -110,6 +106,20 @@ module _ (s : List ℕ) (v : Part) (at : ℕ) (y : Multiplier) (q : y ≡ multip
   pub star-on : (b : Bool) (k p n : ℕ) (a : Part) (r : Read) → y ≡ T.At b k p n → a ≡ timesPart b k v → r ≡ termMoreRead s n a → r ≡ termMoreRead s at v
   unfolding termMoreRead
   star-on b k p n a r h i j = j ∙ ap (termMoreRead s n) i ∙ scales (T.At b k p n) h
+
+module _ (s : List ℕ) (x : Read) (v : Part) (at : ℕ) (e : x ≡ Got v at) (y : Multiplier) (q : y ≡ multiplierAt s at) where
+  term-got : {r : Read} → r ≡ termMoreRead s at v → r ≡ termRead s x
+  unfolding termRead
+  term-got h = rw e h
+
+  pub term-ends : y ≡ T.No → Got v at ≡ termRead s x
+  term-ends h = term-got (star-no s v at y q h)
+
+  pub term-worse : y ≡ T.Bad → Bad ≡ termRead s x
+  term-worse h = term-got (star-bad s v at y q h)
+
+  pub term-on : (b : Bool) (k p n : ℕ) (a : Part) (r : Read) → y ≡ T.At b k p n → a ≡ timesPart b k v → r ≡ termMoreRead s n a → r ≡ termRead s x
+  term-on b k p n a r h i j = term-got (star-on s v at y q b k p n a r h i j)
 
 module _ (d : ℕ) (s line : List ℕ) where
   -- a chain is its first operand and what follows it

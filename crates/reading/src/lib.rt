@@ -87,7 +87,15 @@ fn term(s: &[u8], read: Read) -> Read
 {
     match read {
         Read::Bad => return Read::Bad,
-        Read::Got(part, at) => return term_more(s, at, part),
+        Read::Got(part, at) => match symbols::star(s, at) {
+            Multiplier::No => return read,
+            Multiplier::Bad => return Read::Bad,
+            Multiplier::At(negative, number, _, n) => return term_more(
+                s,
+                n,
+                times(negative, number, part),
+            ),
+        },
     }
 }
 
