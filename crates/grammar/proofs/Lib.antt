@@ -4,3 +4,10 @@ pub mod Folds
 pub mod Keeps
 pub mod Levels
 pub mod Allowance
+pub mod Runs
+pub mod Standing
+pub mod Found
+pub mod Following
+pub mod Derived
+pub mod Derivations
+pub mod Cases

@@ -1,2 +1,4 @@
 pub mod Grammar
 pub mod Trees
+pub mod Productions
+pub mod Laws

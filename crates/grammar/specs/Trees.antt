@@ -1,4 +1,5 @@
--- Document 01, "Conditions": the tree that a text states.
+-- Document 01, "Conditions": the tree that a text states: its shape, and `parse`, which is how the readers find it. Which tree it is
+-- says Productions.antt.
 use mathlib.Core.Path.{_≡_}
 use Prim.Native.Nat.{ℕ, _≤_}
 use mathlib.Core.Bool.{Bool, false}
