@@ -1,5 +1,5 @@
 -- What it says of a text that Open accepts it, or does not.
-use mathlib.Core.Path.{_≡_, refl, sym, ap, _∙_}
+use mathlib.Core.Path.{_≡_, refl, _∙_}
 use mathlib.Core.Bool.{Bool, true, false}
 use mathlib.Core.List.{List}
 use Prim.Native.Nat.{ℕ, _≤_}
@@ -28,10 +28,6 @@ passes-gives (refuses n) e = let z : _≡_ {A = ℕ} 0 1 = cc in absurd (omega a
 pub accepted-gives : (s : List ℕ) → accepted s ≡ true → checkOf s ≡ gives tt
 unfolding accepted
 accepted-gives s e = passes-gives (checkOf s) e
-
-pub gives-accepted : (s : List ℕ) → checkOf s ≡ gives tt → accepted s ≡ true
-unfolding accepted passes
-gives-accepted s e = rw e
 
 refused-by : (a : Answer (Unit {0})) → passes a ≡ false → (n : ℕ) × (a ≡ refuses n)
 unfolding passes

@@ -7,7 +7,8 @@ use Rattle.timetable.specs.Fields.{fieldsOf, hasField, fieldAt}
 use Rattle.givens.specs.Data.{valued, readField}
 use Rattle.results.specs.Evaluation.{onto, joined, castDatum, timesDatum}
 use Rattle.grammar.specs.Grammar.{Parsed, none, got}
-use Rattle.grammar.specs.Trees.{Tree, leaf, one, two, literal, field, cast, times, parse}
+use Rattle.grammar.specs.Trees.{Tree, leaf, one, two, literal, field, cast, times}
+use Rattle.reading.specs.Lengths.{parseWithin}
 use Rattle.reading.specs.Meaning.{eval}
 use Rattle.condition.specs.Condition.{shown, ofTree, resultAt}
 use Rattle.condition.specs.Laws.{FieldsAlone}
@@ -32,4 +33,4 @@ module _ (s a b : List ℕ) (e : fieldsOf a ≡ fieldsOf b) where
 
 pub fields-alone : FieldsAlone
 unfolding resultAt
-fields-alone s a b e = tree-same s a b e (parse s)
+fields-alone s a b e = tree-same s a b e (parseWithin s)

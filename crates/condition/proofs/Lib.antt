@@ -4,3 +4,4 @@ pub mod Readable
 pub mod OpenNumbers
 pub mod FieldsAlone
 pub mod Answers
+pub mod ByTree

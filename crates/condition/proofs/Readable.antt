@@ -42,8 +42,9 @@ use Rattle.reading.specs.Meaning.{sortOf, eval}
 use Rattle.condition.specs.Condition.{shown, ofTree, resultAt}
 pub use Rattle.condition.specs.Laws.{Readable}
 use Rattle.condition.specs.Laws.{AcceptedReadable}
-use Rattle.condition.proofs.Accepted.{Stated, accepted-stated}
+use Rattle.condition.proofs.Accepted.{Stated, accepted-length, accepted-stated}
 use Rattle.grammar.proofs.Keeps.{All, Bounded, parse-bounded}
+use Rattle.reading.proofs.Wholes.{good-length}
 
 -- what a part of a sort may give
 abbrev Typed : Sort → Answer Datum → Type 0
@@ -203,4 +204,5 @@ stated-readable s line (got t n) h g =
 
 pub accepted-readable : AcceptedReadable
 unfolding resultAt
-accepted-readable s line h = stated-readable s line (parse s) (accepted-stated s h) (parse-bounded s)
+accepted-readable s line h = subst (λ p. Readable (ofTree s line p)) (sym (good-length s (accepted-length s h .1)))
+    (stated-readable s line (parse s) (accepted-stated s h) (parse-bounded s))

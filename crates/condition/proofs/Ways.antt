@@ -24,15 +24,15 @@ use Rattle.givens.specs.declared.Mode.the-variants.{Check, Live}
 use Rattle.grammar.specs.Grammar.{Parsed, none, got}
 use Rattle.grammar.specs.Trees.{Tree, parse}
 use Rattle.reading.specs.Meaning.{sortOf, first, firstBad, eval}
+use Rattle.reading.specs.Lengths.{parseWithin}
 use Rattle.reading.specs.Readers.{givenIn, partOf, readOf}
 use Rattle.reading.specs.declared.Read.{Read}
 use Rattle.reading.specs.declared.Read.the-variants.{Bad, Got}
-use Rattle.reading.proofs.Wholes.{no-part}
-use Rattle.condition.specs.Condition.{minLength, maxLength, checkOf, byKinds, byTree, checked, accepted, Result, hit, miss, unreadable, shown, ofTree, ifAccepted, resultAt, resultOf, judged}
+use Rattle.reading.proofs.Wholes.{no-part, good-length}
+use Rattle.condition.specs.Condition.{minLength, maxLength, checkOf, byKinds, byTree, checked, Result, hit, miss, unreadable, shown, ofTree, ifAccepted, resultAt, resultOf}
 use Rattle.condition.specs.Carried.{literals, resulting}
 use Rattle.condition.specs.declared.Checked.{Checked}
 use Rattle.condition.specs.declared.Checked.the-variants as C
-use Rattle.condition.proofs.Accepted.{gives-accepted}
 
 -- what was checked says the leftmost bad literal, and what was evaluated the verdict
 literals-bad : (a : Answer (Unit {0})) → literals (badOf a) ≡ a
@@ -65,7 +65,10 @@ module _ (s : List ℕ) (a : Answer (Unit {0})) where
       unfolding checkOf both
       by-tree f e = rw (le-leb minLength (length s) h, le-leb (length s) maxLength k, ← d, f) e
 
-      module _ (f : t ≡ false) (g : Read) (q : g ≡ readOf s s Check (parse s)) where
+      module _ (f : t ≡ false) (g : Read) (q : g ≡ readOf s s Check (parseWithin s)) where
+        of-parse : g ≡ readOf s s Check (parse s)
+        of-parse = q ∙ ap (readOf s s Check) (good-length s k)
+
         tree-bad : (p : Parsed Tree) → Bad ≡ readOf s s Check p → a ≡ refuses badCondition → a ≡ byTree s p
         unfolding byTree readOf
         tree-bad none i e = e
@@ -78,12 +81,12 @@ module _ (s : List ℕ) (a : Answer (Unit {0})) where
             e ∙ ap (λ x. first (byKinds (x .sort)) (literals (x .given))) w ∙ ap (first (byKinds (sortOf u))) (literals-bad (firstBad s u))
 
         pub check-bad : g ≡ Bad → a ≡ refuses badCondition → a ≡ checkOf s
-        check-bad b e = by-tree f (tree-bad (parse s) (sym b ∙ q) e)
+        check-bad b e = by-tree f (tree-bad (parse s) (sym b ∙ of-parse) e)
 
         pub check-got : (v : Part) (n : ℕ) → g ≡ Got v n → a ≡ first (byKinds (v .sort)) (literals (v .given)) → a ≡ checkOf s
-        check-got v n b e = by-tree f (tree-got (parse s) v n (sym b ∙ q) e)
+        check-got v n b e = by-tree f (tree-got (parse s) v n (sym b ∙ of-parse) e)
 
-module _ (s line : List ℕ) (g : Read) (q : g ≡ readOf s line Live (parse s)) where
+module _ (s line : List ℕ) (g : Read) (q : g ≡ readOf s line Live (parseWithin s)) where
   live-bad : (p : Parsed Tree) → Bad ≡ readOf s line Live p → unreadable badCondition ≡ ofTree s line p
   unfolding readOf ofTree
   live-bad none i = refl
@@ -96,19 +99,16 @@ module _ (s line : List ℕ) (g : Read) (q : g ≡ readOf s line Live (parse s))
 
   pub judge-bad : g ≡ Bad → gives (unreadable badCondition) ≡ gives (resultAt s line)
   unfolding resultAt
-  judge-bad b = ap gives (live-bad (parse s) (sym b ∙ q))
+  judge-bad b = ap gives (live-bad (parseWithin s) (sym b ∙ q))
 
   pub judge-got : (v : Part) (n : ℕ) (a : Answer Result) → g ≡ Got v n → a ≡ gives (resulting (v .given)) → a ≡ gives (resultAt s line)
   unfolding resultAt
-  judge-got v n a b e = e ∙ ap gives (live-got (parse s) v n (sym b ∙ q))
+  judge-got v n a b e = e ∙ ap gives (live-got (parseWithin s) v n (sym b ∙ q))
 
 module _ (s line : List ℕ) (x : Checked) (e : checked x ≡ checkOf s) where
   pub result-refused : (r : Refusal) → x ≡ C.Refused r → refuses (r .number) ≡ resultOf s line
   unfolding resultOf ifAccepted
   result-refused r b = let k : refuses (r .number) ≡ checkOf s = sym (ap checked b) ∙ e in rw (← k)
-
-  pub result-accepted : x ≡ C.Accepted → accepted s ≡ true
-  result-accepted b = gives-accepted s (sym e ∙ ap checked b)
 
   pub result-judged : (a : Answer Result) → x ≡ C.Accepted → a ≡ gives (resultAt s line) → a ≡ resultOf s line
   unfolding resultOf ifAccepted

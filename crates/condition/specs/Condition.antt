@@ -1,5 +1,6 @@
 -- Document 01, "Conditions" and "Refusal numbers": which texts Open accepts, "7 by length, 8, 7 by grammar, 9, the leftmost
--- bad literal's own number", and the result of an accepted condition at a line.
+-- bad literal's own number", and the result of a condition at a line. `parse` gives the tree that the productions of crate grammar
+-- derive (Laws.antt).
 use Prim.Native.Nat.{ℕ}
 use mathlib.Core.Bool.{Bool, true, false}
 use mathlib.Core.List.{List}
@@ -14,18 +15,13 @@ use Rattle.sorts.specs.declared.Sort.{Sort}
 use Rattle.sorts.specs.declared.Sort.the-variants as S
 use Rattle.grammar.specs.Grammar.{Parsed, none, got}
 use Rattle.grammar.specs.Trees.{Tree, parse}
+use Rattle.reading.specs.Lengths.{parseWithin}
+pub use Rattle.reading.specs.Lengths.{minLength, maxLength}
 use Rattle.reading.specs.Meaning.{sortOf, first, firstBad, eval}
 use Rattle.condition.specs.declared.Checked.{Checked}
 use Rattle.condition.specs.declared.Checked.the-variants as C
 use Rattle.condition.specs.declared.Judged.{Judged}
 use Rattle.condition.specs.declared.Judged.the-variants as J
-
--- "Length 1 to 240 bytes."
-abbrev pub minLength : ℕ
-minLength = 1
-
-abbrev pub maxLength : ℕ
-maxLength = 240
 
 -- whether an answer is no refusal
 unfoldable pub passes : Answer (Unit {0}) → Bool
@@ -72,9 +68,9 @@ unfoldable pub ofTree : List ℕ → List ℕ → Parsed Tree → Result
 ofTree s line none = unreadable badCondition
 ofTree s line (got t n) = shown (eval s line t)
 
--- the result of an accepted condition at a line
+-- the result of a condition at a line; Unreadable with 7 of a text that is none by its length or grammar, which Open does not accept
 unfoldable pub resultAt : List ℕ → List ℕ → Result
-resultAt s line = ofTree s line (parse s)
+resultAt s line = ofTree s line (parseWithin s)
 
 -- the result of any text at a line: Open's number where the text is not accepted
 unfoldable pub ifAccepted : Answer (Unit {0}) → Result → Answer Result

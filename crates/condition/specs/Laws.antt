@@ -1,15 +1,45 @@
--- What follows from the definitions of Condition.antt: which numbers Open's checks and a line's result can have, and on what of a
--- line the result depends.
+-- What follows from the definitions of Condition.antt: that the one tree which the productions derive decides, which numbers Open's
+-- checks and a line's result can have, and on what of a line the result depends.
 use mathlib.Core.Path.{_≡_}
-use mathlib.Core.Bool.{Bool, true}
+use mathlib.Core.Bool.{Bool, true, false}
 use mathlib.Core.List.{List}
-use Prim.Native.Nat.{ℕ}
+use Prim.Native.Nat.{ℕ, _≤_}
 use lib.Dec.{eqb}
+use lib.ListN.{length}
 use Rattle.basis.specs.Choice.{pick}
-use Rattle.basis.specs.Answer.{refuses}
+use Rattle.basis.specs.Answer.{gives, refuses}
+use Rattle.value.specs.Refusals.{badCondition}
+use Rattle.depth.specs.Depth.{deep}
+use Rattle.sorts.specs.declared.Sort.the-variants as S
+use Rattle.grammar.specs.Trees.{Tree}
+use Rattle.grammar.specs.Productions.{States}
+use Rattle.reading.specs.Meaning.{sortOf, first, firstBad, eval}
 use Rattle.timetable.specs.Fields.{fieldsOf}
 use Rattle.results.specs.Numbers.{ofText, atLine}
-use Rattle.condition.specs.Condition.{checkOf, accepted, Result, hit, miss, unreadable, resultAt}
+use Rattle.condition.specs.Condition.{minLength, maxLength, byKinds, checkOf, accepted, Result, hit, miss, unreadable, shown, resultAt}
+
+-- of a text of good length that is not too deep, the productions decide: 7 is given exactly where no tree is derived; else Open's checks
+-- and the result at every line are those of the tree that is (there is one at most); proved as `grammar-decides`
+pub record ByGrammar (s : List ℕ) : Type 0 where
+  pub seven-without-tree : ((t : Tree) → States s t → ⊥) → checkOf s ≡ refuses badCondition
+  pub no-tree-with-seven : checkOf s ≡ refuses badCondition → (t : Tree) → States s t → ⊥
+  pub checked-by-tree : (t : Tree) → States s t → checkOf s ≡ first (byKinds (sortOf t)) (firstBad s t)
+  pub result-by-tree : (t : Tree) → States s t → (line : List ℕ) → resultAt s line ≡ shown (eval s line t)
+
+abbrev pub GrammarDecides : Type 0
+GrammarDecides = (s : List ℕ) → minLength ≤ length s → length s ≤ maxLength → deep s ≡ false → ByGrammar s
+
+-- an accepted text states a tree: a truth value, with no bad literal; its result at every line is that of the tree; proved as
+-- `accepted-by-tree`
+pub record AcceptedTree (s : List ℕ) : Type 0 where
+  pub tree : Tree
+  pub stated : States s tree
+  pub is-truth : sortOf tree ≡ S.Truth
+  pub reads : firstBad s tree ≡ gives tt
+  pub results : (line : List ℕ) → resultAt s line ≡ shown (eval s line tree)
+
+abbrev pub AcceptedByTree : Type 0
+AcceptedByTree = (s : List ℕ) → accepted s ≡ true → AcceptedTree s
 
 -- a text that Open does not accept is refused with 7, 8, 9, or a literal's 1, 2 or 3; proved as `open-numbers`
 abbrev pub atOpen : ℕ → Bool

@@ -7,10 +7,9 @@ use results::Part;
 use sorts::Sort;
 use value::Refusal;
 ghost use mathlib.Core.Path.{_≡_};
-ghost use mathlib.Core.Bool.{true};
 ghost use Rattle.basis.specs.Answer.{gives, refuses};
 ghost use Rattle.reading.specs.Meaning as meaning;
-ghost use Rattle.condition.specs.Condition.{checked, checkOf, accepted, resultAt, resultOf, judged, byKinds};
+ghost use Rattle.condition.specs.Condition.{checked, checkOf, resultAt, resultOf, judged, byKinds};
 ghost use Rattle.condition.specs.Carried as the;
 
 // Whether a condition's text is accepted.
@@ -30,7 +29,7 @@ pub enum Judged {
 // The least and the greatest length of a condition's text.
 const MIN_LENGTH: usize = 1;
 
-pub const MAX_LENGTH: usize = 240;
+pub const MAX_LENGTH: usize = reading::MAX_LENGTH;
 
 fn refused(number: u8) -> Checked
     ensures { λ r. ⌜ checked r ≡ refuses number ⌝ }
@@ -122,9 +121,9 @@ fn judged_of(given: Given) -> Judged
     }
 }
 
-// The result at a line of a condition that was accepted before.
+// The result at a line of a condition that was accepted before: none of Open's checks is made again. A text that is no condition by its
+// length or grammar is Unreadable with 7.
 pub fn judge(text: &[u8], line: &[u8]) -> Judged
-    requires { ⌜ accepted (now text) ≡ true ⌝ }
     ensures { λ r. ⌜ judged r ≡ gives (resultAt (now (text .entry)) (now (line .entry))) ⌝ }
 {
     match reading::whole(text, line, Mode::Live) {

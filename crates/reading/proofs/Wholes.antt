@@ -11,6 +11,7 @@ use Rattle.results.specs.declared.Part.{Part}
 use Rattle.givens.specs.declared.Mode.{Mode}
 use Rattle.grammar.specs.Grammar.{Parsed, none, got, condition}
 use Rattle.grammar.specs.Trees.{Tree, trees, whole, parse}
+use Rattle.reading.specs.Lengths.{maxLength, parseWithin}
 use Rattle.reading.specs.Readers.{told, parts, chainRead, partOf, readOf}
 use Rattle.reading.specs.declared.Read.{Read}
 use Rattle.reading.specs.declared.Read.the-variants.{Bad, Got}
@@ -20,6 +21,11 @@ use Rattle.reading.proofs.Carried.{code-meets}
 
 pub no-part : {A : Type 0} (v : Part) (n : ℕ) → Bad ≡ Got v n → A
 no-part v n e = let z : _≡_ {A = ℕ} 0 1 = cc in absurd (omega arith)
+
+-- a text that is no longer than a condition states what it states
+pub good-length : (s : List ℕ) → length s ≤ maxLength → parseWithin s ≡ parse s
+unfolding parseWithin
+good-length s h = rw (le-leb (length s) maxLength h)
 
 -- the reader of the whole text
 module _ (s line : List ℕ) (m : Mode) where
@@ -42,16 +48,24 @@ module _ (s line : List ℕ) (m : Mode) where
   ends v n none e h = no-part v n (sym e)
   ends v n (got t k) e h = let q : n ≡ k = cc in let h′ : length s ≤ skipped s k = rw q at h in rw (le-leb _ _ h′) e
 
-  module _ (g : Read) (e : g ≡ chainRead maxDepth s line Condition 0 m) where
-    pub whole-bad : g ≡ Bad → Bad ≡ readOf s line m (parse s)
+  -- a text that is longer than a condition
+  pub whole-long : maxLength < length s → Bad ≡ readOf s line m (parseWithin s)
+  unfolding readOf parseWithin
+  whole-long h = rw (lt-leb (length s) maxLength h)
+
+  module _ (h : length s ≤ maxLength) (g : Read) (e : g ≡ chainRead maxDepth s line Condition 0 m) where
+    by-parse : (r : Read) → r ≡ readOf s line m (parse s) → r ≡ readOf s line m (parseWithin s)
+    by-parse r f = f ∙ ap (readOf s line m) (sym (good-length s h))
+
+    pub whole-bad : g ≡ Bad → Bad ≡ readOf s line m (parseWithin s)
     unfolding parse
-    whole-bad b = fails (condition Tree (Unit {0}) trees s maxDepth 0 tt) (sym b ∙ e ∙ carried)
+    whole-bad b = by-parse Bad (fails (condition Tree (Unit {0}) trees s maxDepth 0 tt) (sym b ∙ e ∙ carried))
 
     module _ (v : Part) (n k : ℕ) (b : g ≡ Got v n) (q : k ≡ skipped s n) where
-      pub whole-more : k < length s → Bad ≡ readOf s line m (parse s)
+      pub whole-more : k < length s → Bad ≡ readOf s line m (parseWithin s)
       unfolding parse
-      whole-more h = goes-on v n (condition Tree (Unit {0}) trees s maxDepth 0 tt) (sym b ∙ e ∙ carried) (rw q at h)
+      whole-more l = by-parse Bad (goes-on v n (condition Tree (Unit {0}) trees s maxDepth 0 tt) (sym b ∙ e ∙ carried) (rw q at l))
 
-      pub whole-got : length s ≤ k → Got v n ≡ readOf s line m (parse s)
+      pub whole-got : length s ≤ k → Got v n ≡ readOf s line m (parseWithin s)
       unfolding parse
-      whole-got h = ends v n (condition Tree (Unit {0}) trees s maxDepth 0 tt) (sym b ∙ e ∙ carried) (rw q at h)
+      whole-got l = by-parse (Got v n) (ends v n (condition Tree (Unit {0}) trees s maxDepth 0 tt) (sym b ∙ e ∙ carried) (rw q at l))

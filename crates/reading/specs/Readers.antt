@@ -1,6 +1,6 @@
 -- What the code's readers give: the grammar at the parts that the code carries. No contract of a public call of `condition` rests on
--- this file, but on the tree that a text states (Trees.antt of the crate grammar): `readOf` says what the reader of a whole text gives of
--- that tree.
+-- this file, but on the tree that a text states (Productions.antt of the crate grammar): `readOf` says what the reader of a whole text
+-- gives of that tree.
 use Prim.Native.Nat.{ℕ}
 use mathlib.Core.List.{List, []}
 use Rattle.value.specs.declared.Kind.{Kind}

@@ -20,8 +20,11 @@ use symbols::Start;
 use value::Kind;
 use words::skip;
 ghost use mathlib.Core.Path.{_≡_};
-ghost use Rattle.grammar.specs.Trees.{parse};
+ghost use Rattle.reading.specs.Lengths.{parseWithin};
 ghost use Rattle.reading.specs.Readers as the;
+
+// The greatest length of a condition's text.
+pub const MAX_LENGTH: usize = 240;
 
 // What was read, and where its text ends.
 pub enum Read {
@@ -201,10 +204,14 @@ fn inner(s: &[u8], line: &[u8], start: Start, depth: usize, mode: Mode) -> Read
     }
 }
 
-// The whole text: only spaces may follow the condition.
+// The whole text: only spaces may follow the condition. A text that is longer than a condition is not read, so that the readers
+// call one another no more deeply than a condition's text lets them.
 pub fn whole(s: &[u8], line: &[u8], mode: Mode) -> Read
-    ensures { λ r. ⌜ r ≡ the.readOf (now (s .entry)) (now (line .entry)) mode (parse (now (s .entry))) ⌝ }
+    ensures { λ r. ⌜ r ≡ the.readOf (now (s .entry)) (now (line .entry)) mode (parseWithin (now (s .entry))) ⌝ }
 {
+    if MAX_LENGTH < s.len() {
+        return Read::Bad;
+    }
     let read = chain(Rule::Condition, s, line, 0, MAX_DEPTH, mode);
     match read {
         Read::Bad => return Read::Bad,

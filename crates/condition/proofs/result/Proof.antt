@@ -1,5 +1,5 @@
 use borrow.Author.Needs.{needs}
-use Rattle.condition.proofs.Ways.{result-refused, result-accepted, result-judged}
+use Rattle.condition.proofs.Ways.{result-refused, result-judged}
 use Rattle.condition.proofs.result.Statement.{statement}
 use Rattle.condition.proofs.result.Tie as tie
 
@@ -13,7 +13,7 @@ enum-told : tie.Need-enum-told
 enum-told c = search needs
 
 judge-requires : tie.Need-judge-requires
-judge-requires c κs = search result-accepted
+judge-requires c κs = search needs
 
 returns : tie.Need-returns
 returns c = search (result-refused, result-judged)

@@ -43,7 +43,7 @@ part-judge-end : tie.Need-part-judge-end
 part-judge-end c = omega (arith, end-within (c .before .before .before .before .before .args .t .now) (c .before .before .before .before .before .args .s .offset) (omega arith), c .before .before .read-line .ensures .0)
 
 judge-requires : tie.Need-judge-requires
-judge-requires c κs = servable _ _ _ (c .before .before .before .before .before .before .pre .0 .1) .good
+judge-requires c κs = search needs
 
 judged-as-requires : tie.Need-judged-as-requires
 judged-as-requires c κs =
