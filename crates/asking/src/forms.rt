@@ -47,7 +47,7 @@ fn whole_from(s: &[u8], negative: bool, at: usize) -> Factor
 }
 
 pub fn whole(s: &[u8]) -> Factor
-    ensures { λ r. ⌜ (r .good ≡ the.isWhole (now (s .entry))) × (r .negative ≡ the.hasMinus (now (s .entry))) × (r .magnitude ≡ min the.beyond (the.magnitudeOf (now (s .entry)))) ⌝ }
+    ensures { λ r. ⌜ the.KeptOf (now (s .entry)) r ⌝ }
 {
     if byte(s, 0) == b'-' {
         return whole_from(s, true, 1);

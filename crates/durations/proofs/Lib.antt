@@ -10,3 +10,4 @@ pub mod Cases
 pub mod Back
 pub mod Trip
 pub mod Round
+pub mod Answers

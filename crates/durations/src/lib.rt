@@ -9,7 +9,6 @@ use value::YearMonth;
 ghost use mathlib.Core.Path.{_≡_};
 ghost use Prim.Native.Nat.{_+_, _*_, _≤_, _<_, _^_};
 ghost use lib.ListN.{length};
-ghost use Rattle.value.specs.Kinds as kinds;
 ghost use Rattle.numerals.specs.Writing.{textIn, longest};
 ghost use Rattle.durations.specs.Forms.{dayTime, yearMonth};
 ghost use Rattle.durations.specs.Walks as the;
@@ -96,7 +95,7 @@ fn counted(t: Shape, unit: u64, most: u64) -> Count
 }
 
 pub fn read_day_time(s: &[u8]) -> Reading
-    ensures { λ r. ⌜ (kinds.meaning (r .outcome) ≡ the.readDayTime (now (s .entry))) × (r .place ≡ the.placeIn dayTime (now (s .entry))) ⌝ }
+    ensures { λ r. ⌜ the.Reads (the.readDayTime (now (s .entry))) (the.placeIn dayTime (now (s .entry))) r ⌝ }
 {
     let parts = Span::TICKS as u64;
     let t = scan::shape(s, b"D", b"HMS", DayTime::MAX / parts + 1);
@@ -118,7 +117,7 @@ pub fn read_day_time(s: &[u8]) -> Reading
 }
 
 pub fn read_year_month(s: &[u8]) -> Reading
-    ensures { λ r. ⌜ (kinds.meaning (r .outcome) ≡ the.readYearMonth (now (s .entry))) × (r .place ≡ the.placeIn yearMonth (now (s .entry))) ⌝ }
+    ensures { λ r. ⌜ the.Reads (the.readYearMonth (now (s .entry))) (the.placeIn yearMonth (now (s .entry))) r ⌝ }
 {
     let most = YearMonth::MAX as u64;
     let t = scan::shape(s, b"YM", b"", most + 1);

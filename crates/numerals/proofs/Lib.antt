@@ -7,3 +7,4 @@ pub mod Filling
 pub mod Stripping
 pub mod Texts
 pub mod Fractions
+pub mod Answers

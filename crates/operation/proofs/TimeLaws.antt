@@ -1,5 +1,5 @@
--- A time is never refused for its result: a sum goes round the day, and an adjusted time stays near the reference day,
--- which is far from either end of the years.
+-- A time is never refused for its result: a sum or a difference goes round the day, and an adjusted time stays near the
+-- reference day, which is far from either end of the years.
 use mathlib.Core.Path.{_≡_, refl, ap, sym, _∙_}
 use mathlib.Core.Bool.{Bool, true, false}
 use Prim.Native.Nat.{ℕ, _+_, _-_, _*_, _/_, _≤_, _<_}
@@ -28,7 +28,8 @@ use Rattle.instants.proofs.Within.{east-to, west-to}
 use Rattle.value.proofs.KindParts.{time-good, of-kind-kept}
 use Rattle.shifting.specs.Shifts.{wrapped, shifted}
 use Rattle.shifting.proofs.Undo.{placed-gives}
-use Rattle.arithmetic.specs.Sums.{sumOf, plusOf}
+use Rattle.arithmetic.specs.Sums.{sumOf, plusOf, differenceIn, minusIn}
+use Rattle.arithmetic.proofs.Opposites.{plus-opposite, minus-opposite}
 use Rattle.adjusting.specs.Adjustment.{isZone, zoneOf, localAt, adjustedFrom, adjustedTo, momentTo, operandTo, adjustOf}
 use Rattle.operation.proofs.Keeping.{referenceDay, on-reference}
 use Rattle.adjusting.proofs.Zones.{zone-ok, own-zone}
@@ -39,6 +40,15 @@ unfolding plusOf sumOf shifted
 time-plus-given d t g h =
     let b : both (okValue (VV.Time d)) (okValue (VV.DayTime t)) ≡ true = both-true _ _ g h in
     λ i. pick (b i) (gives (VV.Time (wrapped d (plusHalf (t .negative) (t .micros)) (minusHalf (t .negative) (t .micros))))) (refuses outside)
+
+pub time-minus-given : (o : Offset) (d : DateTime) (t : D.DayTime) → okValue (VV.Time d) ≡ true → okValue (VV.DayTime t) ≡ true
+    → minusIn o (VV.Time d) (VV.DayTime t) ≡ gives (VV.Time (wrapped d (minusHalf (t .negative) (t .micros)) (plusHalf (t .negative) (t .micros))))
+unfolding minusIn differenceIn sumOf shifted
+time-minus-given o d t g h =
+    let b : both (okValue (VV.Time d)) (okValue (VV.DayTime t)) ≡ true = both-true _ _ g h in
+    let p = plus-opposite (t .negative) (t .micros) in
+    let q = minus-opposite (t .negative) (t .micros) in
+    λ i. pick (b i) (gives (VV.Time (wrapped d (p i) (q i)))) (refuses outside)
 
 -- a local time whose day is between the first and the last of the years
 in-years-by : (t : ℕ) → total yearDays minYear ≤ t / dayTicks → t / dayTicks < total yearDays (maxYear + 1) → inYears t ≡ true
