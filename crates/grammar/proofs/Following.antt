@@ -3,6 +3,7 @@ use mathlib.Core.Path.{_≡_, refl, ap, _∙_}
 use mathlib.Core.Bool.{false}
 use mathlib.Core.List.{List, _∷_}
 use Prim.Native.Nat.{ℕ}
+use Prim.Native.Char.{Char, code}
 use Prim.Native.String.{String}
 use lib.Dec.{eqb}
 use lib.ListN.{length, getD, List·getD-eq-default}
@@ -19,7 +20,7 @@ use Rattle.symbols.specs.declared.Joint.the-variants as J
 use Rattle.symbols.specs.declared.Held.the-variants as H
 use Rattle.symbols.specs.declared.Multiplier.the-variants as T
 use Rattle.grammar.specs.Trees.{Tree}
-use Rattle.grammar.specs.Productions.{byteOf, Spaces, Mark, Word, plus, minus, eq, ne, lt, le, gt, ge, nameOf, Part, Condition, Clause, Test, Sum, Term, Factor, Argument, Derives, one-clause, or-clause, one-test, and-test, one-sum, two-sums, one-term, signed-term, one-factor, times-whole, enclosed, of-kind, a-text, a-field, a-cast}
+use Rattle.grammar.specs.Productions.{Spaces, Mark, Word, plus, minus, eq, ne, lt, le, gt, ge, nameOf, Part, Condition, Clause, Test, Sum, Term, Factor, Argument, Derives, one-clause, or-clause, one-test, and-test, one-sum, two-sums, one-term, signed-term, one-factor, times-whole, enclosed, of-kind, a-text, a-field, a-cast}
 use Rattle.grammar.proofs.Ends.{picked}
 use Rattle.grammar.proofs.Runs.{spaces-end, first-of}
 use Rattle.grammar.proofs.Standing.{Operator, or, and, comparison, sign, joint, name-first}
@@ -52,8 +53,8 @@ module _ (s : List ℕ) (a : ℕ) where
   by-word : {p n : ℕ} (w : String) (c : ℕ) (cs : List ℕ) → bytes w ≡ c ∷ cs → Word s w a p n → rank s a ≡ rankOf c
   by-word {p} {n} w c cs e x = by-byte p c (x .spaces) (first-of s p n c cs (x .letters ∙ e))
 
-  by-mark : {p n : ℕ} (w : String) → Mark s w a p n → rank s a ≡ rankOf (byteOf w)
-  by-mark {p} w x = by-byte p (byteOf w) (x .spaces) (x .stands)
+  by-mark : {p n : ℕ} (w : Char) → Mark s w a p n → rank s a ≡ rankOf (code w)
+  by-mark {p} w x = by-byte p (code w) (x .spaces) (x .stands)
 
   pub operator-rank : {k : Part} {o : Op} {p n : ℕ} → Operator s k o a p n → rank s a ≡ rankIn k
   unfolding rankOf

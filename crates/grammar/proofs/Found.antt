@@ -3,6 +3,7 @@ use mathlib.Core.Path.{_≡_, refl, subst, _∙_}
 use mathlib.Core.Bool.{Bool, true, false}
 use mathlib.Core.List.{List, _∷_}
 use Prim.Native.Nat.{ℕ, _+_, _<_, _≤_}
+use Prim.Native.Char.{Char, code}
 use Prim.Native.String.{String}
 use native.Mathlib.Omega.{arith}
 use lib.Dec.{leb, ltb, eqb}
@@ -29,7 +30,7 @@ use Rattle.symbols.specs.declared.Held.{Held}
 use Rattle.symbols.specs.declared.Held.the-variants as H
 use Rattle.symbols.specs.declared.Multiplier.{Multiplier}
 use Rattle.symbols.specs.declared.Multiplier.the-variants as T
-use Rattle.grammar.specs.Productions.{byteOf, Spaces, Mark, Word, Field, numbered, Quoted, quoted, Whole, unsigned, signed, plus, minus, eq, ne, lt, le, gt, ge, nameOf, Part, Condition, Clause, Test, Sum, Term, Factor, Argument}
+use Rattle.grammar.specs.Productions.{Spaces, Mark, Word, Field, numbered, Quoted, quoted, Whole, unsigned, signed, plus, minus, eq, ne, lt, le, gt, ge, nameOf, Part, Condition, Clause, Test, Sum, Term, Factor, Argument}
 use Rattle.grammar.proofs.Ends.{picked, stands-at}
 use Rattle.grammar.proofs.Runs.{run-before, spaces-stand, letters-stand, same-is, first-of, numeral-stands}
 use Rattle.grammar.proofs.Standing.{Operator, or, and, comparison, sign, joint, Times, Naming}
@@ -44,9 +45,9 @@ module _ (s : List ℕ) (a : ℕ) where
   abbrev p : ℕ
   p = skipped s a
 
-  mark-stands : (w : String) → eqb (getD s p 0) (byteOf w) ≡ true → leb 1 (byteOf w) ≡ true → Mark s w a p (p + 1)
+  mark-stands : (w : Char) → eqb (getD s p 0) (code w) ≡ true → leb 1 (code w) ≡ true → Mark s w a p (p + 1)
   mark-stands w e h =
-      let k : p < length s = stands-at s p (byteOf w) e h in
+      let k : p < length s = stands-at s p (code w) e h in
       record { spaces = spaces-stand s a (omega (arith, run-from C.Space s a)); stands = eqb-true _ _ e; next = refl }
 
   word-stands : (w : String) (c : ℕ) (cs : List ℕ) → bytes w ≡ c ∷ cs → same (wordAt s p) (bytes w) ≡ true → leb 1 c ≡ true → Word s w a p (runEnd C.Letter s p)

@@ -3,6 +3,7 @@ use mathlib.Core.Path.{_≡_, refl}
 use mathlib.Core.Bool.{Bool, true, false}
 use mathlib.Core.List.{List}
 use Prim.Native.Nat.{ℕ, _+_, _-_, _<_, _≤_}
+use Prim.Native.Char.{Char, code}
 use Prim.Native.String.{String}
 use native.Mathlib.Omega.{arith}
 use lib.Dec.{leb, eqb}
@@ -26,7 +27,7 @@ use Rattle.symbols.specs.declared.Named.the-variants as N
 use Rattle.symbols.specs.declared.Start.the-variants as S
 use Rattle.symbols.specs.declared.Held.the-variants as H
 use Rattle.symbols.specs.declared.Multiplier.the-variants as T
-use Rattle.grammar.specs.Productions.{byteOf, Longest, Spaces, Mark, Word, Digit, Numeral, Field, numbered, Quoted, quoted, Whole, unsigned, signed, Sign, plus, minus, Comparison, eq, ne, lt, le, gt, ge, nameOf, Part, Condition, Clause, Test, Sum, Term, Factor, Argument}
+use Rattle.grammar.specs.Productions.{Longest, Spaces, Mark, Word, Digit, Numeral, Field, numbered, Quoted, quoted, Whole, unsigned, signed, Sign, plus, minus, Comparison, eq, ne, lt, le, gt, ge, nameOf, Part, Condition, Clause, Test, Sum, Term, Factor, Argument}
 use Rattle.grammar.proofs.Runs.{longest-is, spaces-end, letters-end, first-of, digits-from, digits-first, numeral-run}
 
 -- the operators that join the parts of a part
@@ -72,7 +73,7 @@ named-is K.DayTimeDuration = refl
 named-is K.YearMonthDuration = refl
 
 -- every kind's name begins with x
-pub name-first : (s : List ℕ) (k : Kind) (p n : ℕ) → between s p n ≡ bytes (nameOf k) → getD s p 0 ≡ byteOf "x"
+pub name-first : (s : List ℕ) (k : Kind) (p n : ℕ) → between s p n ≡ bytes (nameOf k) → getD s p 0 ≡ code "x"
 name-first s K.Date p n e = first-of s p n _ _ e
 name-first s K.Time p n e = first-of s p n _ _ e
 name-first s K.DateTime p n e = first-of s p n _ _ e
@@ -119,7 +120,7 @@ module _ {s : List ℕ} where
   unfolding the.multiplierAt
   times-found x = rw (spaces-end (x .star .spaces), x .star .stands, ← x .star .next) (whole-found (x .c) (x .whole))
 
-  mark-found : {w : String} {a p n : ℕ} → Mark s w a p n → the.markAt s a (byteOf w) ≡ M.At n
+  mark-found : {w : Char} {a p n : ℕ} → Mark s w a p n → the.markAt s a (code w) ≡ M.At n
   unfolding the.markAt
   mark-found m = rw (spaces-end (m .spaces), eq-eqb _ _ (m .stands), m .next)
 

@@ -8,6 +8,7 @@ use mathlib.Core.Path.{_≡_}
 use mathlib.Core.Bool.{Bool, true, false}
 use mathlib.Core.List.{List}
 use Prim.Native.Nat.{ℕ, _+_, _-_, _*_, _<_, _≤_}
+use Prim.Native.Char.{Char, code}
 use Prim.Native.String.{String}
 use lib.ListN.{length}
 use Rattle.basis.specs.Letters.{bytes}
@@ -18,10 +19,6 @@ use Rattle.value.specs.declared.Kind.the-variants as K
 use Rattle.symbols.specs.declared.Op.{Op}
 use Rattle.symbols.specs.declared.Op.the-variants as O
 use Rattle.grammar.specs.Trees.{Tree, leaf, one, two, literal, field, cast, times}
-
--- the byte that a sign is
-abbrev pub byteOf : String → ℕ
-byteOf w = at (bytes w) 0
 
 -- a longest run: every byte from a place up to another is such a byte, and the one after them is not
 pub record Longest (Such : ℕ → Type 0) (s : List ℕ) (from to : ℕ) : Type 0 where
@@ -38,16 +35,16 @@ abbrev pub Spaces : List ℕ → ℕ → ℕ → Type 0
 Spaces s a p = Longest Space s a p
 
 -- a symbol of one byte
-pub record Mark (s : List ℕ) (w : String) (a p n : ℕ) : Type 0 where
+pub record Mark (s : List ℕ) (w : Char) (a p n : ℕ) : Type 0 where
   pub spaces : Spaces s a p
-  pub stands : at s p ≡ byteOf w
+  pub stands : at s p ≡ code w
   pub next : n ≡ p + 1
 
 -- "A word is a longest run of ASCII letters and colons"
 pub data Letter (b : ℕ) : Type 0 where
-  small : byteOf "a" ≤ b → b ≤ byteOf "z" → Letter b
-  capital : byteOf "A" ≤ b → b ≤ byteOf "Z" → Letter b
-  colon : b ≡ byteOf ":" → Letter b
+  small : code "a" ≤ b → b ≤ code "z" → Letter b
+  capital : code "A" ≤ b → b ≤ code "Z" → Letter b
+  colon : b ≡ code ":" → Letter b
 
 pub record Word (s : List ℕ) (w : String) (a p n : ℕ) : Type 0 where
   pub spaces : Spaces s a p
@@ -56,12 +53,12 @@ pub record Word (s : List ℕ) (w : String) (a p n : ℕ) : Type 0 where
 
 -- "a numeral a longest run of digits": from a place up to another, and v is its number
 pub record Digit (b : ℕ) : Type 0 where
-  pub from : byteOf "0" ≤ b
-  pub to : b ≤ byteOf "9"
+  pub from : code "0" ≤ b
+  pub to : b ≤ code "9"
 
 pub data Digits (s : List ℕ) (from : ℕ) : ℕ → ℕ → Type 0 where
   no-digit : Digits s from from 0
-  digit : {to v : ℕ} → Digits s from to v → Digit (at s to) → Digits s from (to + 1) (v * 10 + (at s to - byteOf "0"))
+  digit : {to v : ℕ} → Digits s from to v → Digit (at s to) → Digits s from (to + 1) (v * 10 + (at s to - code "0"))
 
 pub record Numeral (s : List ℕ) (v from to : ℕ) : Type 0 where
   pub digits : Digits s from to v
@@ -69,12 +66,12 @@ pub record Numeral (s : List ℕ) (v from to : ℕ) : Type 0 where
 
 -- "`$n` is one symbol without leading zeros", "a field `$1` to `$16`": the field i
 pub data Field (s : List ℕ) (i : ℕ) : ℕ → ℕ → ℕ → Type 0 where
-  numbered : {a p m n : ℕ} → Mark s "$" a p m → Numeral s i m n → (at s m ≡ byteOf "0" → ⊥) → 1 ≤ i → i ≤ 16 → Field s i a p n
+  numbered : {a p m n : ℕ} → Mark s "$" a p m → Numeral s i m n → (at s m ≡ code "0" → ⊥) → 1 ≤ i → i ≤ 16 → Field s i a p n
 
 -- "a text in double quotes (no quote inside)": the bytes from a place up to another are what stands in the quotes
 pub data Quoted (s : List ℕ) : ℕ → ℕ → ℕ → ℕ → Type 0 where
-  quoted : {a p from to n : ℕ} → Mark s "\"" a p from → from ≤ to → ((i : ℕ) → from ≤ i → i < to → at s i ≡ byteOf "\"" → ⊥) →
-      at s to ≡ byteOf "\"" → n ≡ to + 1 → Quoted s from to a n
+  quoted : {a p from to n : ℕ} → Mark s "\"" a p from → from ≤ to → ((i : ℕ) → from ≤ i → i < to → at s i ≡ code "\"" → ⊥) →
+      at s to ≡ code "\"" → n ≡ to + 1 → Quoted s from to a n
 
 -- "a whole number of one to six digits, a minus allowed directly before them": v, and whether the minus is there
 pub data Whole (s : List ℕ) (v : ℕ) : Bool → ℕ → ℕ → ℕ → Type 0 where
