@@ -68,7 +68,8 @@ unfoldable pub ofTree : List ℕ → List ℕ → Parsed Tree → Result
 ofTree s line none = unreadable badCondition
 ofTree s line (got t n) = shown (eval s line t)
 
--- the result of a condition at a line; Unreadable with 7 of a text that is none by its length or grammar, which Open does not accept
+-- the result of a condition at a line; Unreadable with 7 of a text that is none by its length, depth or grammar, which Open does not
+-- accept
 unfoldable pub resultAt : List ℕ → List ℕ → Result
 resultAt s line = ofTree s line (parseWithin s)
 

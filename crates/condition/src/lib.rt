@@ -122,7 +122,7 @@ fn judged_of(given: Given) -> Judged
 }
 
 // The result at a line of a condition that was accepted before: none of Open's checks is made again. A text that is no condition by its
-// length or grammar is Unreadable with 7.
+// length, depth or grammar is Unreadable with 7.
 pub fn judge(text: &[u8], line: &[u8]) -> Judged
     ensures { λ r. ⌜ judged r ≡ gives (resultAt (now (text .entry)) (now (line .entry))) ⌝ }
 {

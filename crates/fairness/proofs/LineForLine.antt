@@ -1,6 +1,6 @@
 -- Line for line: the answers of a seat by itself are the results at the lines from its offset on, and Done with its counts
 -- and those of these lines. An accepted query starts at offset 0 with both counts 0.
-use mathlib.Core.Path.{_≡_, _∙_}
+use mathlib.Core.Path.{_≡_, refl, sym, ap, _∙_}
 use mathlib.Core.Bool.{true, false}
 use mathlib.Core.List.{List, [], _∷_, _++_}
 use mathlib.Core.Logic.{⊎-elim}
@@ -8,6 +8,7 @@ use Prim.Native.Nat.{ℕ, zero, suc, _+_}
 use native.Mathlib.Nat.{add-zero, zero-add, add-assoc}
 use native.Mathlib.Omega.{arith}
 use borrow.Author.Tests.{ltb-true, ltb-false}
+use lib.ListN.{length}
 use lib.Seq.{take-append-seam}
 use Rattle.timetable.specs.Lines.{Line, linesFrom, placedLines, lineAt}
 use Rattle.timetable.proofs.Offsets.{line-offset, lines-next, lines-end}
@@ -16,12 +17,12 @@ use Rattle.seat.specs.Request.{Request}
 use Rattle.seat.specs.Query.{Result, hit, miss, unreadable}
 use Rattle.seat.specs.Answers.{Turned, doneWith}
 use Rattle.seat.specs.Seat.{seatFor, conditionOf}
-use Rattle.seat.specs.Serving.{hasLine, afterLine, resultOf, judgedAs}
+use Rattle.seat.specs.Serving.{hasLine, afterLine, resultOf, judgedAs, serveOf}
 use Rattle.seat.specs.TurnsLeft.{turnsAsked, turnsLeft}
 use Rattle.seat.specs.declared.Seat.{Seat}
 use Rattle.seat.proofs.Serving.{line-or-done, serve-line, serve-done}
 use Rattle.seat.proofs.TurnsLeft.{left-start, left-on, left-off}
-use Rattle.fairness.specs.Demand3.{answerFor, lineAnswers, hitIn, unreadableIn, howMany, expected, Demand3Lines}
+use Rattle.fairness.specs.Demand3.{answerFor, lineAnswers, hitIn, unreadableIn, howMany, expected, Demand3Lines, AnswersAndDone}
 use Rattle.fairness.proofs.Fair.{serves, query-gets}
 
 -- the answers at some lines, with h hits and u unreadable lines before them
@@ -76,6 +77,16 @@ unfolding placedLines
 expected-serves f c k =
     let on = lines-from f (turnsAsked f) (seatFor k c) (left-start f k c) in
     rw (take-append-seam, zero-add, zero-add) at on
+
+serves-count : (n : ℕ) (f : Files) (s : Seat) → length (serves n f s) ≡ n
+unfolding serves
+serves-count zero f s = refl
+serves-count (suc n) f s = ap suc (serves-count n f (serveOf f s .seat))
+
+pub answers-and-done : AnswersAndDone
+answers-and-done k f r =
+    let count : length (expected k f r) ≡ suc (turnsAsked f) = ap length (sym (expected-serves f r k)) ∙ serves-count (suc (turnsAsked f)) f (seatFor k r) in
+    omega (arith, count)
 
 pub demand3-lines : Demand3Lines
 demand3-lines f c d k es q run = query-gets f c d k es q run ∙ expected-serves f c k

@@ -6,8 +6,8 @@
 --   would get with the desk to itself, line for line, only the ticket number aside, however many others open or close
 --   queries meanwhile."
 --
--- The theorems are `demand3`, `demand3-lines`, `demand3-any-time`, `demand3-in-time` and `lone-query` (proofs/). In all of them
--- f is what the turns read, r what was asked of Open, d the desk that was asked, k the ticket that it gave.
+-- The theorems are `demand3`, `demand3-lines`, `answers-and-done`, `demand3-any-time`, `demand3-in-time` and `lone-query` (proofs/). In
+-- all of them f is what the turns read, r what was asked of Open, d the desk that was asked, k the ticket that it gave.
 use mathlib.Core.Path.{_≡_}
 use mathlib.Core.Bool.{true, false}
 use mathlib.Core.List.{List, [], _∷_, _++_, map}
@@ -104,6 +104,10 @@ answersIn k f r = lineAnswers k (r .condition) (placedLines (f .timetable))
 -- then Done with the two counts of that list
 abbrev pub expected : ℕ → Files → Request → List Turned
 expected k f r = answersIn k f r ++ (doneWith k (howMany hitIn (answersIn k f r)) (howMany unreadableIn (answersIn k f r)) ∷ [])
+
+-- L is the number of lines: the list has an answer for each of them, and Done
+abbrev pub AnswersAndDone : Type 0
+AnswersAndDone = (k : ℕ) (f : Files) (r : Request) → length (expected k f r) ≡ turnsAsked f + 1
 
 abbrev pub Demand3Lines : Type 0
 Demand3Lines =

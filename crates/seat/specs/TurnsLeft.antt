@@ -1,5 +1,6 @@
--- How many turns a query is served: demand 3's L and what is left of it, Done not counted. This is the one place that counts
--- turns, and the one that knows that a line is one turn.
+-- Demand 3's L, and what is left of it to a seat, Done not counted. The argument about rounds knows of them only that what is left
+-- falls by one at each turn of the seat's own (proofs/TurnsLeft.antt): that a line is one turn is said here and where a line is
+-- served (Serving.antt).
 use Prim.Native.Nat.{ℕ}
 use lib.ListN.{drop}
 use Rattle.timetable.specs.Lines.{lineCount}
