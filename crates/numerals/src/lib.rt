@@ -141,7 +141,7 @@ pub fn fixed(t: Text, n: u64, k: usize) -> Text
     ensures { λ r. ⌜ Added t r (its.digits k n) k ⌝ }
 {
     let mut u = t;
-    let from = t.len;
+    let from = u.len;
     let mut left = n;
     let mut i = k;
     while 0 < i {
