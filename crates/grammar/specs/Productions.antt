@@ -3,7 +3,7 @@
 -- s is the text, as its bytes; places in it count from 0, and a byte past its end counts as 0. Of what stands in it, a is the
 -- place from which on it stands, after any number of spaces; p is the place of its first byte, and n the place after its last.
 -- A line `name : {..} → A → B → C` reads: for any places, numbers and trees in the braces, where A and B hold, so does C; and nothing
--- holds but by such lines. `X → ⊥` reads: X does not hold.
+-- holds but by such lines. `X → ⊥` reads: X does not hold. A record holds where each of its lines does; `code "x"` is the byte of x.
 use mathlib.Core.Path.{_≡_}
 use mathlib.Core.Bool.{Bool, true, false}
 use mathlib.Core.List.{List}

@@ -1,4 +1,5 @@
--- Document 01, "Timetable, seats and turns": what the desk reads its lines from. It is handed to every turn.
+-- Document 01, "Timetable, seats and turns": what the desk reads its lines from, which is one file, the timetable. It is handed to
+-- every turn.
 use mathlib.Core.List.{List}
 use Prim.Native.Nat.{ℕ}
 
