@@ -3,6 +3,7 @@
 // work is done by `line_at`, which takes a slice and a number, and others read through `read_line`, which does so too.
 use timetable::lines::after_end;
 use timetable::lines::line_end;
+use timetable::lines::next_line;
 ghost use mathlib.Core.Path.{_≡_};
 ghost use Rattle.timetable.specs.Lines.{lineEnd, nextLine};
 
@@ -39,6 +40,17 @@ pub fn next<'a>(r: LineReader<'a>) -> LineAt
     ensures { λ l. ⌜ (l .end ≡ lineEnd (now (r .entry .timetable)) (r .entry .at)) × (l .next ≡ nextLine (now (r .entry .timetable)) (r .entry .at)) ⌝ }
 {
     line_at(r.timetable, r.at)
+}
+
+// The reader moved on to the line after the one at its place.
+pub fn moved<'a>(r: LineReader<'a>) -> LineReader<'a>
+    ensures { λ q. ⌜ (q .timetable ≡ r .entry .timetable) × (q .at ≡ nextLine (now (r .entry .timetable)) (r .entry .at)) ⌝ }
+{
+    let at = next_line(r.timetable, r.at);
+    LineReader {
+        timetable: r.timetable,
+        at,
+    }
 }
 
 // The line at an offset, read through a reader that is made for it. The line's bytes are `&t[at..end]`.
