@@ -8,8 +8,6 @@ use Prim.Native.Nat.{ℕ, _+_, _%_, _≤_}
 use native.Mathlib.Omega.{arith}
 use lib.ListN.{length, length-take}
 use Rattle.basis.specs.Answer.{gives}
-use Rattle.numerals.specs.Writing.{longest}
-use Rattle.numerals.specs.declared.Text.{Text}
 use Rattle.seat.specs.Files.{Files}
 use Rattle.seat.specs.Bounds.{maxTimetable}
 use Rattle.seat.specs.Query.{Result, hit, miss, unreadable}
@@ -26,7 +24,8 @@ use Rattle.desk.specs.declared.Desk.{Desk}
 use Rattle.desk.specs.declared.AfterTurn.{AfterTurn}
 use Rattle.desk_laws.proofs.Sound.{Sound}
 use Rattle.desk_laws.proofs.Steps.{turn-cases, turn-next}
-use Rattle.lines.specs.Text.{Holds, Within}
+use Rattle.lines.specs.Text.{lineRoom, Holds, Within}
+use Rattle.lines.specs.declared.text.LineText.{LineText}
 
 judged-within : (next : ℕ) (s : Seat) (v : Result) → s .offset ≤ maxTimetable → Within (gives (judgedAs next s v .answer))
 judged-within next s hit l = l
@@ -61,6 +60,6 @@ module _ (f : Files) (d : Desk) (o : Sound d) (e : haveLengths f d ≡ true) whe
     pub next-within : Within (turnMeaning (r .answer))
     next-within = rw next-answer turn-within
 
--- a text that holds its bytes has no more than there is room for
-pub holds-fits : (t : Text) (w : List ℕ) → Holds t w → length (t .bytes) ≡ longest → t .len ≤ longest
+-- a line that holds its bytes has no more than there is room for
+pub holds-fits : (t : LineText) (w : List ℕ) → Holds t w → length (t .bytes) ≡ lineRoom → t .len ≤ lineRoom
 holds-fits t w h e = omega (arith, length-take (t .len) (t .bytes), ap length (h .text), h .size)

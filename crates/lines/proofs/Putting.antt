@@ -1,7 +1,7 @@
 -- A line put into the room from a place on, where it fits: the bytes before it and after it stay.
-use mathlib.Core.Path.{_≡_, refl, sym, ap, _∙_}
+use mathlib.Core.Path.{_≡_, refl, _∙_}
 use mathlib.Core.Bool.{Bool, true, false}
-use mathlib.Core.List.{List, [], _∷_, _++_, append-assoc, append-nil}
+use mathlib.Core.List.{List, _++_, append-nil}
 use Prim.Native.Nat.{ℕ, _+_, _-_, _≤_, _<_}
 use native.Mathlib.Omega.{arith}
 use borrow.Author.Tests.{le-leb, lt-leb, leb-true, leb-false}
@@ -10,8 +10,8 @@ use lib.ListN.{length, take, drop, length-drop, drop-of-length-le}
 use lib.Seq.{take-all, take-length, drop-drop}
 use borrow.Rule.Slice.PartMut.{putMid}
 use Rattle.basis.specs.Choice.{pick}
-use Rattle.numerals.specs.Writing.{textIn}
-use Rattle.numerals.specs.declared.Text.{Text}
+use Rattle.lines.specs.Text.{lineIn}
+use Rattle.lines.specs.declared.text.LineText.{LineText}
 
 pub put-part : (room src w : List ℕ) (at n : ℕ) → length src ≡ n → at + n ≤ length room
     → w ≡ take (length src) src ++ drop (length src) (take (length room - at) (drop at room))
@@ -23,16 +23,16 @@ put-part room src w at n e l h =
     rw (h, a, take-length, e, drop-of-length-le (drop at room) z, append-nil, drop-drop n at room)
 
 -- the room with a line from a place on
-abbrev pub withLine : ℕ → Text → List ℕ → List ℕ
-withLine at line room = take at room ++ (textIn line ++ drop (at + line .len) room)
+abbrev pub withLine : ℕ → LineText → List ℕ → List ℕ
+withLine at line room = take at room ++ (lineIn line ++ drop (at + line .len) room)
 
 -- where the lines end after the line, and the room
-abbrev pub Put : ℕ → Text → List ℕ → ℕ → List ℕ → Type 0
+abbrev pub Put : ℕ → LineText → List ℕ → ℕ → List ℕ → Type 0
 Put at line room end room′ =
     (end ≡ pick (leb (line .len) (length room - at)) (at + line .len) at) × (room′ ≡ pick (leb (line .len) (length room - at)) (withLine at line room) room)
 
 -- a line has a byte, so where they end says whether it fitted
-module _ (at : ℕ) (line : Text) (room : List ℕ) {end : ℕ} {room′ : List ℕ} (p : Put at line room end room′) where
+module _ (at : ℕ) (line : LineText) (room : List ℕ) {end : ℕ} {room′ : List ℕ} (p : Put at line room end room′) where
   pub put-fits : at < end → line .len ≤ length room - at
   put-fits l = go (leb (line .len) (length room - at)) refl
     where

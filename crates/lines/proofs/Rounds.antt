@@ -9,8 +9,6 @@ use borrow.Author.Tests.{ltb-true, ltb-false}
 use lib.Dec.{ltb}
 use lib.ListN.{length, take, drop}
 use Rattle.basis.specs.Answer.{gives}
-use Rattle.numerals.specs.Writing.{textIn}
-use Rattle.numerals.specs.declared.Text.{Text}
 use Rattle.seat.specs.Files.{Files}
 use Rattle.seat.specs.Answers.{turnMeaning, idle}
 use Rattle.seat.specs.declared.TurnAnswer.the-variants as TV
@@ -21,7 +19,8 @@ use Rattle.desk.specs.declared.AfterTurn.{AfterTurn}
 use Rattle.desk_laws.proofs.Sound.{Sound}
 use Rattle.desk_laws.proofs.Steps.{turn-lengths}
 use Rattle.desk_laws.proofs.Lasting.{turn-lasts}
-use Rattle.lines.specs.Text.{turnLine, Holds}
+use Rattle.lines.specs.Text.{turnLine, lineIn, Holds}
+use Rattle.lines.specs.declared.text.LineText.{LineText}
 use Rattle.lines.specs.Turns.{isIdle, taken, Ran}
 use Rattle.lines.proofs.Counting.{line-some}
 use Rattle.lines.proofs.Bounded.{next-desk, next-answer}
@@ -40,7 +39,7 @@ module _ {f : Files} {before room : List ℕ} {d₀ d : Desk} {at : ℕ} (g : Lo
   ran-full l = going-full f d₀ before d at room (g .going) (omega (arith, g .going .size)) _ refl refl refl
 
   -- a turn of the desk, and the line of its answer, put where it fits
-  module _ (r : AfterTurn) (h : afterTurn r ≡ nextOf f d) (line : Text) (hl : Holds line (turnLine (turnMeaning (r .answer))))
+  module _ (r : AfterTurn) (h : afterTurn r ≡ nextOf f d) (line : LineText) (hl : Holds line (turnLine (turnMeaning (r .answer))))
       {end : ℕ} {room′ : List ℕ} (p : Put at line room end room′) where
     answer-is : turnMeaning (r .answer) ≡ turnOf f d .answer
     answer-is = next-answer f d (g .sound) (g .same) r h
@@ -48,10 +47,10 @@ module _ {f : Files} {before room : List ℕ} {d₀ d : Desk} {at : ℕ} (g : Lo
     desk-is : r .desk ≡ turnOf f d .desk
     desk-is = next-desk f d (g .sound) (g .same) r h
 
-    line-is : textIn line ≡ turnLine (turnOf f d .answer)
+    line-is : lineIn line ≡ turnLine (turnOf f d .answer)
     line-is = hl .text ∙ ap turnLine answer-is
 
-    long : length (textIn line) ≡ line .len
+    long : length (lineIn line) ≡ line .len
     long = ap length (hl .text) ∙ sym (hl .size)
 
     has-byte : 1 ≤ line .len
@@ -65,19 +64,19 @@ module _ {f : Files} {before room : List ℕ} {d₀ d : Desk} {at : ℕ} (g : Lo
         (going-stops f d₀ before d at room (g .going) (omega (arith, g .going .size, long, ap length line-is)) _ refl refl refl)
 
     module _ (l : at < end) where
-      in-room : at + length (textIn line) ≤ length before
+      in-room : at + length (lineIn line) ≤ length before
       in-room = omega (arith, put-fits at line room p l, long, g .going .size, g .going .within)
 
-      end-is : end ≡ at + length (textIn line)
+      end-is : end ≡ at + length (lineIn line)
       end-is = omega (arith, put-end at line room p l, long)
 
-      put-is : room′ ≡ take at room ++ (textIn line ++ drop (at + length (textIn line)) room)
+      put-is : room′ ≡ take at room ++ (lineIn line ++ drop (at + length (lineIn line)) room)
       put-is = rw long (put-room at line room p l)
 
       pub goes-on : isIdle (turnMeaning (r .answer)) ≡ false → Loop f before d₀ room′ (r .desk) end
       goes-on no-idle =
           let q = rw answer-is at no-idle in
-          let x = going-on f d₀ before d at room (g .going) (textIn line) line-is in-room room′ put-is q in
+          let x = going-on f d₀ before d at room (g .going) (lineIn line) line-is in-room room′ put-is q in
           rw (desk-is, end-is)
           (record {
             sound = turn-lasts d (g .sound) f;
@@ -89,10 +88,10 @@ module _ {f : Files} {before room : List ℕ} {d₀ d : Desk} {at : ℕ} (g : Lo
           → Ran (record { desk = r .desk; written = record { count = end; idle = true } }) (taken f d₀ (length before)) before room′
       ran-last is-idle =
           let q = rw answer-is at is-idle in
-          going-idle f d₀ before d at room (g .going) (textIn line) line-is in-room room′ put-is q _ desk-is end-is refl
+          going-idle f d₀ before d at room (g .going) (lineIn line) line-is in-room room′ put-is q _ desk-is end-is refl
 
   -- at Idle it stops, whether the line fits or not
-  module _ (h : afterTurn (record { desk = d; answer = TV.Idle }) ≡ nextOf f d) (line : Text) (hl : Holds line (turnLine (gives idle)))
+  module _ (h : afterTurn (record { desk = d; answer = TV.Idle }) ≡ nextOf f d) (line : LineText) (hl : Holds line (turnLine (gives idle)))
       {end : ℕ} {room′ : List ℕ} (p : Put at line room end room′) where
     pub ran-idle : Ran (record { desk = d; written = record { count = end; idle = ltb at end } }) (taken f d₀ (length before)) before room′
     ran-idle = go (ltb at end) refl

@@ -1,44 +1,52 @@
--- A line is written piece by piece: what a text holds after a piece is added, and the lines of no, one, two and three numbers.
-use mathlib.Core.Path.{_≡_, refl, ap, sym, _∙_}
+-- A line is written part by part: what it holds after a part is added, and the lines of no, one, two and three numbers.
+use mathlib.Core.Path.{_≡_, ap, sym, _∙_}
 use mathlib.Core.List.{List, [], _∷_, _++_, append-assoc, append-nil}
-use Prim.Native.Nat.{ℕ, _+_, _≤_}
+use Prim.Native.Nat.{ℕ, _+_}
 use native.Mathlib.Omega.{arith}
-use lib.ListN.{length, length-append}
+use lib.ListN.{length-append}
 use Rattle.timetable.specs.Fields.{tab}
 use Rattle.timetable.specs.Lines.{newline}
-use Rattle.numerals.specs.Writing.{decimal, textIn, Added}
-use Rattle.numerals.specs.declared.Text.{Text}
-use Rattle.lines.specs.Text.{numbers, lineWith, Holds}
+use Rattle.numerals.specs.Writing.{decimal}
+use Rattle.lines.specs.Text.{numbers, lineWith, lineIn, Holds, Grown}
+use Rattle.lines.specs.declared.text.LineText.{LineText}
 
-pub and-then : {t r : Text} {w v : List ℕ} {n : ℕ} → Holds t w → Added t r v n → n ≡ length v → Holds r (w ++ v)
-and-then {t} {r} {w} {v} {n} h a e =
+pub and-then : {t r : LineText} {w v : List ℕ} → Holds t w → Grown t r v → Holds r (w ++ v)
+and-then {t} {r} {w} {v} h a =
     record {
       text = a .text ∙ ap (λ (x : List ℕ). x ++ v) (h .text);
       size = omega (arith, a .more, h .size, length-append w v);
     }
 
-pub same-bytes : {t : Text} {w v : List ℕ} → Holds t w → w ≡ v → Holds t v
+pub and-more : {t r q : LineText} {w v : List ℕ} → Grown t r w → Grown r q v → Grown t q (w ++ v)
+and-more {t} {r} {q} {w} {v} a b =
+    record {
+      text = b .text ∙ ap (λ (x : List ℕ). x ++ v) (a .text) ∙ append-assoc (lineIn t) w v;
+      more = omega (arith, a .more, b .more, length-append w v);
+    }
+
+pub nothing-more : (t : LineText) → Grown t t []
+nothing-more t = record { text = sym (append-nil (lineIn t)); more = omega arith }
+
+pub grown-by : {t r : LineText} {w v : List ℕ} → Grown t r w → w ≡ v → Grown t r v
+grown-by h e = rw (← e) h
+
+pub same-bytes : {t : LineText} {w v : List ℕ} → Holds t w → w ≡ v → Holds t v
 same-bytes h e = rw (← e) h
 
--- one number more
-pub number-more : {t r : Text} {w : List ℕ} (n : ℕ) → Holds t w → Added t r (tab ∷ decimal n) (1 + length (decimal n)) → Holds r (w ++ (tab ∷ decimal n))
-number-more n h a = and-then h a (omega arith)
-
-pub no-number : {t r : Text} (w : List ℕ) → Holds t w → Added t r (newline ∷ []) 1 → Holds r (lineWith w [])
+pub no-number : {t r : LineText} (w : List ℕ) → Holds t w → Grown t r (newline ∷ []) → Holds r (lineWith w [])
 unfolding lineWith numbers
-no-number w h a = and-then h a refl
+no-number w h a = and-then h a
 
-pub one-number : {t r : Text} (w : List ℕ) (a : ℕ) → Holds t (w ++ (tab ∷ decimal a)) → Added t r (newline ∷ []) 1 → Holds r (lineWith w (a ∷ []))
+pub one-number : {t r : LineText} (w : List ℕ) (a : ℕ) → Holds t (w ++ (tab ∷ decimal a)) → Grown t r (newline ∷ []) → Holds r (lineWith w (a ∷ []))
 unfolding lineWith numbers
-one-number w a h e = same-bytes (and-then h e refl) (simp (append-assoc, append-nil))
+one-number w a h e = same-bytes (and-then h e) (simp (append-assoc, append-nil))
 
-pub two-numbers : {t u r : Text} (w : List ℕ) (a b : ℕ) → Holds t (w ++ (tab ∷ decimal a))
-    → Added t u (tab ∷ decimal b) (1 + length (decimal b)) → Added u r (newline ∷ []) 1 → Holds r (lineWith w (a ∷ b ∷ []))
+pub two-numbers : {t u r : LineText} (w : List ℕ) (a b : ℕ) → Holds t (w ++ (tab ∷ decimal a))
+    → Grown t u (tab ∷ decimal b) → Grown u r (newline ∷ []) → Holds r (lineWith w (a ∷ b ∷ []))
 unfolding lineWith numbers
-two-numbers w a b h x e = same-bytes (and-then (number-more b h x) e refl) (simp (append-assoc, append-nil))
+two-numbers w a b h x e = same-bytes (and-then (and-then h x) e) (simp (append-assoc, append-nil))
 
-pub three-numbers : {t u v r : Text} (w : List ℕ) (a b c : ℕ) → Holds t (w ++ (tab ∷ decimal a))
-    → Added t u (tab ∷ decimal b) (1 + length (decimal b)) → Added u v (tab ∷ decimal c) (1 + length (decimal c))
-    → Added v r (newline ∷ []) 1 → Holds r (lineWith w (a ∷ b ∷ c ∷ []))
+pub three-numbers : {t u v r : LineText} (w : List ℕ) (a b c : ℕ) → Holds t (w ++ (tab ∷ decimal a))
+    → Grown t u (tab ∷ decimal b) → Grown u v (tab ∷ decimal c) → Grown v r (newline ∷ []) → Holds r (lineWith w (a ∷ b ∷ c ∷ []))
 unfolding lineWith numbers
-three-numbers w a b c h x y e = same-bytes (and-then (number-more c (number-more b h x) y) e refl) (simp (append-assoc, append-nil))
+three-numbers w a b c h x y e = same-bytes (and-then (and-then (and-then h x) y) e) (simp (append-assoc, append-nil))

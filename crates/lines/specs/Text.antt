@@ -2,16 +2,16 @@
 -- offset; `unreadable` ticket offset number; `done` ticket hits unreadables; last `idle`." Each line ends with byte 10.
 use mathlib.Core.Path.{_≡_}
 use mathlib.Core.List.{List, [], _∷_, _++_}
-use Prim.Native.Nat.{ℕ, _≤_}
-use lib.ListN.{length}
+use Prim.Native.Nat.{ℕ, _+_, _≤_}
+use lib.ListN.{length, take}
 use Rattle.basis.specs.Answer.{Answer, gives, refuses}
 use Rattle.basis.specs.Letters.{bytes}
 use Rattle.timetable.specs.Fields.{tab}
 use Rattle.timetable.specs.Lines.{newline}
-use Rattle.numerals.specs.Writing.{decimal, textIn}
-use Rattle.numerals.specs.declared.Text.{Text}
+use Rattle.numerals.specs.Writing.{decimal}
 use Rattle.seat.specs.Bounds.{maxTimetable}
 use Rattle.seat.specs.Answers.{Turned, idle, hitAt, missAt, unreadableAt, doneWith}
+use Rattle.lines.specs.declared.text.LineText.{LineText}
 
 -- numbers in decimal without leading zeros, a tab before each
 unfoldable pub numbers : List ℕ → List ℕ
@@ -41,10 +41,23 @@ turnLine (refuses n) = refusedLine n
 
 -- ---- what the code that writes a line says
 
--- a text that grows holds these bytes
-pub record Holds (t : Text) (w : List ℕ) : Type 0 where
-  pub text : textIn t ≡ w
+-- a line has room for so many bytes
+abbrev pub lineRoom : ℕ
+lineRoom = 64
+
+-- the bytes of a line that grows
+abbrev pub lineIn : LineText → List ℕ
+lineIn t = take (t .len) (t .bytes)
+
+-- it holds these bytes
+pub record Holds (t : LineText) (w : List ℕ) : Type 0 where
+  pub text : lineIn t ≡ w
   pub size : t .len ≡ length w
+
+-- r is t with the bytes of w after it
+pub record Grown (t r : LineText) (w : List ℕ) : Type 0 where
+  pub text : lineIn r ≡ lineIn t ++ w
+  pub more : r .len ≡ t .len + length w
 
 -- the offset and the counts of an answer are within a timetable's bound, as those of a sound desk are
 abbrev pub Within : Answer Turned → Type 0

@@ -1,7 +1,7 @@
 // The lines that the desk program writes, and many turns at once, written into lent room.
 use desk::Desk;
-use numerals::Text;
 use seat::TurnAnswer;
+use text::LineText;
 use value::Refusal;
 ghost use mathlib.Core.Path.{_≡_};
 ghost use mathlib.Core.Bool.{true, false};
@@ -10,10 +10,10 @@ ghost use Prim.Native.Nat.{_+_, _-_, _≤_, _<_};
 ghost use lib.Dec.{leb};
 ghost use lib.ListN.{length, take, drop};
 ghost use Rattle.basis.specs.Choice.{pick};
-ghost use Rattle.numerals.specs.Writing.{textIn, longest};
 ghost use Rattle.seat.specs.Files.{over};
 ghost use Rattle.desk.specs.Soundness.{soundOf};
 ghost use Rattle.desk.specs.Desk.{haveLengths};
+ghost use Rattle.lines.specs.Text.{lineIn, lineRoom};
 ghost use Rattle.lines.specs.Turns.{taken, Ran, turnsOf, roomAfter, turnsMeaning, afterTurns};
 
 pub mod text; // text.rt: the lines themselves
@@ -41,9 +41,9 @@ pub struct Run {
 }
 
 // A line written into the room from `at` on.
-fn put(room: &mut [u8], at: usize, line: Text)
-    requires { ⌜ (line .len ≤ longest) × (at + line .len ≤ length (now room)) ⌝ }
-    ensures { λ _. ⌜ now (room .exit) ≡ take at (now (room .entry)) ++ (textIn line ++ drop (at + line .len) (now (room .entry))) ⌝ }
+pub fn put(room: &mut [u8], at: usize, line: LineText)
+    requires { ⌜ (line .len ≤ lineRoom) × (at + line .len ≤ length (now room)) ⌝ }
+    ensures { λ _. ⌜ now (room .exit) ≡ take at (now (room .entry)) ++ (lineIn line ++ drop (at + line .len) (now (room .entry))) ⌝ }
 {
     let bytes = line.bytes;
     let long = line.len;
@@ -51,9 +51,9 @@ fn put(room: &mut [u8], at: usize, line: Text)
 }
 
 // A line written into the room from `at` on, where it fits: where the lines then end.
-fn put_fitting(room: &mut [u8], at: usize, line: Text) -> usize
-    requires { ⌜ (line .len ≤ longest) × (at ≤ length (now room)) ⌝ }
-    ensures { λ r. ⌜ (r ≡ pick (leb (line .len) (length (now (room .entry)) - at)) (at + line .len) at) × (now (room .exit) ≡ pick (leb (line .len) (length (now (room .entry)) - at)) (take at (now (room .entry)) ++ (textIn line ++ drop (at + line .len) (now (room .entry)))) (now (room .entry))) ⌝ }
+fn put_fitting(room: &mut [u8], at: usize, line: LineText) -> usize
+    requires { ⌜ (line .len ≤ lineRoom) × (at ≤ length (now room)) ⌝ }
+    ensures { λ r. ⌜ (r ≡ pick (leb (line .len) (length (now (room .entry)) - at)) (at + line .len) at) × (now (room .exit) ≡ pick (leb (line .len) (length (now (room .entry)) - at)) (take at (now (room .entry)) ++ (lineIn line ++ drop (at + line .len) (now (room .entry)))) (now (room .entry))) ⌝ }
 {
     if room.len() - at < line.len {
         return at;

@@ -2,82 +2,123 @@
 use desk::OpenAnswer;
 use numerals::Text;
 use seat::TurnAnswer;
+ghost use mathlib.Core.Path.{_≡_};
 ghost use mathlib.Core.List.{[], _∷_, _++_};
 ghost use Prim.Native.Nat.{_+_, _≤_, _<_};
 ghost use lib.ListN.{length};
 ghost use Rattle.timetable.specs.Fields.{tab};
 ghost use Rattle.timetable.specs.Lines.{newline};
-ghost use Rattle.numerals.specs.Writing.{Added, longest};
-ghost use Rattle.numerals.specs.Writing as its;
+ghost use Rattle.numerals.specs.Writing.{decimal};
 ghost use Rattle.seat.specs.Bounds.{maxTimetable};
 ghost use Rattle.seat.specs.Answers.{turnMeaning};
 ghost use Rattle.desk.specs.Answers.{openMeaning};
-ghost use Rattle.lines.specs.Text.{refusedLine, openLine, turnLine, Holds, Within};
+ghost use Rattle.lines.specs.Text.{refusedLine, openLine, turnLine, lineRoom, Holds, Grown, Within};
 
 const TAB: u8 = 9;
 
 const NEWLINE: u8 = 10;
 
-// A line's word.
-fn word(w: &[u8]) -> Text
-    requires { ⌜ length (now w) ≤ 10 ⌝ }
-    ensures { λ r. ⌜ Holds r (now (w .entry)) ⌝ }
+// A line as it grows. The text of values has no room for a line that is longer than they are.
+pub struct LineText {
+    pub bytes: [u8; LineText::ROOM],
+    pub len: usize,
+}
+
+impl LineText {
+    // A line has room for so many bytes.
+    pub const ROOM: usize = 64;
+
+    fn new() -> LineText
+        ensures { λ r. ⌜ Holds r [] ⌝ }
+    {
+        LineText {
+            bytes: [0u8; LineText::ROOM],
+            len: 0,
+        }
+    }
+
+    fn push(mut self, b: u8) -> LineText
+        requires { ⌜ self .len < lineRoom ⌝ }
+        ensures { λ r. ⌜ Grown self r (b ∷ []) ⌝ }
+    {
+        let at = self.len;
+        self.bytes[at] = b;
+        self.len = at + 1;
+        self
+    }
+}
+
+// A line and more bytes after it.
+fn with(line: LineText, more: &[u8]) -> LineText
+    requires { ⌜ line .len + length (now more) ≤ lineRoom ⌝ }
+    ensures { λ r. ⌜ Grown line r (now (more .entry)) ⌝ }
 {
-    let mut text = Text::new();
+    let mut text = line;
     let mut i = 0;
-    while i < w.len() {
-        text = text.push(w[i]);
+    while i < more.len() {
+        text = text.push(more[i]);
         i += 1;
     }
     text
 }
 
-// A tab and a number.
-fn number(t: Text, n: u64) -> Text
-    requires { ⌜ t .len + 1 + length (its.decimal n) ≤ longest ⌝ }
-    ensures { λ r. ⌜ Added t r (tab ∷ its.decimal n) (1 + length (its.decimal n)) ⌝ }
+// A line's word.
+fn word(w: &[u8]) -> LineText
+    requires { ⌜ length (now w) ≤ 10 ⌝ }
+    ensures { λ r. ⌜ Holds r (now (w .entry)) ⌝ }
 {
-    numerals::decimal(t.push(TAB), n)
+    with(LineText::new(), w)
+}
+
+// A tab and a number.
+fn number(t: LineText, n: u64) -> LineText
+    requires { ⌜ t .len + 1 + length (decimal n) ≤ lineRoom ⌝ }
+    ensures { λ r. ⌜ Grown t r (tab ∷ decimal n) ⌝ }
+{
+    let digits = numerals::decimal(Text::new(), n);
+    let bytes = digits.bytes;
+    let long = digits.len;
+    with(t.push(TAB), &bytes[..long])
 }
 
 // A word, and a number that may be a ticket.
-fn begun(w: &[u8], n: u32) -> Text
+fn begun(w: &[u8], n: u32) -> LineText
     requires { ⌜ length (now w) ≤ 10 ⌝ }
-    ensures { λ r. ⌜ (Holds r (now (w .entry) ++ (tab ∷ its.decimal n))) × (r .len ≤ length (now (w .entry)) + 11) ⌝ }
+    ensures { λ r. ⌜ (Holds r (now (w .entry) ++ (tab ∷ decimal n))) × (r .len ≤ length (now (w .entry)) + 11) ⌝ }
 {
     number(word(w), n as u64)
 }
 
 // A tab and an offset or a count.
-fn counted(t: Text, n: usize) -> Text
-    requires { ⌜ (n ≤ maxTimetable) × (t .len + 6 ≤ longest) ⌝ }
-    ensures { λ r. ⌜ (Added t r (tab ∷ its.decimal n) (1 + length (its.decimal n))) × (r .len ≤ t .len + 6) ⌝ }
+fn counted(t: LineText, n: usize) -> LineText
+    requires { ⌜ (n ≤ maxTimetable) × (t .len + 6 ≤ lineRoom) ⌝ }
+    ensures { λ r. ⌜ (Grown t r (tab ∷ decimal n)) × (r .len ≤ t .len + 6) ⌝ }
 {
     number(t, n as u64)
 }
 
 // A tab and the number of a refusal.
-fn numbered(t: Text, n: u8) -> Text
-    requires { ⌜ t .len + 4 ≤ longest ⌝ }
-    ensures { λ r. ⌜ (Added t r (tab ∷ its.decimal n) (1 + length (its.decimal n))) × (r .len ≤ t .len + 4) ⌝ }
+fn numbered(t: LineText, n: u8) -> LineText
+    requires { ⌜ t .len + 4 ≤ lineRoom ⌝ }
+    ensures { λ r. ⌜ (Grown t r (tab ∷ decimal n)) × (r .len ≤ t .len + 4) ⌝ }
 {
     number(t, n as u64)
 }
 
-fn ended(t: Text) -> Text
-    requires { ⌜ t .len < longest ⌝ }
-    ensures { λ r. ⌜ Added t r (newline ∷ []) 1 ⌝ }
+fn ended(t: LineText) -> LineText
+    requires { ⌜ t .len < lineRoom ⌝ }
+    ensures { λ r. ⌜ Grown t r (newline ∷ []) ⌝ }
 {
     t.push(NEWLINE)
 }
 
-pub fn refused_line(number: u8) -> Text
+pub fn refused_line(number: u8) -> LineText
     ensures { λ r. ⌜ Holds r (refusedLine number) ⌝ }
 {
     ended(begun(b"refused", number as u32))
 }
 
-pub fn open_line(answer: OpenAnswer) -> Text
+pub fn open_line(answer: OpenAnswer) -> LineText
     ensures { λ r. ⌜ Holds r (openLine (openMeaning answer)) ⌝ }
 {
     match answer {
@@ -86,9 +127,8 @@ pub fn open_line(answer: OpenAnswer) -> Text
     }
 }
 
-// The longest has 32 bytes: an unreadable line with a number of three digits. A line's result has a number of one digit, and no
-// line of a desk is longer than 30.
-pub fn turn_line(answer: TurnAnswer) -> Text
+// The longest has 32 bytes, an unreadable line with a number of three digits: it fits.
+pub fn turn_line(answer: TurnAnswer) -> LineText
     requires { ⌜ Within (turnMeaning answer) ⌝ }
     ensures { λ r. ⌜ Holds r (turnLine (turnMeaning answer)) ⌝ }
 {

@@ -4,6 +4,7 @@ use mathlib.Core.Path.{_≡_, refl, sym, ap, _∙_}
 use Prim.Native.Nat.{ℕ, _<_, _≤_, _+_, _-_}
 use lib.ListN.{length, take, drop, length-take, length-drop}
 use lib.Seq.{length-take-le}
+use Rattle.lines.specs.Text.{lineRoom}
 use Rattle.lines.proofs.Putting.{put-part}
 use borrow.Author.Needs.{needs}
 use Rattle.lines.proofs.put.Statement.{statement}
@@ -14,12 +15,12 @@ use Rattle.bytes.proofs.copy.Reads as copy-reads
 
 array-share-prefix-bytes : tie.Need-array-share-prefix-bytes
 array-share-prefix-bytes c =
-    let e : length (c .before .before .args .line .bytes) ≡ 32 = search needs in
+    let e : length (c .before .before .args .line .bytes) ≡ lineRoom = search needs in
     omega arith
 
 slice-aggregate-copy : tie.Need-slice-aggregate-copy
 slice-aggregate-copy c =
-    let e : length (c .before .before .before .args .line .bytes) ≡ 32 = search needs in
+    let e : length (c .before .before .before .args .line .bytes) ≡ lineRoom = search needs in
     sym (length-take-le _ _ (omega arith))
 
 sub-copy : tie.Need-sub-copy
@@ -33,7 +34,7 @@ part-copy-end c = search needs
 
 copy-requires : tie.Need-copy-requires
 copy-requires c κs =
-    let e : length (c .before .before .before .before .args .line .bytes) ≡ 32 = search needs in
+    let e : length (c .before .before .before .before .args .line .bytes) ≡ lineRoom = search needs in
     let a = length-take-le (c .before .before .before .before .args .line .len) (c .before .before .before .before .args .line .bytes) (omega arith) in
     let m = length-drop (c .before .before .before .before .args .at) (c .before .before .before .before .args .room .now) in
     let k = length-take-le (length (c .before .before .before .before .args .room .now) - c .before .before .before .before .args .at) (drop (c .before .before .before .before .args .at) (c .before .before .before .before .args .room .now)) (omega arith) in
@@ -44,7 +45,7 @@ same-length c = search needs
 
 returns : tie.Need-returns
 returns c =
-    let e : length (c .before .before .before .before .before .before .before .args .line .bytes) ≡ 32 = search needs in
+    let e : length (c .before .before .before .before .before .before .before .args .line .bytes) ≡ lineRoom = search needs in
     let a = length-take-le (c .before .before .before .before .before .before .before .args .line .len) (c .before .before .before .before .before .before .before .args .line .bytes) (omega arith) in
     put-part (c .before .before .before .before .before .before .before .args .room .now) (take (c .before .before .before .before .before .before .before .args .line .len) (c .before .before .before .before .before .before .before .args .line .bytes)) _ (c .before .before .before .before .before .before .before .args .at) (c .before .before .before .before .before .before .before .args .line .len) a (c .before .before .before .before .before .before .before .pre .1) (c .before .before .copy .ensures .1)
 

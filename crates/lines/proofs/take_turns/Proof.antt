@@ -4,7 +4,6 @@ use mathlib.Core.Logic.{⊎-elim}
 use Prim.Native.Nat.{ℕ, _+_, _-_, _%_, _≤_, _<_}
 use lib.ListN.{length}
 use borrow.Author.Needs.{needs}
-use Rattle.numerals.specs.Writing.{longest}
 use Rattle.seat.specs.Files.{over}
 use Rattle.desk.specs.Bounds.{seatCount}
 use Rattle.desk.specs.Answers.{afterTurn}
@@ -12,6 +11,7 @@ use Rattle.desk.specs.Desk.{nextOf}
 use Rattle.desk.specs.declared.AfterTurn.{AfterTurn}
 use Rattle.desk_laws.proofs.Sound.{sound-in}
 use Rattle.lines.proofs.Calls.{mapped-length}
+use Rattle.lines.specs.Text.{lineRoom}
 use Rattle.lines.proofs.Bounded.{next-within, holds-fits}
 use Rattle.lines.proofs.Going.{going-starts}
 use Rattle.lines.proofs.Served.{Looking, Found, looking-starts, looking-on, found-held, found-none, found-sound, stored, idle-next, stored-next, stored-some}
@@ -91,7 +91,7 @@ turn-line-requires c κs = tt
 put-fitting-requires : tie.Need-put-fitting-requires Inv-loop2 μ-loop2 Inv-loop μ-loop
 put-fitting-requires c κs =
     let line = c .before .turn-line in
-    let z : length (line .result .bytes) ≡ longest = search needs in
+    let z : length (line .result .bytes) ≡ lineRoom = search needs in
     let l = c .before .before .before .before .before .loop-test .taken in
     (holds-fits (line .result) _ (line .ensures) z, omega arith)
 
@@ -127,7 +127,7 @@ turn-line-requires-2 c κs =
 put-fitting-requires-2 : tie.Need-put-fitting-requires-2 Inv-loop2 μ-loop2 Inv-loop μ-loop
 put-fitting-requires-2 c κs =
     let line = c .before .turn-line2 in
-    let z : length (line .result .bytes) ≡ longest = search needs in
+    let z : length (line .result .bytes) ≡ lineRoom = search needs in
     let l = c .before .before .before .before .before .before .before .before .loop-test .taken in
     (holds-fits (line .result) _ (line .ensures) z, omega arith)
 

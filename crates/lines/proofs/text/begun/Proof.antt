@@ -1,5 +1,5 @@
 use native.Mathlib.Omega.{arith}
-use Rattle.lines.proofs.Writing.{number-more}
+use Rattle.lines.proofs.Writing.{and-then}
 use Rattle.lines.proofs.Digits.{ten-digits}
 use borrow.Author.Needs.{needs}
 use Rattle.lines.proofs.text.begun.Statement.{statement}
@@ -17,7 +17,7 @@ number-requires c κs = omega (arith, ten-digits (c .before .before .args .n) (o
 
 returns : tie.Need-returns
 returns c =
-    (number-more (c .before .before .before .args .n) (c .before .word .ensures) (c .number .ensures), omega (arith, ten-digits (c .before .before .before .args .n) (omega arith), c .number .ensures .more, c .before .word .ensures .size))
+    (and-then (c .before .word .ensures) (c .number .ensures), omega (arith, ten-digits (c .before .before .before .args .n) (omega arith), c .number .ensures .more, c .before .word .ensures .size))
 
 pub begun-spec : {M : Type 1} → statement M
 begun-spec = tie.close (tie.spec word-requires number-requires returns)
