@@ -1,36 +1,28 @@
 // Hostile desks: a script builds desks, sound or not, and makes the desk's calls on them (docs/LINES.md, "Hostile desks"). It
 // reads and writes; the answers are those of crates `desk` and `lines`.
+use desk::CloseAnswer;
 use desk::Desk;
+use desk::FreshAnswer;
 use hostile::fields::after_tab;
 use hostile::names::place_in;
 use hostile::numbers::GREATEST;
 use hostile::numbers::read;
+use hostile::shown::kept;
 use libc::STDIN_FILENO;
 use libc::STDOUT_FILENO;
 use line_reader::read_line;
+use lines::TurnsAnswer;
+use lines::text::LineText;
 use lines::text::open_line;
+use lines::text::refused_line;
 use lines::text::turn_line;
 use seat::Seat;
-use showing::show;
-use telling::END;
-use telling::PART;
-use telling::SET;
-use telling::tell_close;
-use telling::tell_fresh;
-use telling::tell_refused;
-use telling::tell_sound;
-use telling::tell_text;
-use telling::tell_turns;
-use telling::tell_word;
 use timetable::fields::field;
 use timetable::fields::has_field;
 use value::Refusal;
 use words::cut;
 use words::same;
 ghost use Prim.Native.Nat.{_≤_};
-
-mod showing; // showing.rt: the desk as it stands
-mod telling; // telling.rt: lines written
 
 // The most bytes of a script.
 const MAX_INPUT: usize = 65_536;
@@ -46,6 +38,138 @@ const TICKET_END: u64 = TICKETS + 1;
 
 // The number of a line that is no event.
 const NO_EVENT: u8 = Refusal::BAD_CONDITION;
+
+// The words that are written, as places in the list of `tell_word`.
+const MADE: usize = 1;
+
+const CLOSED: usize = 2;
+
+const PART: usize = 3;
+
+const SET: usize = 4;
+
+const SOUND: usize = 5;
+
+const UNSOUND: usize = 6;
+
+const WROTE: usize = 7;
+
+const IDLE: usize = 8;
+
+const MORE: usize = 9;
+
+const DESK: usize = 10;
+
+const SEAT: usize = 11;
+
+const END: usize = 12;
+
+fn tell_word(place: usize) {
+    let words =
+        b"made\n\tclosed\n\tpart\n\tset\n\tsound\n\tunsound\n\twrote\tidle\n\tmore\n\tdesk\tseat\t\n";
+    io::write_all(STDOUT_FILENO, field(words, place));
+}
+
+fn tell_tab() {
+    io::write_all(STDOUT_FILENO, b"\t");
+}
+
+// A tab and a number.
+fn tell_number(n: u64) {
+    tell_tab();
+    io::print_decimal(STDOUT_FILENO, n);
+}
+
+fn tell_text(text: LineText) {
+    let bytes = text.bytes;
+    io::write_all(STDOUT_FILENO, cut(&bytes, 0, text.len));
+}
+
+fn tell_refused(number: u8) {
+    tell_text(refused_line(number));
+}
+
+fn tell_sound(sound: bool) {
+    let word = if sound { SOUND } else { UNSOUND };
+    tell_word(word);
+}
+
+fn tell_fresh(answer: FreshAnswer) {
+    match answer {
+        FreshAnswer::Made => tell_word(MADE),
+        FreshAnswer::Refused(refusal) => tell_refused(refusal.number),
+    }
+}
+
+fn tell_close(answer: CloseAnswer) {
+    match answer {
+        CloseAnswer::Freed => tell_word(CLOSED),
+        CloseAnswer::Refused(refusal) => tell_refused(refusal.number),
+    }
+}
+
+fn tell_turns(answer: TurnsAnswer) {
+    match answer {
+        TurnsAnswer::Wrote(written) => {
+            tell_word(WROTE);
+            tell_number(written.count as u64);
+            tell_tab();
+            let last = if written.idle { IDLE } else { MORE };
+            tell_word(last);
+        }
+        TurnsAnswer::Refused(refusal) => tell_refused(refusal.number),
+    }
+}
+
+// A tab, and the bytes in two digits each.
+fn tell_bytes(s: &[u8]) {
+    tell_tab();
+    let mut i = 0;
+    while i < s.len() {
+        io::print_hex(STDOUT_FILENO, s[i] as u64, 2);
+        i += 1;
+    }
+}
+
+// Writes the line of a seat, unless it is free and all zeros.
+fn show_seat(place: usize, s: Seat) {
+    let condition = s.condition;
+    let bytes: &[u8] = &condition;
+    let text = cut(bytes, 0, kept(bytes));
+    let any = text.len()
+        | s.offset
+        | s.hits
+        | s.unreadable
+        | s.condition_length
+        | s.ticket as usize
+        | s.held as usize;
+    if any == 0 {
+        return;
+    }
+    tell_word(SEAT);
+    tell_number(place as u64);
+    tell_number(s.held as u64);
+    tell_number(s.ticket as u64);
+    tell_number(s.offset as u64);
+    tell_number(s.hits as u64);
+    tell_number(s.unreadable as u64);
+    tell_number(s.condition_length as u64);
+    tell_bytes(text);
+    tell_word(END);
+}
+
+fn show(desk: Desk) {
+    tell_word(DESK);
+    tell_number(desk.last_served as u64);
+    tell_number(desk.timetable_length as u64);
+    tell_number(desk.issued as u64);
+    tell_word(END);
+    let mut i = 0;
+    while i < Desk::SEATS {
+        show_seat(i, desk.seats[i]);
+        i += 1;
+    }
+}
 
 // A number and the place of its name in a list; place 0 where the line is none of the list.
 struct Setting {

@@ -2,8 +2,8 @@ use Prim.Native.Nat.{_-_}
 use native.Mathlib.Omega.{arith}
 use borrow.Author.Needs.{needs}
 use lib.ListN.{length}
-use Rattle.hostile_desks.proofs.showing.tell_bytes.Statement.{statement}
-use Rattle.hostile_desks.proofs.showing.tell_bytes.Tie as tie
+use Rattle.hostile_desks.proofs.tell_bytes.Statement.{statement}
+use Rattle.hostile_desks.proofs.tell_bytes.Tie as tie
 
 abbrev Inv-loop : tie.InvT-loop
 Inv-loop s i₀ i = Unit {0}

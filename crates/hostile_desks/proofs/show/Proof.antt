@@ -2,8 +2,8 @@ use Prim.Native.Nat.{_-_}
 use native.Mathlib.Omega.{arith}
 use borrow.Author.Needs.{needs}
 use Rattle.desk.specs.Bounds.{seatCount}
-use Rattle.hostile_desks.proofs.showing.show.Statement.{statement}
-use Rattle.hostile_desks.proofs.showing.show.Tie as tie
+use Rattle.hostile_desks.proofs.show.Statement.{statement}
+use Rattle.hostile_desks.proofs.show.Tie as tie
 
 abbrev Inv-loop : tie.InvT-loop
 Inv-loop desk i₀ i = Unit {0}
