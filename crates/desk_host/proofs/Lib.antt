@@ -1,7 +1,7 @@
+pub mod Lent
+pub mod Room
+pub mod Due
+pub mod Sending
 pub mod Opening
 pub mod Turning
-pub mod Lent
-pub mod Again
-pub mod Room
-pub mod Lengths
-pub mod Ends
+pub mod Serving

@@ -3,26 +3,21 @@
 use native.Mathlib.Omega.{arith}
 use mathlib.Core.Path.{_≡_, refl, sym, ap, _∙_}
 use mathlib.Core.List.{List}
-use Prim.Native.Nat.{ℕ, _-_, _≤_, _<_, _^_}
+use Prim.Native.Nat.{ℕ, _-_, _≤_, _<_}
 use lib.ListN.{length}
-use Rattle.timetable.specs.Lines.{Line, lineAt, lineEnd, nextLine, linesFrom, placedLines}
+use Rattle.timetable.specs.Lines.{Line, lineEnd, nextLine, linesFrom, placedLines}
 use Rattle.timetable.proofs.Offsets.{line-cut, lines-end, lines-next, next-further}
 use Rattle.words.specs.Runs.{between}
-use Rattle.desk.specs.Desk.{openOf}
+use Rattle.seat.specs.Request.{asking}
 use Rattle.desk.specs.declared.Desk.{Desk}
-use Rattle.desk_host.specs.Program.{openedAll}
-
--- what is cut out between an offset and its line's end is the line there
-pub line-opened : (t : List ℕ) (at end : ℕ) (w : List ℕ) (d h : Desk) → end ≡ lineEnd t at → w ≡ between t at end → h ≡ openOf w d .desk → h ≡ openOf (lineAt t at .text) d .desk
-line-opened t at end w d h e p q = q ∙ ap (λ (x : List ℕ). openOf x d .desk) (p ∙ line-cut t at end e)
-
--- ---- the loop
+use Rattle.pieces.specs.Pieces.{openPiece, openedAll}
 
 -- a line was opened
-pub next-opened : (t : List ℕ) (i j : ℕ) (d h x : Desk) → i < length t → openedAll (linesFrom t i) d ≡ x → h ≡ openOf (lineAt t i .text) d .desk → j ≡ nextLine t i
+pub next-opened : (t : List ℕ) (i j end : ℕ) (d h x : Desk) → i < length t → openedAll (linesFrom t i) d ≡ x → end ≡ lineEnd t i → h ≡ openPiece (asking (between t i end)) d .desk → j ≡ nextLine t i
     → openedAll (linesFrom t j) h ≡ x
 unfolding openedAll
-next-opened t i j d h x l v p q = rw (p, q) (sym (ap (λ (ls : List Line). openedAll ls d) (lines-next t i l)) ∙ v)
+next-opened t i j end d h x l v n p q =
+    rw (p, line-cut t i end n, q) (sym (ap (λ (ls : List Line). openedAll ls d) (lines-next t i l)) ∙ v)
 
 -- no line is left
 pub all-opened : (t : List ℕ) (i : ℕ) (d x : Desk) → length t ≤ i → openedAll (linesFrom t i) d ≡ x → d ≡ x
@@ -36,7 +31,3 @@ from-start t d = refl
 
 pub nearer : (t : List ℕ) (i j : ℕ) → i < length t → j ≡ nextLine t i → length t - j < length t - i
 nearer t i j l q = omega (arith, next-further t i l)
-
--- an offset within the input is a number of 64 bits
-pub offset-fits : (i n : ℕ) → i < n → n < 2 ^ 64 → i < 2 ^ 64
-offset-fits i n l g = omega arith

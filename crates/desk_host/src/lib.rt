@@ -1,133 +1,172 @@
 // The desk program (document 01, "The desk program"): it reads the timetable and the conditions, opens the conditions in order,
 // and takes turns until Idle. It keeps one desk for its whole life, in one variable of `live`, and has it updated where
-// it stands: its loops go through `desk_in_place::open_in` and `lines::turns_in`.
+// it stands: its loops go through `desk_in_place::open_in` and `lines::turns_in`. What it writes are the pieces of crate
+// `pieces`, each as it was left; after a write that failed it writes nothing more.
 use desk::Desk;
-use desk::OpenAnswer;
 use libc::STDIN_FILENO;
 use libc::STDOUT_FILENO;
-use lines::TurnsAnswer;
-use lines::text::open_line;
-use lines::text::refused_line;
-use numerals::Text;
-use value::Refusal;
+use line_reader::moved;
+use line_reader::next;
+use lines::text::LineText;
+use pieces::Part;
 use words::cut;
 ghost use mathlib.Core.Path.{_≡_};
-ghost use Prim.Native.Nat.{_≤_};
+ghost use mathlib.Core.Bool.{true};
+ghost use Prim.Native.Nat.{_+_, _≤_};
 ghost use lib.ListN.{length};
 ghost use Rattle.io.specs.Counts.{Counts};
-ghost use Rattle.numerals.specs.Writing.{longest};
-ghost use Rattle.timetable.specs.Lines.{lineAt, nextLine, placedLines};
-ghost use Rattle.desk.specs.Desk.{freshOf, openOf};
-ghost use Rattle.lines.specs.Turns.{turnsOf, turnsMeaning};
-ghost use Rattle.desk_host.specs.Program.{roomSize, callCount, writtenWithin, goesOn, openedAll, untilIdle, deskAtEnd};
-
-// The most bytes of conditions.
-const MAX_INPUT: usize = 4_096;
+ghost use Rattle.basis.specs.Choice.{both};
+ghost use Rattle.timetable.specs.Lines.{placedLines};
+ghost use Rattle.words.specs.Runs.{between};
+ghost use Rattle.seat.specs.Bounds.{maxTimetable};
+ghost use Rattle.seat.specs.Files.{over};
+ghost use Rattle.seat.specs.Request.{asking};
+ghost use Rattle.pieces.specs.Bounds.{maxInput, roomSize};
+ghost use Rattle.pieces.specs.Pieces.{startPiece, openPiece, turnsPiece, openedAll, untilIdle, turnCount, deskAtEnd};
 
 // The bytes of lines that are written at once.
 const ROOM: usize = 4_096;
 
-// Each call takes a turn or more, and a full desk over a timetable of empty lines takes 16 x (65,536 + 1) of them before it
+// Each piece takes a turn or more, and a full desk over a timetable of empty lines takes 16 x (65,536 + 1) of them before it
 // is Idle.
 const CALLS: usize = Desk::SEATS * (Desk::MAX_TIMETABLE + 1) + 1;
 
-fn write_text(text: Text)
-    requires { ⌜ text .len ≤ longest ⌝ }
+// What became of a piece: whether the write went through, and whether more is due after it.
+struct Sent {
+    through: bool,
+    more: bool,
+}
+
+// The desk that the program starts with, and what became of its first piece.
+struct Started {
+    desk: Desk,
+    sent: Sent,
+}
+
+// The desk at the program's end, and whether every write went through.
+struct Ended {
+    desk: Desk,
+    through: bool,
+}
+
+// Writes a piece as it stands in the room. Nothing more is due after a write that failed.
+fn send(part: Part, room: &[u8]) -> Sent
+    requires { ⌜ part .count ≤ length (now room) ⌝ }
+    ensures { λ r. ⌜ r .more ≡ both (r .through) (part .more) ⌝ }
 {
-    let bytes = text.bytes;
-    let long = text.len;
-    io::write_all(STDOUT_FILENO, &bytes[..long]);
-}
-
-fn tell_open(answer: OpenAnswer) {
-    write_text(open_line(answer));
-}
-
-fn tell_refused(number: u8) {
-    write_text(refused_line(number));
-}
-
-// Writes the lines of some turns, and says whether more are due.
-fn tell_turns(answer: TurnsAnswer, room: &[u8]) -> bool
-    requires { ⌜ writtenWithin (turnsMeaning answer) (length (now room)) ⌝ }
-    ensures { λ r. ⌜ r ≡ goesOn (turnsMeaning answer) ⌝ }
-{
-    match answer {
-        TurnsAnswer::Wrote(written) => {
-            let count = written.count;
-            io::write_all(STDOUT_FILENO, &room[..count]);
-            !written.idle
-        }
-        TurnsAnswer::Refused(refusal) => {
-            tell_refused(refusal.number);
-            false
-        }
+    let count = part.count;
+    if !io::write_all(STDOUT_FILENO, &room[..count]) {
+        return Sent {
+            through: false,
+            more: false,
+        };
+    }
+    Sent {
+        through: true,
+        more: part.more,
     }
 }
 
-fn desk_for(timetable_length: usize) -> Desk
-    ensures { λ r. ⌜ r ≡ freshOf «timetable_length» .desk ⌝ }
+// The first piece.
+fn start(timetable_length: usize, input_length: usize) -> Started
+    ensures { λ r. ⌜ (r .desk ≡ startPiece «timetable_length» «input_length» .desk) × (r .sent .more ≡ both (r .sent .through) (startPiece «timetable_length» «input_length» .more)) ⌝ }
 {
-    let fresh = desk::fresh(timetable_length);
-    let desk = fresh.desk;
-    desk
+    let mut room = [0; LineText::ROOM];
+    let begun = pieces::begin(timetable_length, input_length, &mut room);
+    let desk = begun.desk;
+    let part = begun.part;
+    let sent = send(part, &room);
+    Started { desk, sent }
 }
 
-// Opens the condition at an offset of the input and writes the answer. Hands back where the next condition starts.
-fn open_at_in(desk: &mut Desk, input: &[u8], at: usize) -> usize
-    ensures { λ r. ⌜ (now (desk .exit) ≡ openOf (lineAt (now (input .entry)) at .text) (now (desk .entry)) .desk) × (r ≡ nextLine (now (input .entry)) at) ⌝ }
+// The piece of the condition between two places of the input.
+fn open_at_in(desk: &mut Desk, input: &[u8], at: usize, end: usize) -> Sent
+    ensures { λ r. ⌜ (now (desk .exit) ≡ openPiece (asking (between (now (input .entry)) at end)) (now (desk .entry)) .desk) × (r .more ≡ both (r .through) true) ⌝ }
 {
-    let line = line_reader::read_line(input, at);
-    let condition = cut(input, at, line.end);
-    let answer = desk_in_place::open_in(desk, condition);
-    tell_open(answer);
-    line.next
+    let condition = cut(input, at, end);
+    let mut room = [0; LineText::ROOM];
+    let part = pieces::open_piece_in(desk, condition, &mut room);
+    send(part, &room)
 }
 
-// Takes turns as long as their lines fit in the room, and writes them. Says whether more are due.
-fn take_some_in(desk: &mut Desk, t: &[u8]) -> bool
-    ensures { λ r. ⌜ (now (desk .exit) ≡ turnsOf (now (t .entry)) (now (desk .entry)) roomSize .desk) × (r ≡ goesOn (turnsOf (now (t .entry)) (now (desk .entry)) roomSize .answer)) ⌝ }
+// The piece of as many turns as have their lines in the room.
+fn take_some_in(desk: &mut Desk, t: &[u8]) -> Sent
+    ensures { λ r. ⌜ (now (desk .exit) ≡ turnsPiece (over (now (t .entry))) (now (desk .entry)) roomSize .desk) × (r .more ≡ both (r .through) (turnsPiece (over (now (t .entry))) (now (desk .entry)) roomSize .more)) ⌝ }
 {
     let mut room = [0; ROOM];
-    let answer = lines::turns_in(desk, t, &mut room);
-    tell_turns(answer, &room)
+    let part = pieces::turns_piece_in(desk, t, &mut room);
+    send(part, &room)
 }
 
-// Opens the conditions in order.
-fn open_all(desk: &mut Desk, input: &[u8])
-    ensures { λ _. ⌜ now (desk .exit) ≡ openedAll (placedLines (now (input .entry))) (now (desk .entry)) ⌝ }
+// Opens the conditions in order. Answers whether every write went through.
+fn open_all(desk: &mut Desk, input: &[u8]) -> bool
+    ensures { λ r. ⌜ (r ≡ true → now (desk .exit) ≡ openedAll (placedLines (now (input .entry))) (now (desk .entry))) ⌝ }
 {
-    let mut at: usize = 0;
-    while at < input.len() {
-        at = open_at_in(desk, input, at);
+    let mut reader = line_reader::new(input, 0);
+    while reader.at < input.len() {
+        let line = next(reader);
+        let sent = open_at_in(desk, input, reader.at, line.end);
+        if !sent.more {
+            return false;
+        }
+        reader = moved(reader);
     }
+    true
 }
 
-// Takes turns until Idle.
-fn turns_all(desk: &mut Desk, t: &[u8])
-    ensures { λ _. ⌜ now (desk .exit) ≡ untilIdle (now (t .entry)) callCount (now (desk .entry)) ⌝ }
+// Takes turns until Idle. Answers whether every write went through.
+fn turns_all(desk: &mut Desk, t: &[u8]) -> bool
+    ensures { λ r. ⌜ (r ≡ true → now (desk .exit) ≡ untilIdle (over (now (t .entry))) turnCount (now (desk .entry))) ⌝ }
 {
     let mut n: usize = 0;
     while n < CALLS {
-        if !take_some_in(desk, t) {
-            break;
+        let sent = take_some_in(desk, t);
+        if !sent.more {
+            return sent.through;
         }
         n += 1;
     }
+    true
+}
+
+// Opens the conditions, then takes the turns.
+fn serve_in(desk: &mut Desk, t: &[u8], input: &[u8]) -> bool
+    ensures { λ r. ⌜ (r ≡ true → now (desk .exit) ≡ untilIdle (over (now (t .entry))) turnCount (openedAll (placedLines (now (input .entry))) (now (desk .entry)))) ⌝ }
+{
+    if !open_all(desk, input) {
+        return false;
+    }
+    turns_all(desk, t)
 }
 
 // One desk for the program's whole life, in one variable.
-fn live(t: &[u8], input: &[u8]) -> Desk
-    ensures { λ r. ⌜ r ≡ deskAtEnd (now (t .entry)) (now (input .entry)) ⌝ }
+fn live(mut desk: Desk, t: &[u8], input: &[u8]) -> Ended
+    ensures { λ r. ⌜ (r .through ≡ true → r .desk ≡ untilIdle (over (now (t .entry))) turnCount (openedAll (placedLines (now (input .entry))) desk)) ⌝ }
 {
-    let mut desk = desk_for(t.len());
-    open_all(&mut desk, input);
-    turns_all(&mut desk, t);
-    desk
+    let through = serve_in(&mut desk, t, input);
+    Ended { desk, through }
 }
 
-// The bytes of a file, at the start of the buffer; none where it cannot be opened or read.
+// The program over what was read.
+fn play(t: &[u8], input: &[u8]) -> Ended
+    requires { ⌜ (length (now t) ≤ maxTimetable + 1) × (length (now input) ≤ maxInput + 1) ⌝ }
+    ensures { λ r. ⌜ (r .through ≡ true → r .desk ≡ deskAtEnd (over (now (t .entry))) (now (input .entry))) ⌝ }
+{
+    let started = start(t.len(), input.len());
+    let desk = started.desk;
+    let sent = started.sent;
+    if !sent.more {
+        return Ended {
+            desk,
+            through: sent.through,
+        };
+    }
+    live(desk, t, input)
+}
+
+// The bytes of a file, at the start of a timetable's buffer; none where it cannot be opened or read.
 fn read_file(name: &[u8], buffer: &mut [u8]) -> usize
+    requires { ⌜ length (now buffer) ≡ maxTimetable + 1 ⌝ }
     ensures { λ r. ⌜ Counts r (now (buffer .exit)) ⌝ }
 {
     let file = os::open_read(name);
@@ -139,22 +178,21 @@ fn read_file(name: &[u8], buffer: &mut [u8]) -> usize
     got
 }
 
-// The program over the timetable of a name and the conditions that a descriptor hands out, to its end: one byte more than is
-// allowed is asked for, so that a text too long is seen. A descriptor that cannot be read hands out no conditions.
+// The bytes that a descriptor hands out, at the start of an input's buffer; none where it cannot be read.
+fn read_input(descriptor: i32, buffer: &mut [u8]) -> usize
+    requires { ⌜ length (now buffer) ≡ maxInput + 1 ⌝ }
+    ensures { λ r. ⌜ Counts r (now (buffer .exit)) ⌝ }
+{
+    io::read_full(descriptor, buffer)
+}
+
+// The program over the timetable of a name and the conditions that a descriptor hands out, to its end.
 pub fn run_over(name: &[u8], conditions: i32) {
-    let mut timetable = [0; Desk::MAX_TIMETABLE + 1];
+    let mut timetable = pieces::timetable_buffer();
     let long = read_file(name, &mut timetable);
-    if Desk::MAX_TIMETABLE < long {
-        tell_refused(Refusal::WRONG_TIMETABLE);
-        return;
-    }
-    let mut input = [0; MAX_INPUT + 1];
-    let given = io::read_full(conditions, &mut input);
-    if MAX_INPUT < given {
-        tell_refused(Refusal::BAD_CONDITION);
-        return;
-    }
-    live(&timetable[..long], &input[..given]);
+    let mut input = pieces::input_buffer();
+    let given = read_input(conditions, &mut input);
+    play(&timetable[..long], &input[..given]);
 }
 
 // The whole program.

@@ -1,0 +1,41 @@
+-- A piece that was left in a room and written: its bytes are within the room, and what is said of it is what its definition says.
+use native.Mathlib.Omega.{arith}
+use mathlib.Core.Path.{_≡_, ap, _∙_}
+use mathlib.Core.Bool.{Bool, true}
+use mathlib.Core.List.{List}
+use Prim.Native.Nat.{ℕ, _≤_}
+use lib.ListN.{length, drop, length-append}
+use Rattle.basis.specs.Choice.{both}
+use Rattle.seat.specs.Files.{Files}
+use Rattle.seat.specs.Request.{asking}
+use Rattle.desk.specs.declared.Desk.{Desk}
+use Rattle.lines.specs.Text.{lineRoom}
+use Rattle.pieces.specs.Bounds.{roomSize}
+use Rattle.pieces.specs.Pieces.{Piece, openPiece, turnsPiece, Leaves}
+use Rattle.pieces.specs.declared.Part.{Part}
+use Rattle.desk_host.specs.declared.Sent.{Sent}
+
+-- the bytes of a piece are within the room that it was left in
+pub left-within : {p : Piece} {a : Part} {before after : List ℕ} → Leaves p a before after → a .count ≤ length after
+left-within {p} {a} {before} {after} e = omega (arith, e .count, ap length (e .room), length-append (p .text) (drop (length (p .text)) before))
+
+-- the write of a part that was left says what is due by the piece
+pub sent-by : {p : Piece} {a : Part} {before after : List ℕ} (z : Sent) → Leaves p a before after → z .more ≡ both (z .through) (a .more) → z .more ≡ both (z .through) (p .more)
+sent-by {p} {a} {before} {after} z e c = c ∙ ap (λ (x : Bool). both (z .through) x) (e .more)
+
+-- turns, with a room of the program's size
+pub some-sent : (f : Files) (h d : Desk) (a : Part) (z : Sent) (before after : List ℕ) → length before ≡ roomSize
+    → (d ≡ turnsPiece f h (length before) .desk) × Leaves (turnsPiece f h (length before)) a before after → z .more ≡ both (z .through) (a .more)
+    → (d ≡ turnsPiece f h roomSize .desk) × (z .more ≡ both (z .through) (turnsPiece f h roomSize .more))
+some-sent f h d a z before after n e c =
+    (e .0 ∙ ap (λ (m : ℕ). turnsPiece f h m .desk) n, sent-by z (e .1) c ∙ ap (λ (m : ℕ). both (z .through) (turnsPiece f h m .more)) n)
+
+-- a condition that was cut out of the input
+pub one-sent : (w x : List ℕ) (h d : Desk) (a : Part) (z : Sent) (before after : List ℕ) → w ≡ x
+    → (d ≡ openPiece (asking w) h .desk) × Leaves (openPiece (asking w) h) a before after → z .more ≡ both (z .through) (a .more)
+    → (d ≡ openPiece (asking x) h .desk) × (z .more ≡ both (z .through) true)
+one-sent w x h d a z before after p e c = (e .0 ∙ ap (λ (c′ : List ℕ). openPiece (asking c′) h .desk) p, sent-by z (e .1) c)
+
+-- a room for a line has room for one
+pub line-room : (ys : List ℕ) → length ys ≡ lineRoom → lineRoom ≤ length ys
+line-room ys e = omega (arith, e)

@@ -1,0 +1,26 @@
+use mathlib.Core.Path.{refl, sym}
+use lib.Seq.{length-take-le}
+use Rattle.basis.specs.Choice.{both}
+use borrow.Author.Needs.{needs}
+use Rattle.desk_host.proofs.send.Statement.{statement}
+use Rattle.desk_host.proofs.send.Tie as tie
+use Rattle.desk_host.proofs.send.Reads as reads
+use Rattle.desk_host.proofs.send.Lts as lts
+use Rattle.io.proofs.write_all.Reads as write-all-reads
+
+slice-aggregate-write-all : tie.Need-slice-aggregate-write-all
+slice-aggregate-write-all c = sym (length-take-le _ _ (c .before .before .pre))
+
+write-all-requires : tie.Need-write-all-requires
+write-all-requires c κs = search needs
+
+returns : tie.Need-returns
+unfolding both
+returns c = refl
+
+returns-2 : tie.Need-returns-2
+unfolding both
+returns-2 c = refl
+
+pub send-spec : {M : Type 1} → statement M
+send-spec = tie.close (tie.spec slice-aggregate-write-all write-all-requires returns returns-2)

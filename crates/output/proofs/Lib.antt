@@ -1,0 +1,7 @@
+pub mod Lengths
+pub mod Left
+pub mod Ready
+pub mod TurnLines
+pub mod Joining
+pub mod Telling
+pub mod Cases

@@ -1,0 +1,68 @@
+-- Document 01, "The desk program": what it prints, by the bytes of the timetable and of the conditions.
+--
+--   "It reads `timetable.tsv` and, from standard input, conditions one a line (lines as in the timetable); opens them in
+--   order, then takes turns until Idle. Output lines ..; last `idle`. A timetable too long prints only `refused` 11; otherwise
+--   input over 4,096 bytes prints only `refused` 7."
+use mathlib.Core.Path.{_≡_}
+use mathlib.Core.Bool.{true, false}
+use mathlib.Core.List.{List, [], _∷_, _++_}
+use Prim.Native.Nat.{ℕ, zero, suc, _+_, _≤_, _<_}
+use lib.Dec.{ltb}
+use lib.ListN.{length, take}
+use Rattle.basis.specs.Choice.{pick}
+use Rattle.basis.specs.Answer.{gives}
+use Rattle.timetable.specs.Lines.{Line, placedLines}
+use Rattle.value.specs.Refusals.{badCondition, wrongTimetable}
+use Rattle.seat.specs.Bounds.{maxTimetable}
+use Rattle.seat.specs.Files.{Files, over}
+use Rattle.seat.specs.Request.{asking}
+use Rattle.seat.specs.Answers.{idle}
+use Rattle.desk.specs.Desk.{freshFor, openOf, turnOf}
+use Rattle.desk.specs.declared.Desk.{Desk}
+use Rattle.lines.specs.Text.{refusedLine, openLine, turnLine}
+use Rattle.lines.specs.Turns.{isIdle, linesOfTurns, answerAfter}
+use Rattle.pieces.specs.Bounds.{maxInput}
+use Rattle.pieces.specs.Pieces.{openedAll, turnCount}
+
+-- "opens them in order": a line for each condition
+unfoldable pub openLines : List Line → Desk → List ℕ
+openLines [] d = []
+openLines (l ∷ ls) d = openLine (openOf (asking (l .text)) d .answer) ++ openLines ls (openOf (asking (l .text)) d .desk)
+
+-- "takes turns until Idle": a line for each turn up to and with `idle`; at most n of them
+unfoldable pub turnLines : ℕ → Files → Desk → List ℕ
+turnLines zero f d = []
+turnLines (suc n) f d =
+    turnLine (turnOf f d .answer) ++ elim (isIdle (turnOf f d .answer)) [ true ↦ [] | false ↦ turnLines n f (turnOf f d .desk) ]
+
+-- the desk with the conditions opened
+abbrev pub openedFor : Files → List ℕ → Desk
+openedFor f input = openedAll (placedLines input) (freshFor f .desk)
+
+-- what the program prints: a timetable too long stops it, otherwise an input too long does, otherwise it opens the conditions
+-- and takes the turns
+unfoldable pub outputOf : Files → List ℕ → List ℕ
+outputOf f input =
+    pick (ltb maxTimetable (length (f .timetable))) (refusedLine wrongTimetable)
+    (pick (ltb maxInput (length input)) (refusedLine badCondition)
+    (openLines (placedLines input) (freshFor f .desk) ++ turnLines turnCount f (openedFor f input)))
+
+-- ---- the count of turns is enough: without it, the output is the conditions' lines and the lines of m turns and one more,
+-- the last, which is Idle, and none before it is
+pub record ToIdle (f : Files) (input : List ℕ) (m : ℕ) : Type 0 where
+  pub whole : outputOf f input ≡ openLines (placedLines input) (freshFor f .desk) ++ linesOfTurns (suc m) f (openedFor f input)
+  pub earlier : (j : ℕ) → j < m → isIdle (answerAfter j f (openedFor f input)) ≡ false
+  pub last : answerAfter m f (openedFor f input) ≡ gives idle
+
+abbrev pub GoesToIdle : Type 0
+GoesToIdle = (f : Files) (input : List ℕ) → length (f .timetable) ≤ maxTimetable → length input ≤ maxInput → (m : ℕ) × ToIdle f input m
+
+-- "last `idle`"
+abbrev pub LastIsIdle : Type 0
+LastIsIdle =
+    (f : Files) (input : List ℕ) → length (f .timetable) ≤ maxTimetable → length input ≤ maxInput
+    → (before : List ℕ) × (outputOf f input ≡ before ++ turnLine (gives idle))
+
+-- a program that reads one byte more than is allowed, and no further, has read enough
+abbrev pub ReadsEnough : Type 0
+ReadsEnough = (t input : List ℕ) → outputOf (over (take (maxTimetable + 1) t)) (take (maxInput + 1) input) ≡ outputOf (over t) input

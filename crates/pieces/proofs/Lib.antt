@@ -1,0 +1,3 @@
+pub mod Starting
+pub mod Leaving
+pub mod Again

@@ -1,0 +1,28 @@
+use mathlib.Core.Path.{_≡_}
+use lib.ListN.{length}
+use Rattle.lines.specs.Text.{lineRoom}
+use Rattle.lines.proofs.Bounded.{holds-fits}
+use Rattle.pieces.proofs.Leaving.{line-told}
+use borrow.Author.Needs.{needs}
+use Rattle.pieces.proofs.open_told.Statement.{statement}
+use Rattle.pieces.proofs.open_told.Tie as tie
+use Rattle.pieces.proofs.open_told.Reads as reads
+use Rattle.pieces.proofs.open_told.Lts as lts
+use Rattle.lines.proofs.text.open_line.Reads as open-line-reads
+use Rattle.pieces.proofs.leave.Reads as leave-reads
+
+open-line-requires : tie.Need-open-line-requires
+open-line-requires c κs = search needs
+
+leave-requires : tie.Need-leave-requires
+leave-requires c κs = (let z : length (c .open-line .result .bytes) ≡ lineRoom = search needs in holds-fits (c .open-line .result) _ (c .open-line .ensures) z, search needs)
+
+same-length : tie.Need-same-length
+same-length c = search needs
+
+returns : tie.Need-returns
+returns c =
+    line-told _ (c .before .before .before .open-line .result) _ _ _ _ (c .before .before .before .open-line .ensures) (c .before .before .leave .ensures)
+
+pub open-told-spec : {M : Type 1} → statement M
+open-told-spec = tie.close (tie.spec open-line-requires leave-requires same-length returns)
