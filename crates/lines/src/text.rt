@@ -1,6 +1,5 @@
 // The text of the lines: a word, numbers in decimal with a tab before each, and byte 10.
 use desk::OpenAnswer;
-use numerals::Text;
 use seat::TurnAnswer;
 ghost use mathlib.Core.Path.{_≡_};
 ghost use mathlib.Core.List.{[], _∷_, _++_};
@@ -9,6 +8,7 @@ ghost use lib.ListN.{length};
 ghost use Rattle.timetable.specs.Fields.{tab};
 ghost use Rattle.timetable.specs.Lines.{newline};
 ghost use Rattle.numerals.specs.Writing.{decimal};
+ghost use Rattle.numerals.specs.Writing as its;
 ghost use Rattle.seat.specs.Bounds.{maxTimetable};
 ghost use Rattle.seat.specs.Answers.{turnMeaning};
 ghost use Rattle.desk.specs.Answers.{openMeaning};
@@ -70,15 +70,30 @@ fn word(w: &[u8]) -> LineText
     with(LineText::new(), w)
 }
 
+// A line and k digits of n after it: the last one first, each where it stands.
+fn digits(line: LineText, n: u64, k: usize) -> LineText
+    requires { ⌜ line .len + k ≤ lineRoom ⌝ }
+    ensures { λ r. ⌜ Grown line r (its.digits k n) ⌝ }
+{
+    let mut text = line;
+    let from = text.len;
+    let mut left = n;
+    let mut i = k;
+    while 0 < i {
+        i -= 1;
+        text.bytes[from + i] = (48 + left % 10) as u8;
+        left = left / 10;
+    }
+    text.len = from + k;
+    text
+}
+
 // A tab and a number.
 fn number(t: LineText, n: u64) -> LineText
     requires { ⌜ t .len + 1 + length (decimal n) ≤ lineRoom ⌝ }
     ensures { λ r. ⌜ Grown t r (tab ∷ decimal n) ⌝ }
 {
-    let digits = numerals::decimal(Text::new(), n);
-    let bytes = digits.bytes;
-    let long = digits.len;
-    with(t.push(TAB), &bytes[..long])
+    digits(t.push(TAB), n, numerals::width(n))
 }
 
 // A word, and a number that may be a ticket.
