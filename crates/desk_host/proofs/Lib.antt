@@ -5,3 +5,4 @@ pub mod Sending
 pub mod Opening
 pub mod Turning
 pub mod Serving
+pub mod SentValue

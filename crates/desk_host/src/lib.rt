@@ -12,7 +12,7 @@ use pieces::Part;
 use words::cut;
 ghost use mathlib.Core.Path.{_≡_};
 ghost use mathlib.Core.Bool.{true};
-ghost use Prim.Native.Nat.{_+_, _≤_};
+ghost use Prim.Native.Nat.{_+_, _^_, _≤_, _<_};
 ghost use lib.ListN.{length};
 ghost use Rattle.io.specs.Counts.{Counts};
 ghost use Rattle.basis.specs.Choice.{both};
@@ -22,7 +22,8 @@ ghost use Rattle.seat.specs.Bounds.{maxTimetable};
 ghost use Rattle.seat.specs.Files.{over};
 ghost use Rattle.seat.specs.Request.{asking};
 ghost use Rattle.pieces.specs.Bounds.{maxInput, roomSize};
-ghost use Rattle.pieces.specs.Pieces.{startPiece, openPiece, turnsPiece, openedAll, untilIdle, turnCount, deskAtEnd};
+ghost use Rattle.pieces.specs.Pieces.{startPiece, openPiece, turnsPiece, openedAll, openedTold, untilIdle, untilIdleTold, mostTurns, servedAll, servedTold, deskAtEnd};
+ghost use Rattle.output.specs.Output.{outputOf};
 
 // The bytes of lines that are written at once.
 const ROOM: usize = 4_096;
@@ -31,137 +32,152 @@ const ROOM: usize = 4_096;
 // is Idle.
 const CALLS: usize = Desk::SEATS * (Desk::MAX_TIMETABLE + 1) + 1;
 
-// What became of a piece: whether the write went through, and whether more is due after it.
+// What became of the pieces so far: whether every write went through, whether more is due, and how many bytes were handed to
+// the writes.
 struct Sent {
     through: bool,
     more: bool,
+    told: usize,
 }
 
-// The desk that the program starts with, and what became of its first piece.
-struct Started {
+// How far the program has come: the desk, and what became of the pieces.
+struct Progress {
     desk: Desk,
     sent: Sent,
 }
 
-// The desk at the program's end, and whether every write went through.
-struct Ended {
-    desk: Desk,
-    through: bool,
-}
-
-// Writes a piece as it stands in the room. Nothing more is due after a write that failed.
-fn send(part: Part, room: &[u8]) -> Sent
-    requires { ⌜ part .count ≤ length (now room) ⌝ }
-    ensures { λ r. ⌜ r .more ≡ both (r .through) (part .more) ⌝ }
+// Writes a piece as it stands in the room, after so many bytes before it. Nothing more is due after a write that failed.
+fn send(part: Part, room: &[u8], before: usize) -> Sent
+    requires { ⌜ (part .count ≤ length (now room)) × (before + part .count < 2 ^ 64) ⌝ }
+    ensures { λ r. ⌜ (r .more ≡ both (r .through) (part .more)) × (r .told ≡ before + part .count) ⌝ }
 {
     let count = part.count;
+    let told = before + count;
     if !io::write_all(STDOUT_FILENO, &room[..count]) {
         return Sent {
             through: false,
             more: false,
+            told,
         };
     }
     Sent {
         through: true,
         more: part.more,
+        told,
     }
 }
 
 // The first piece.
-fn start(timetable_length: usize, input_length: usize) -> Started
-    ensures { λ r. ⌜ (r .desk ≡ startPiece «timetable_length» «input_length» .desk) × (r .sent .more ≡ both (r .sent .through) (startPiece «timetable_length» «input_length» .more)) ⌝ }
+fn start(timetable_length: usize, input_length: usize) -> Progress
+    ensures { λ r. ⌜ (r .desk ≡ startPiece «timetable_length» «input_length» .desk) × (r .sent .more ≡ both (r .sent .through) (startPiece «timetable_length» «input_length» .more)) × (r .sent .told ≡ length (startPiece «timetable_length» «input_length» .text)) ⌝ }
 {
     let mut room = [0; LineText::ROOM];
     let begun = pieces::begin(timetable_length, input_length, &mut room);
     let desk = begun.desk;
     let part = begun.part;
-    let sent = send(part, &room);
-    Started { desk, sent }
+    let sent = send(part, &room, 0);
+    Progress { desk, sent }
 }
 
 // The piece of the condition between two places of the input.
-fn open_at_in(desk: &mut Desk, input: &[u8], at: usize, end: usize) -> Sent
-    ensures { λ r. ⌜ (now (desk .exit) ≡ openPiece (asking (between (now (input .entry)) at end)) (now (desk .entry)) .desk) × (r .more ≡ both (r .through) true) ⌝ }
+fn open_at_in(desk: &mut Desk, input: &[u8], at: usize, end: usize, told: usize) -> Sent
+    requires { ⌜ told + length (openPiece (asking (between (now input) at end)) (now desk) .text) < 2 ^ 64 ⌝ }
+    ensures { λ r. ⌜ (now (desk .exit) ≡ openPiece (asking (between (now (input .entry)) at end)) (now (desk .entry)) .desk) × (r .more ≡ both (r .through) true) × (r .told ≡ told + length (openPiece (asking (between (now (input .entry)) at end)) (now (desk .entry)) .text)) ⌝ }
 {
     let condition = cut(input, at, end);
     let mut room = [0; LineText::ROOM];
     let part = pieces::open_piece_in(desk, condition, &mut room);
-    send(part, &room)
+    send(part, &room, told)
 }
 
 // The piece of as many turns as have their lines in the room.
-fn take_some_in(desk: &mut Desk, t: &[u8]) -> Sent
-    ensures { λ r. ⌜ (now (desk .exit) ≡ turnsPiece (over (now (t .entry))) (now (desk .entry)) roomSize .desk) × (r .more ≡ both (r .through) (turnsPiece (over (now (t .entry))) (now (desk .entry)) roomSize .more)) ⌝ }
+fn take_some_in(desk: &mut Desk, t: &[u8], told: usize) -> Sent
+    requires { ⌜ told + length (turnsPiece (over (now t)) (now desk) roomSize .text) < 2 ^ 64 ⌝ }
+    ensures { λ r. ⌜ (now (desk .exit) ≡ turnsPiece (over (now (t .entry))) (now (desk .entry)) roomSize .desk) × (r .more ≡ both (r .through) (turnsPiece (over (now (t .entry))) (now (desk .entry)) roomSize .more)) × (r .told ≡ told + length (turnsPiece (over (now (t .entry))) (now (desk .entry)) roomSize .text)) ⌝ }
 {
     let mut room = [0; ROOM];
     let part = pieces::turns_piece_in(desk, t, &mut room);
-    send(part, &room)
+    send(part, &room, told)
 }
 
-// Opens the conditions in order. Answers whether every write went through.
-fn open_all(desk: &mut Desk, input: &[u8]) -> bool
-    ensures { λ r. ⌜ (r ≡ true → now (desk .exit) ≡ openedAll (placedLines (now (input .entry))) (now (desk .entry))) ⌝ }
+// Opens the conditions in order, until a write fails.
+fn open_all(desk: &mut Desk, input: &[u8], before: usize) -> Sent
+    requires { ⌜ before + openedTold (placedLines (now input)) (now desk) < 2 ^ 64 ⌝ }
+    ensures { λ r. ⌜ (r .through ≡ true → (now (desk .exit) ≡ openedAll (placedLines (now (input .entry))) (now (desk .entry))) × (r .told ≡ before + openedTold (placedLines (now (input .entry))) (now (desk .entry)))) ⌝ }
 {
+    let mut told = before;
     let mut reader = line_reader::new(input, 0);
     while reader.at < input.len() {
         let line = next(reader);
-        let sent = open_at_in(desk, input, reader.at, line.end);
+        let sent = open_at_in(desk, input, reader.at, line.end, told);
         if !sent.more {
-            return false;
+            return sent;
         }
+        told = sent.told;
         reader = moved(reader);
     }
-    true
+    Sent {
+        through: true,
+        more: true,
+        told,
+    }
 }
 
-// Takes turns until Idle. Answers whether every write went through.
-fn turns_all(desk: &mut Desk, t: &[u8]) -> bool
-    ensures { λ r. ⌜ (r ≡ true → now (desk .exit) ≡ untilIdle (over (now (t .entry))) turnCount (now (desk .entry))) ⌝ }
+// Takes turns until Idle, or until a write fails.
+fn turns_all(desk: &mut Desk, t: &[u8], before: usize) -> Sent
+    requires { ⌜ before + untilIdleTold (over (now t)) mostTurns (now desk) < 2 ^ 64 ⌝ }
+    ensures { λ r. ⌜ (r .through ≡ true → (now (desk .exit) ≡ untilIdle (over (now (t .entry))) mostTurns (now (desk .entry))) × (r .told ≡ before + untilIdleTold (over (now (t .entry))) mostTurns (now (desk .entry)))) ⌝ }
 {
+    let mut told = before;
     let mut n: usize = 0;
     while n < CALLS {
-        let sent = take_some_in(desk, t);
+        let sent = take_some_in(desk, t, told);
         if !sent.more {
-            return sent.through;
+            return sent;
         }
+        told = sent.told;
         n += 1;
     }
-    true
+    Sent {
+        through: true,
+        more: true,
+        told,
+    }
 }
 
 // Opens the conditions, then takes the turns.
-fn serve_in(desk: &mut Desk, t: &[u8], input: &[u8]) -> bool
-    ensures { λ r. ⌜ (r ≡ true → now (desk .exit) ≡ untilIdle (over (now (t .entry))) turnCount (openedAll (placedLines (now (input .entry))) (now (desk .entry)))) ⌝ }
+fn serve_in(desk: &mut Desk, t: &[u8], input: &[u8], told: usize) -> Sent
+    requires { ⌜ told + servedTold (over (now t)) (now input) (now desk) < 2 ^ 64 ⌝ }
+    ensures { λ r. ⌜ (r .through ≡ true → (now (desk .exit) ≡ servedAll (over (now (t .entry))) (now (input .entry)) (now (desk .entry))) × (r .told ≡ told + servedTold (over (now (t .entry))) (now (input .entry)) (now (desk .entry)))) ⌝ }
 {
-    if !open_all(desk, input) {
-        return false;
+    let opened = open_all(desk, input, told);
+    if !opened.through {
+        return opened;
     }
-    turns_all(desk, t)
+    turns_all(desk, t, opened.told)
 }
 
 // One desk for the program's whole life, in one variable.
-fn live(mut desk: Desk, t: &[u8], input: &[u8]) -> Ended
-    ensures { λ r. ⌜ (r .through ≡ true → r .desk ≡ untilIdle (over (now (t .entry))) turnCount (openedAll (placedLines (now (input .entry))) desk)) ⌝ }
+fn live(mut desk: Desk, t: &[u8], input: &[u8], told: usize) -> Progress
+    requires { ⌜ told + servedTold (over (now t)) (now input) desk < 2 ^ 64 ⌝ }
+    ensures { λ r. ⌜ (r .sent .through ≡ true → (r .desk ≡ servedAll (over (now (t .entry))) (now (input .entry)) desk) × (r .sent .told ≡ told + servedTold (over (now (t .entry))) (now (input .entry)) desk)) ⌝ }
 {
-    let through = serve_in(&mut desk, t, input);
-    Ended { desk, through }
+    let sent = serve_in(&mut desk, t, input, told);
+    Progress { desk, sent }
 }
 
-// The program over what was read.
-fn play(t: &[u8], input: &[u8]) -> Ended
+// The program over what was read: where every write went through, the writes were handed as many bytes as its output has.
+fn play(t: &[u8], input: &[u8]) -> Progress
     requires { ⌜ (length (now t) ≤ maxTimetable + 1) × (length (now input) ≤ maxInput + 1) ⌝ }
-    ensures { λ r. ⌜ (r .through ≡ true → r .desk ≡ deskAtEnd (over (now (t .entry))) (now (input .entry))) ⌝ }
+    ensures { λ r. ⌜ (r .sent .through ≡ true → (r .desk ≡ deskAtEnd (over (now (t .entry))) (now (input .entry))) × (r .sent .told ≡ length (outputOf (over (now (t .entry))) (now (input .entry))))) ⌝ }
 {
     let started = start(t.len(), input.len());
     let desk = started.desk;
     let sent = started.sent;
     if !sent.more {
-        return Ended {
-            desk,
-            through: sent.through,
-        };
+        return Progress { desk, sent };
     }
-    live(desk, t, input)
+    live(desk, t, input, sent.told)
 }
 
 // The bytes of a file, at the start of a timetable's buffer; none where it cannot be opened or read.

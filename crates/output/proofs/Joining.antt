@@ -23,7 +23,7 @@ use Rattle.desk_laws.proofs.Sound.{sound-out}
 use Rattle.lines.specs.Text.{refusedLine, turnLine}
 use Rattle.lines.specs.Turns.{isIdle, none, onto, taken, turnsOf}
 use Rattle.pieces.specs.Bounds.{maxInput, roomSize}
-use Rattle.pieces.specs.Pieces.{Piece, stopped, startPiece, openPiece, turnsPiece, Stage, starting, opening, turning, stageAt, nextStage, pieceOf, openedAll, untilIdle, turnCount}
+use Rattle.pieces.specs.Pieces.{Piece, stopped, startPiece, openPiece, turnsPiece, Stage, starting, opening, turning, stageAt, nextStage, pieceOf, openedAll, untilIdle, mostTurns}
 use Rattle.pieces.proofs.Starting.{long-timetable, long-input, both-fit}
 use Rattle.lines.proofs.Counting.{taken-next}
 use Rattle.output.specs.Output.{openLines, outputOf}
@@ -90,10 +90,10 @@ module _ (f : Files) (d : Desk) (o : Ready f d) where
   leads : Leads f d (taken f d roomSize)
   leads = at-most-leads roomSize f d roomSize o
 
-  piece-lines : Lines
+  pub piece-lines : Lines
   piece-lines = rw piece-is (leads .lines ∙ ap (λ (x : List ℕ). taken f d roomSize .text ++ x) (pick-not (taken f d roomSize .idle) (told f (taken f d roomSize .desk))))
 
-  piece-ready : Ready f (turnsPiece f d roomSize .desk)
+  pub piece-ready : Ready f (turnsPiece f d roomSize .desk)
   piece-ready = rw piece-is (leads .ready)
 
   -- nothing is due after Idle alone
@@ -107,7 +107,7 @@ module _ (f : Files) (d : Desk) (o : Ready f d) where
       was-true false e = absurd (true≢false e)
 
   -- more is due only after a turn that was not Idle, and then less is left
-  piece-less : turnsPiece f d roomSize .more ≡ true → deskLeft f (turnsPiece f d roomSize .desk) < deskLeft f d
+  pub piece-less : turnsPiece f d roomSize .more ≡ true → deskLeft f (turnsPiece f d roomSize .desk) < deskLeft f d
   piece-less h = go (turn-goes f d o)
     where
       first-is : taken f d roomSize ≡ pick (leb (length line) roomSize) (onto line (pick (isIdle (turnOf f d .answer)) (record { desk = turnOf f d .desk; text = []; idle = true }) (taken f (turnOf f d .desk) (roomSize - length line)))) (none d)
@@ -154,9 +154,9 @@ module _ (f : Files) (input : List ℕ) where
   rest at d = openLines (linesFrom input at) d ++ told f (openedAll (linesFrom input at) d)
 
   abbrev endOf : ℕ → Desk → Desk
-  endOf at d = untilIdle f turnCount (openedAll (linesFrom input at) d)
+  endOf at d = untilIdle f mostTurns (openedAll (linesFrom input at) d)
 
-  none-left : (at : ℕ) (d : Desk) → length input ≤ at → (rest at d ≡ told f d) × (endOf at d ≡ untilIdle f turnCount d)
+  none-left : (at : ℕ) (d : Desk) → length input ≤ at → (rest at d ≡ told f d) × (endOf at d ≡ untilIdle f mostTurns d)
   unfolding openLines openedAll
   none-left at d l = (rw (lines-end input at l), rw (lines-end input at l))
 
@@ -170,11 +170,11 @@ module _ (f : Files) (input : List ℕ) where
       (rw (lines-next input at l) (append-assoc (x .text) (openLines ls (x .desk)) (told f (openedAll ls (x .desk)))), rw (lines-next input at l))
 
   abbrev Runs : ℕ → ℕ → Desk → Type 0
-  Runs k at d = (m : ℕ) × ((m < k + turnCount) × From f input (stageAt input at) d (rest at d) (endOf at d) m)
+  Runs k at d = (m : ℕ) × ((m < k + mostTurns) × From f input (stageAt input at) d (rest at d) (endOf at d) m)
 
   over : (k at : ℕ) (d : Desk) → Ready f d → length input ≤ at → Runs k at d
   over k at d o e =
-      let r = turning-from turnCount f input d o (enough f d o) in
+      let r = turning-from mostTurns f input d o (enough f d o) in
       let b = r .1 .0 in
       let z = none-left at d e in
       (r .0, (omega arith, rw (le-ltb at (length input) e) (with-text (with-end (r .1 .1) (sym (z .1))) (sym (z .0)))))
@@ -253,5 +253,5 @@ pub ends-idle : EndsIdle
 ends-idle f input l h =
     let e = both-fit (length (f .timetable)) (length input) l h in
     let o = opened-ready f (placedLines input) (freshFor f .desk) (fresh-ready f l) in
-    let i = until-idle turnCount f (openedAll (placedLines input) (freshFor f .desk)) o (enough f _ o) in
+    let i = until-idle mostTurns f (openedAll (placedLines input) (freshFor f .desk)) o (enough f _ o) in
     rw e (ap (λ (x : After Turned). x .answer) i)

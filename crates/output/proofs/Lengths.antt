@@ -1,31 +1,38 @@
 -- The line of any turn of a sound desk fits the room for a line: it has a word and at most three numbers, of a ticket, an
--- offset or count, and a refusal.
+-- offset or count, and a refusal. Open's has one.
 use native.Mathlib.Omega.{arith}
 use mathlib.Core.Path.{_≡_, refl, sym}
 use mathlib.Core.Bool.{Bool, true, false, true≢false}
 use mathlib.Core.List.{List, [], _∷_, _++_}
 use mathlib.Core.Logic.{⊎-elim}
-use Prim.Native.Nat.{ℕ, _+_, _≤_}
-use borrow.Author.Tests.{leb-true, eqb-true}
-use lib.Dec.{eqb}
+use Prim.Native.Nat.{ℕ, _+_, _≤_, _<_}
+use borrow.Author.Tests.{leb-true, eqb-true, ltb-true}
+use lib.Dec.{eqb, ltb}
 use lib.ListN.{length, length-append}
 use Rattle.basis.specs.Choice.{pick}
-use Rattle.basis.specs.Answer.{gives}
+use Rattle.basis.specs.Answer.{Answer, gives, refuses}
 use Rattle.basis.specs.Letters.{bytes}
 use Rattle.timetable.specs.Lines.{newline, lineAt}
 use Rattle.numerals.specs.Writing.{decimal}
+use Rattle.value.specs.Refusals.{noSeat, notSound, noMoreTickets}
 use Rattle.condition.proofs.Readable.{Readable, accepted-readable}
 use Rattle.results.proofs.Numbers.{atLine}
 use Rattle.seat.specs.Bounds.{maxTimetable}
 use Rattle.seat.specs.Files.{Files}
-use Rattle.seat.specs.Query.{Result, hit, miss, unreadable}
+use Rattle.seat.specs.Request.{Request}
+use Rattle.seat.specs.Query.{Result, hit, miss, unreadable, checkOf}
 use Rattle.seat.specs.Seat.{conditionOf}
 use Rattle.seat.specs.Serving.{serveOf, judgedAs, resultOf, afterLine}
 use Rattle.seat.specs.declared.Seat.{Seat}
 use Rattle.seat.proofs.Soundness.{Servable}
 use Rattle.seat.proofs.Serving.{line-or-done, serve-line, serve-done}
-use Rattle.desk.specs.Bounds.{lastTicket}
-use Rattle.lines.specs.Text.{numbers, lineWith, turnLine, lineRoom}
+use Rattle.desk.specs.Bounds.{seatCount, lastTicket}
+use Rattle.desk.specs.Seats.{firstFrom}
+use Rattle.desk.specs.Soundness.{soundOf}
+use Rattle.desk.specs.Desk.{openOf}
+use Rattle.desk.specs.declared.Desk.{Desk}
+use Rattle.desk_laws.proofs.OwnNumbers.{own-low}
+use Rattle.lines.specs.Text.{numbers, lineWith, refusedLine, openLine, turnLine, lineRoom}
 use Rattle.lines.proofs.Digits.{ten-digits, five-digits}
 
 line-length : (w ns : List ℕ) → length (lineWith w ns) ≡ length w + length (numbers ns) + 1
@@ -46,6 +53,9 @@ two-fit w a b l la lb = omega (arith, line-length w (a ∷ b ∷ []), numbers-le
 three-fit : (w : List ℕ) (a b c : ℕ) → length w ≤ 10 → a ≤ lastTicket → b ≤ maxTimetable → c ≤ maxTimetable → length (lineWith w (a ∷ b ∷ c ∷ [])) ≤ lineRoom
 three-fit w a b c l la lb lc =
     omega (arith, line-length w (a ∷ b ∷ c ∷ []), numbers-length a (b ∷ c ∷ []), numbers-length b (c ∷ []), numbers-length c [], no-numbers, ten-digits a la, five-digits b lb, five-digits c lc)
+
+one-fits : (w : List ℕ) (a : ℕ) → length w ≤ 10 → a ≤ lastTicket → length (lineWith w (a ∷ [])) ≤ lineRoom
+one-fits w a l la = omega (arith, line-length w (a ∷ []), numbers-length a [], no-numbers, ten-digits a la)
 
 pub idle-fits : length (lineWith (bytes "idle") []) ≤ lineRoom
 idle-fits = let z = leb-true (length (bytes "idle")) 10 refl in omega (arith, line-length (bytes "idle") [], no-numbers)
@@ -76,3 +86,20 @@ served-fits f long s v l k =
     ⊎-elim (λ b. rw (serve-line f s b) (judged-fits (afterLine f s) s (resultOf f s) (accepted-readable (conditionOf s) (lineAt (f .timetable) (s .offset) .text) (v .good)) k (omega arith)))
     (λ b. rw (serve-done f s b) (three-fit (bytes "done") (s .ticket) (s .hits) (s .unreadable) (leb-true (length (bytes "done")) 10 refl) k (omega arith) (omega arith)))
     (line-or-done f s)
+
+-- ---- Open's lines
+pub refused-fits : (n : ℕ) → n ≤ lastTicket → length (refusedLine n) ≤ lineRoom
+refused-fits n l = one-fits (bytes "refused") n (leb-true (length (bytes "refused")) 10 refl) l
+
+pub open-fits : (r : Request) (d : Desk) → length (openLine (openOf r d .answer)) ≤ lineRoom
+unfolding openOf
+open-fits r d = go (soundOf d) (checkOf (r .condition)) (ltb (firstFrom d false 0) seatCount) (ltb (d .issued) lastTicket) refl refl refl refl
+  where
+    go : (a : Bool) (b : Answer (Unit {0})) (x y : Bool) → soundOf d ≡ a → checkOf (r .condition) ≡ b → ltb (firstFrom d false 0) seatCount ≡ x → ltb (d .issued) lastTicket ≡ y
+        → length (openLine (openOf r d .answer)) ≤ lineRoom
+    go false b x y e f g h = rw e (refused-fits notSound (omega arith))
+    go true (refuses n) x y e f g h = rw (e, f) (refused-fits n (omega (arith, own-low (r .condition) n f)))
+    go true (gives u) false y e f g h = rw (e, f, g) (refused-fits noSeat (omega arith))
+    go true (gives u) true false e f g h = rw (e, f, g, h) (refused-fits noMoreTickets (omega arith))
+    go true (gives u) true true e f g h =
+        rw (e, f, g, h) (one-fits (bytes "open") (d .issued + 1) (leb-true (length (bytes "open")) 10 refl) (let k : d .issued < lastTicket = ltb-true (d .issued) lastTicket h in omega arith))

@@ -5,3 +5,4 @@ pub mod TurnLines
 pub mod Joining
 pub mod Telling
 pub mod Cases
+pub mod Amounts

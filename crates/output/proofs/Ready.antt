@@ -30,7 +30,7 @@ use Rattle.desk_laws.proofs.Steps.{old-ticket, Turns, turn-cases, turn-lengths,
 use Rattle.desk_laws.proofs.Lasting.{open-lasts, turn-lasts}
 use Rattle.lines.specs.Text.{turnLine, lineRoom}
 use Rattle.lines.specs.Turns.{isIdle}
-use Rattle.pieces.specs.Pieces.{openedAll, turnCount}
+use Rattle.pieces.specs.Pieces.{openedAll, mostTurns}
 use Rattle.output.proofs.Lengths.{idle-fits, served-fits}
 use Rattle.output.proofs.Left.{deskLeft, serving-less, desk-bounded}
 
@@ -81,7 +81,7 @@ module _ (f : Files) (d : Desk) (o : Ready f d) where
   turn-ready = record { sound = turn-lasts d (o .sound) f; lengths = turn-lengths f f d ∙ o .lengths; issued = rw (turn-issued f d) (o .issued) }
 
   -- so many turns are enough
-  pub enough : deskLeft f d < turnCount
+  pub enough : deskLeft f d < mostTurns
   enough =
       let z = o .sound .size in
       let e = eqb-true (length (f .timetable)) (d .«timetable_length») (o .lengths) in

@@ -19,7 +19,7 @@ use Rattle.desk.specs.Desk.{freshFor}
 use Rattle.lines.specs.Text.{refusedLine, turnLine}
 use Rattle.lines.specs.Turns.{linesOfTurns}
 use Rattle.pieces.specs.Bounds.{maxInput}
-use Rattle.pieces.specs.Pieces.{turnCount}
+use Rattle.pieces.specs.Pieces.{mostTurns}
 use Rattle.output.specs.Output.{openLines, turnLines, openedFor, outputOf, GoesToIdle, LastIsIdle, ReadsEnough}
 use Rattle.output.proofs.Ready.{opened-ready, fresh-ready, enough}
 use Rattle.output.proofs.TurnLines.{idles, lines-last}
@@ -35,7 +35,7 @@ module _ (f : Files) (input : List ℕ) where
     unfolding outputOf
     long-input-told l = rw (le-ltb maxTimetable (length (f .timetable)) h, lt-ltb maxInput (length input) l)
 
-    pub both-told : length input ≤ maxInput → outputOf f input ≡ openLines (placedLines input) (freshFor f .desk) ++ turnLines turnCount f (openedFor f input)
+    pub both-told : length input ≤ maxInput → outputOf f input ≡ openLines (placedLines input) (freshFor f .desk) ++ turnLines mostTurns f (openedFor f input)
     unfolding outputOf
     both-told l = rw (le-ltb maxTimetable (length (f .timetable)) h, le-ltb maxInput (length input) l)
 
@@ -43,7 +43,7 @@ module _ (f : Files) (input : List ℕ) where
 pub goes-to-idle : GoesToIdle
 goes-to-idle f input l h =
     let o = opened-ready f (placedLines input) (freshFor f .desk) (fresh-ready f l) in
-    let r = idles turnCount f (openedFor f input) o (enough f (openedFor f input) o) in (
+    let r = idles mostTurns f (openedFor f input) o (enough f (openedFor f input) o) in (
       r .0,
       record {
         whole = both-told f input l h ∙ ap (λ (x : List ℕ). openLines (placedLines input) (freshFor f .desk) ++ x) (r .1 .whole);

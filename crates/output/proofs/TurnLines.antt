@@ -17,13 +17,13 @@ use Rattle.desk.specs.Desk.{turnOf}
 use Rattle.desk.specs.declared.Desk.{Desk}
 use Rattle.lines.specs.Text.{turnLine}
 use Rattle.lines.specs.Turns.{isIdle, Taken, none, atMost, deskAfter, linesOfTurns, answerAfter}
-use Rattle.pieces.specs.Pieces.{turnCount}
+use Rattle.pieces.specs.Pieces.{mostTurns}
 use Rattle.output.specs.Output.{turnLines}
 use Rattle.output.proofs.Left.{deskLeft}
 use Rattle.output.proofs.Ready.{Ready, AtIdle, Works, turn-goes, turn-ready, enough}
 
 -- by the next turn
-lines-next : (n : ℕ) (f : Files) (d : Desk) → turnLines (suc n) f d ≡ turnLine (turnOf f d .answer) ++ pick (isIdle (turnOf f d .answer)) [] (turnLines n f (turnOf f d .desk))
+pub lines-next : (n : ℕ) (f : Files) (d : Desk) → turnLines (suc n) f d ≡ turnLine (turnOf f d .answer) ++ pick (isIdle (turnOf f d .answer)) [] (turnLines n f (turnOf f d .desk))
 unfolding turnLines
 lines-next n f d = go (isIdle (turnOf f d .answer))
   where
@@ -50,14 +50,14 @@ lines-enough (suc n) (suc m) f d o a b =
 
 -- ---- with a count that is enough for any desk of the program
 abbrev pub told : Files → Desk → List ℕ
-told f d = turnLines turnCount f d
+told f d = turnLines mostTurns f d
 
 -- a path `refl` alone would unroll the count
-count-is : turnCount ≡ suc (turnCount - 1)
+count-is : mostTurns ≡ suc (mostTurns - 1)
 count-is = omega arith
 
 told-idle : (f : Files) (d : Desk) → AtIdle f d → told f d ≡ turnLine (turnOf f d .answer) ++ []
-told-idle f d i = ap (λ (n : ℕ). turnLines n f d) count-is ∙ lines-idle (turnCount - 1) f d i
+told-idle f d i = ap (λ (n : ℕ). turnLines n f d) count-is ∙ lines-idle (mostTurns - 1) f d i
 
 told-last : (f : Files) (d : Desk) → AtIdle f d → told f d ≡ (turnLine (gives idle) ++ []) ++ []
 told-last f d i = told-idle f d i ∙ ap (λ (x : After Turned). turnLine (x .answer) ++ []) i ∙ sym (append-nil (turnLine (gives idle) ++ []))
@@ -66,8 +66,8 @@ pub told-on : (f : Files) (d : Desk) → Ready f d → Works f d → told f d �
 told-on f d o w =
     let l = w .less in
     let e = enough f d o in
-    ap (λ (n : ℕ). turnLines n f d) count-is ∙ lines-on (turnCount - 1) f d w
-    ∙ ap (λ (x : List ℕ). turnLine (turnOf f d .answer) ++ x) (lines-enough (turnCount - 1) turnCount f (turnOf f d .desk) (turn-ready f d o) (omega arith) (omega arith))
+    ap (λ (n : ℕ). turnLines n f d) count-is ∙ lines-on (mostTurns - 1) f d w
+    ∙ ap (λ (x : List ℕ). turnLine (turnOf f d .answer) ++ x) (lines-enough (mostTurns - 1) mostTurns f (turnOf f d .desk) (turn-ready f d o) (omega arith) (omega arith))
 
 -- ---- without a count
 pub record Idles (f : Files) (d : Desk) (text : List ℕ) (m : ℕ) : Type 0 where

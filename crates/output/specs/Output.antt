@@ -6,7 +6,7 @@
 use mathlib.Core.Path.{_≡_}
 use mathlib.Core.Bool.{true, false}
 use mathlib.Core.List.{List, [], _∷_, _++_}
-use Prim.Native.Nat.{ℕ, zero, suc, _+_, _≤_, _<_}
+use Prim.Native.Nat.{ℕ, zero, suc, _+_, _*_, _≤_, _<_}
 use lib.Dec.{ltb}
 use lib.ListN.{length, take}
 use Rattle.basis.specs.Choice.{pick}
@@ -19,10 +19,10 @@ use Rattle.seat.specs.Request.{asking}
 use Rattle.seat.specs.Answers.{idle}
 use Rattle.desk.specs.Desk.{freshFor, openOf, turnOf}
 use Rattle.desk.specs.declared.Desk.{Desk}
-use Rattle.lines.specs.Text.{refusedLine, openLine, turnLine}
+use Rattle.lines.specs.Text.{refusedLine, openLine, turnLine, lineRoom}
 use Rattle.lines.specs.Turns.{isIdle, linesOfTurns, answerAfter}
 use Rattle.pieces.specs.Bounds.{maxInput}
-use Rattle.pieces.specs.Pieces.{openedAll, turnCount}
+use Rattle.pieces.specs.Pieces.{openedAll, mostTurns}
 
 -- "opens them in order": a line for each condition
 unfoldable pub openLines : List Line → Desk → List ℕ
@@ -45,7 +45,7 @@ unfoldable pub outputOf : Files → List ℕ → List ℕ
 outputOf f input =
     pick (ltb maxTimetable (length (f .timetable))) (refusedLine wrongTimetable)
     (pick (ltb maxInput (length input)) (refusedLine badCondition)
-    (openLines (placedLines input) (freshFor f .desk) ++ turnLines turnCount f (openedFor f input)))
+    (openLines (placedLines input) (freshFor f .desk) ++ turnLines mostTurns f (openedFor f input)))
 
 -- ---- the count of turns is enough: without it, the output is the conditions' lines and the lines of m turns and one more,
 -- the last, which is Idle, and none before it is
@@ -66,3 +66,10 @@ LastIsIdle =
 -- a program that reads one byte more than is allowed, and no further, has read enough
 abbrev pub ReadsEnough : Type 0
 ReadsEnough = (t input : List ℕ) → outputOf (over (take (maxTimetable + 1) t)) (take (maxInput + 1) input) ≡ outputOf (over t) input
+
+-- no more bytes than these: a condition has a byte or byte 10, and a line has room for each condition's and each turn's
+abbrev pub mostBytes : ℕ
+mostBytes = lineRoom * (maxInput + mostTurns)
+
+abbrev pub Bounded : Type 0
+Bounded = (f : Files) (input : List ℕ) → length (outputOf f input) ≤ mostBytes

@@ -1,5 +1,5 @@
 // The pieces of what the desk program prints: each call leaves one in lent room, at its start, and says how many bytes it
-// has and whether more is due after it. What is written is then these bytes, and nothing is left to choose.
+// has and whether more is due after it. What the program has to write is then these bytes.
 use desk::Desk;
 use desk::OpenAnswer;
 use lines::TurnsAnswer;
