@@ -1,3 +1,4 @@
+use native.Mathlib.Omega.{arith}
 use Rattle.desk_host.proofs.Sending.{left-within, sent-by, first-told}
 use borrow.Author.Needs.{needs}
 use Rattle.desk_host.proofs.start.Statement.{statement}
@@ -17,7 +18,7 @@ slice-aggregate-send : tie.Need-slice-aggregate-send
 slice-aggregate-send c = search needs
 
 send-requires : tie.Need-send-requires
-send-requires c κs = (left-within (c .before .before .before .before .begin .ensures .1), search needs)
+send-requires c κs = (omega (arith, left-within (c .before .before .before .before .begin .ensures .1)), search needs)
 
 returns : tie.Need-returns
 returns c = (c .before .before .before .before .before .begin .ensures .0, sent-by (c .send .result) (c .before .before .before .before .before .begin .ensures .1) (c .send .ensures .0), first-told (c .send .result) (c .before .before .before .before .before .begin .ensures .1) (c .send .ensures .1))
