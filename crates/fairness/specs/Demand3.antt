@@ -7,7 +7,8 @@
 --   queries meanwhile."
 --
 -- The theorems are `demand3`, `demand3-lines`, `answers-and-done`, `demand3-any-time`, `demand3-in-time` and `lone-query` (proofs/). In
--- all of them f is what the turns read, r what was asked of Open, d the desk that was asked, k the ticket that it gave.
+-- all of them f is what the turns read, r what was asked of Open, d the desk that was asked, k the ticket that it gave;
+-- `(rest : List Turned) × P` reads: there is such a list with P.
 use mathlib.Core.Path.{_≡_}
 use mathlib.Core.Bool.{true, false}
 use mathlib.Core.List.{List, [], _∷_, _++_, map}

@@ -1,4 +1,5 @@
 -- The pieces that the program writes, from its start to the first after which nothing more is due, joined, are its output.
+-- `(m : ℕ) × P` reads: there is an m with P.
 use mathlib.Core.Path.{_≡_}
 use mathlib.Core.Bool.{true, false}
 use mathlib.Core.List.{List, [], _++_}
