@@ -2,7 +2,7 @@
 -- lines after it.
 use native.Mathlib.Omega.{arith}
 use mathlib.Core.Path.{_≡_, refl, sym, ap, _∙_}
-use mathlib.Core.Bool.{true, false, not, true≢false}
+use mathlib.Core.Bool.{true, not, true≢false}
 use mathlib.Core.List.{List}
 use Prim.Native.Nat.{ℕ, _+_, _-_, _^_, _≤_, _<_}
 use lib.Dec.{T}
@@ -17,7 +17,7 @@ use Rattle.pieces.specs.Pieces.{Piece, openPiece, openedAll, openedTold}
 use Rattle.desk_host.specs.declared.Sent.{Sent}
 use Rattle.desk_host.proofs.Due.{failed, second-fails}
 
--- what is still to be told from a place on, beside what was told
+-- what was told, and what is still to be told from a place on
 abbrev pub toTell : List ℕ → ℕ → Desk → ℕ → ℕ
 toTell t i d k = k + openedTold (linesFrom t i) d
 

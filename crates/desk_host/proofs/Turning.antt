@@ -34,7 +34,7 @@ one : (f : Files) (d h : Desk) (b : Bool) (m : ℕ) → h ≡ turnsPiece f d roo
 unfolding untilIdle untilIdleTold
 one f d h b m p q = (rw (p, ← q), rw (p, ← q))
 
--- what is still to be told after i pieces, beside what was told
+-- what was told, and what is still to be told after i pieces
 abbrev pub toTell : Files → Desk → ℕ → ℕ → ℕ
 toTell f d i k = k + untilIdleTold f (N - i) d
 

@@ -1,7 +1,7 @@
 // The desk program (document 01, "The desk program"): it reads the timetable and the conditions, opens the conditions in order,
 // and takes turns until Idle. It keeps one desk for its whole life, in one variable of `live`, and has it updated where
 // it stands: its loops go through `desk_in_place::open_in` and `lines::turns_in`. What it writes are the pieces of crate
-// `pieces`, each as it was left; after a write that failed it writes nothing more.
+// `pieces`, each as it was left, and their bytes are counted; after a write that failed it writes nothing more.
 use desk::Desk;
 use libc::STDIN_FILENO;
 use libc::STDOUT_FILENO;

@@ -69,7 +69,8 @@ LastIsIdle =
 abbrev pub ReadsEnough : Type 0
 ReadsEnough = (t input : List ℕ) → outputOf (over (take (maxTimetable + 1) t)) (take (maxInput + 1) input) ≡ outputOf (over t) input
 
--- no more bytes than these: a condition has a byte or byte 10, and a line has room for each condition's and each turn's
+-- no more bytes than these: room for a line for each byte of the input, since no condition is without a byte or byte 10, and for
+-- each turn
 abbrev pub mostBytes : ℕ
 mostBytes = lineRoom * (maxInput + mostTurns)
 
