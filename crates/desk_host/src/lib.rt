@@ -180,7 +180,7 @@ fn play(t: &[u8], input: &[u8]) -> Progress
     live(desk, t, input, sent.told)
 }
 
-// The bytes of a file, at the start of a timetable's buffer; none where it cannot be opened or read.
+// The bytes of a file, as far as they can be read, at the start of a timetable's buffer; none where it cannot be opened.
 fn read_file(name: &[u8], buffer: &mut [u8]) -> usize
     requires { ⌜ length (now buffer) ≡ maxTimetable + 1 ⌝ }
     ensures { λ r. ⌜ Counts r (now (buffer .exit)) ⌝ }
@@ -194,7 +194,7 @@ fn read_file(name: &[u8], buffer: &mut [u8]) -> usize
     got
 }
 
-// The bytes that a descriptor hands out, at the start of an input's buffer; none where it cannot be read.
+// The bytes that a descriptor hands out, as far as they can be read, at the start of an input's buffer.
 fn read_input(descriptor: i32, buffer: &mut [u8]) -> usize
     requires { ⌜ length (now buffer) ≡ maxInput + 1 ⌝ }
     ensures { λ r. ⌜ Counts r (now (buffer .exit)) ⌝ }

@@ -1,7 +1,6 @@
 // The text of the lines: a word, numbers in decimal with a tab before each, and byte 10.
 use desk::OpenAnswer;
 use seat::TurnAnswer;
-ghost use mathlib.Core.Path.{_≡_};
 ghost use mathlib.Core.List.{[], _∷_, _++_};
 ghost use Prim.Native.Nat.{_+_, _≤_, _<_};
 ghost use lib.ListN.{length};

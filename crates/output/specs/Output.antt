@@ -2,9 +2,9 @@
 --
 --   "It reads `timetable.tsv` and, from standard input, conditions one a line (lines as in the timetable); opens them in
 --   order, then takes turns until Idle. Output lines ..; last `idle`. A timetable too long prints only `refused` 11; otherwise
---   input over 4,096 bytes prints only `refused` 7."
+--   input over 4,096 bytes prints only `refused` 7. A file that can't be opened counts as empty."
 --
--- `(m : ℕ) × P` reads: there is an m with P.
+-- The last sentence is about the reads, of which no definition can speak: such a file's bytes are none. `(m : ℕ) × P` reads: there is an m with P.
 use mathlib.Core.Path.{_≡_}
 use mathlib.Core.Bool.{true, false}
 use mathlib.Core.List.{List, [], _∷_, _++_}

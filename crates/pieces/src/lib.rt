@@ -12,12 +12,12 @@ ghost use mathlib.Core.Path.{_≡_};
 ghost use mathlib.Core.Bool.{true, false};
 ghost use mathlib.Core.List.{_++_};
 ghost use Prim.Native.Nat.{_+_, _≤_};
-ghost use lib.ListN.{length, drop};
+ghost use lib.ListN.{length, drop, replicate};
 ghost use Rattle.seat.specs.Bounds.{maxTimetable};
 ghost use Rattle.seat.specs.Files.{over};
 ghost use Rattle.seat.specs.Request.{asking};
 ghost use Rattle.desk.specs.Answers.{openMeaning};
-ghost use Rattle.lines.specs.Text.{refusedLine, openLine, lineIn, lineRoom};
+ghost use Rattle.lines.specs.Text.{openLine, lineIn, lineRoom};
 ghost use Rattle.lines.specs.Turns.{turnsMeaning};
 ghost use Rattle.pieces.specs.Bounds.{maxInput};
 ghost use Rattle.pieces.specs.Pieces.{startPiece, openPiece, turnsPiece, goesOn, writtenCount, Leaves};
@@ -37,16 +37,18 @@ pub struct Begun {
     pub part: Part,
 }
 
-// A buffer for a timetable: one byte more than is allowed, so that one too long is seen.
+// A buffer for a timetable, all zeros: one byte more than is allowed, so that one too long is seen.
 pub fn timetable_buffer() -> [u8; Desk::MAX_TIMETABLE + 1]
     ensures { λ r. ⌜ maxTimetable + 1 ≡ length r ⌝ }
+    ensures { λ r. ⌜ r ≡ replicate (maxTimetable + 1) 0 ⌝ }
 {
     [0; Desk::MAX_TIMETABLE + 1]
 }
 
-// A buffer for the input: one byte more than is allowed, so that one too long is seen.
+// A buffer for the input, all zeros: one byte more than is allowed, so that one too long is seen.
 pub fn input_buffer() -> [u8; MAX_INPUT + 1]
     ensures { λ r. ⌜ maxInput + 1 ≡ length r ⌝ }
+    ensures { λ r. ⌜ r ≡ replicate (maxInput + 1) 0 ⌝ }
 {
     [0; MAX_INPUT + 1]
 }
