@@ -2,14 +2,14 @@
 
 use crate::conditions::MOST_BYTES;
 use crate::desk::{Desk, Seat, Turn, LAST_TICKET, SEATS};
-use crate::lines::{fields, lines};
+use crate::lines::{fields, lines, number, parted};
 use crate::programs::{refused, turn_line};
 use crate::{Refusal, NO_GRAMMAR, NO_ROOM};
 
 pub const MOST_EVENTS_BYTES: usize = 65_536;
 pub const MOST_ROOM: usize = 4_096;
-const MOST_DIGITS: usize = 20;
-const UNWRITTEN: u8 = b'.';
+/// What stands in a lent room before anything is written.
+pub const UNWRITTEN: u8 = b'.';
 
 /// The test program: an answer for each event.
 pub fn hostile_desks(file: &[u8], input: &[u8]) -> String {
@@ -139,23 +139,6 @@ pub fn many_turns(desk: &mut Desk, timetable: &[u8], room: &mut [u8]) -> Result<
             return Ok((count, true));
         }
     }
-}
-
-/// What stands before the first tab, and what follows it if there is one.
-fn parted(text: &[u8]) -> (&[u8], Option<&[u8]>) {
-    match text.iter().position(|&byte| byte == b'\t') {
-        Some(place) => (&text[..place], Some(&text[place + 1..])),
-        None => (text, None),
-    }
-}
-
-/// One to twenty digits, leading zeros allowed.
-fn number(text: &[u8], most: usize) -> Result<usize, Refusal> {
-    if !(1..=MOST_DIGITS).contains(&text.len()) || !text.iter().all(u8::is_ascii_digit) {
-        return Err(NO_GRAMMAR);
-    }
-    let read = text.iter().fold(0, |before, digit| before * 10 + u128::from(digit - b'0'));
-    usize::try_from(read).ok().filter(|&read| read <= most).ok_or(NO_GRAMMAR)
 }
 
 fn ticket(text: &[u8]) -> Result<u32, Refusal> {

@@ -6,6 +6,7 @@ pub mod desk;
 pub mod files;
 pub mod generator;
 pub mod hostile;
+pub mod library;
 pub mod lines;
 pub mod programs;
 pub mod values;

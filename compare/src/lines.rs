@@ -1,4 +1,8 @@
-//! Lines and fields: the same rule holds for the timetable, for the conditions and for the calculator's calls.
+//! Lines, fields and their numbers: the same rules hold for the timetable, for the conditions and for all calls and events.
+
+use crate::{Refusal, NO_GRAMMAR};
+
+const MOST_DIGITS: usize = 20;
 
 /// The lines of a text. A final byte 10 adds no line, and an empty text has none.
 pub fn lines(text: &[u8]) -> Vec<&[u8]> {
@@ -12,6 +16,23 @@ pub fn lines(text: &[u8]) -> Vec<&[u8]> {
 /// The fields of a line; an empty line has one, which is empty.
 pub fn fields(line: &[u8]) -> Vec<&[u8]> {
     line.split(|&byte| byte == b'\t').collect()
+}
+
+/// What stands before the first tab, and what follows it if there is one.
+pub fn parted(text: &[u8]) -> (&[u8], Option<&[u8]>) {
+    match text.iter().position(|&byte| byte == b'\t') {
+        Some(place) => (&text[..place], Some(&text[place + 1..])),
+        None => (text, None),
+    }
+}
+
+/// One to twenty digits, leading zeros allowed, of a number that is at most so great.
+pub fn number(text: &[u8], most: usize) -> Result<usize, Refusal> {
+    if !(1..=MOST_DIGITS).contains(&text.len()) || !text.iter().all(u8::is_ascii_digit) {
+        return Err(NO_GRAMMAR);
+    }
+    let read = text.iter().fold(0, |before, digit| before * 10 + u128::from(digit - b'0'));
+    usize::try_from(read).ok().filter(|&read| read <= most).ok_or(NO_GRAMMAR)
 }
 
 #[cfg(test)]

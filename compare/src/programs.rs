@@ -67,7 +67,7 @@ fn answer(line: &[u8]) -> Result<String, Refusal> {
     }
 }
 
-fn named(name: &[u8]) -> Result<Kind, Refusal> {
+pub(crate) fn named(name: &[u8]) -> Result<Kind, Refusal> {
     Kind::named(name).ok_or(NO_GRAMMAR)
 }
 
@@ -92,7 +92,7 @@ fn whole_number(text: &[u8]) -> Result<i128, Refusal> {
     Ok(if negative { -number(digits) } else { number(digits) })
 }
 
-fn order_word(order: Ordering) -> &'static str {
+pub(crate) fn order_word(order: Ordering) -> &'static str {
     match order {
         Ordering::Less => "lt",
         Ordering::Equal => "eq",

@@ -5,18 +5,21 @@
 //!     generate desks SEED COUNT DIR      writes desk cases into DIR/1, DIR/2, .. and those at the bounds into DIR/edge-1, ..
 //!     generate hostile SEED COUNT DIR    writes random scripts of hostile_desks into DIR/1, DIR/2, .., each with its
 //!                                        timetable.tsv and events, and those of the desks built in every way into DIR/NAME
+//!     generate library SEED COUNT DIR    writes random sessions of library_example into DIR/1, DIR/2, .., each with its
+//!                                        timetable.tsv and calls, and the tables of calls into DIR/NAME
 //!     generate edges DIR                 writes calculator inputs at the bounds of a whole input
 //!
 //! With --histogram after these, what the cases cover is printed to standard error.
 
 use compare::generator::desks::{self, Case, Timetable};
-use compare::generator::{calls, histogram::Histogram, hostile, random::Random};
+use compare::generator::{calls, histogram::Histogram, hostile, library, random::Random};
 use std::fs;
 use std::io::{self, BufWriter, Write};
 use std::path::Path;
 use std::process::ExitCode;
 
-const WORDS: &str = "words: calls SEED COUNT | desk SEED DIR | desks SEED COUNT DIR | hostile SEED COUNT DIR | edges DIR";
+const WORDS: &str = "words: calls SEED COUNT | desk SEED DIR | desks SEED COUNT DIR | hostile SEED COUNT DIR | \
+    library SEED COUNT DIR | edges DIR";
 
 fn main() -> ExitCode {
     let mut words: Vec<String> = std::env::args().skip(1).collect();
@@ -29,6 +32,7 @@ fn main() -> ExitCode {
         ["desk", seed, dir] => write_desk(&desks::case(number(seed)), Path::new(dir), &mut histogram),
         ["desks", seed, count, dir] => generate_desks(number(seed), number(count), Path::new(dir), &mut histogram),
         ["hostile", seed, count, dir] => generate_hostile(number(seed), number(count), Path::new(dir), &mut histogram),
+        ["library", seed, count, dir] => generate_library(number(seed), number(count), Path::new(dir), &mut histogram),
         ["edges", dir] => generate_edges(Path::new(dir)),
         _ => Err(io::Error::other(WORDS)),
     };
@@ -79,6 +83,13 @@ fn write_hostile(case: &hostile::Case, dir: &Path, histogram: &mut Histogram) ->
     Ok(())
 }
 
+fn write_library(case: &library::Case, dir: &Path, histogram: &mut Histogram) -> io::Result<()> {
+    write_timetable(&case.timetable, dir)?;
+    fs::write(dir.join("calls"), &case.calls)?;
+    histogram.count_library(case.timetable.bytes(), &case.calls);
+    Ok(())
+}
+
 /// Each case's own seed.
 fn seed_at(seed: u64, place: u64) -> u64 {
     seed.wrapping_mul(1_000_003).wrapping_add(place)
@@ -90,6 +101,16 @@ fn generate_hostile(seed: u64, count: u64, dir: &Path, histogram: &mut Histogram
     }
     for case in hostile::made() {
         write_hostile(&case, &dir.join(&case.name), histogram)?;
+    }
+    Ok(())
+}
+
+fn generate_library(seed: u64, count: u64, dir: &Path, histogram: &mut Histogram) -> io::Result<()> {
+    for place in 1..=count {
+        write_library(&library::case(seed_at(seed, place)), &dir.join(place.to_string()), histogram)?;
+    }
+    for case in library::made() {
+        write_library(&case, &dir.join(&case.name), histogram)?;
     }
     Ok(())
 }

@@ -32,7 +32,7 @@ fn joined(fields: &[&[u8]]) -> Vec<u8> {
 }
 
 /// A text of the kind: mostly good, else just beyond or damaged.
-fn any_text(random: &mut Random, kind: Kind, good_percent: usize) -> Vec<u8> {
+pub(super) fn any_text(random: &mut Random, kind: Kind, good_percent: usize) -> Vec<u8> {
     if random.chance(good_percent) {
         return texts::good(random, kind).into_bytes();
     }
@@ -88,7 +88,7 @@ fn compare(random: &mut Random) -> Vec<u8> {
 }
 
 /// A text of an equal value, often written in another zone or form, or of one just beside it.
-fn near(random: &mut Random, value: &Value) -> String {
+pub(super) fn near(random: &mut Random, value: &Value) -> String {
     let step = random.pick(&[0, 0, 0, 0, 1, -1, 1_000_000, 60_000_000, -60_000_000, 86_400_000_000, -86_400_000_000]);
     match *value {
         Value::DayTime(micros) => texts::duration_text(random, Kind::DayTime, micros + step),

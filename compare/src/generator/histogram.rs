@@ -1,8 +1,9 @@
 //! Counts that show how well the generated cases cover what can be answered.
 
 use crate::hostile::{Script, MOST_EVENTS_BYTES};
+use crate::library::Session;
 use crate::lines::lines;
-use crate::programs::{answer_line, desk};
+use crate::programs::{answer_line, desk, MOST_CALLS_BYTES};
 use std::collections::BTreeMap;
 
 #[derive(Default)]
@@ -86,9 +87,53 @@ impl Histogram {
         }
     }
 
+    /// Each call of the library by its word and by its answer.
+    pub fn count_library(&mut self, timetable: &[u8], input: &[u8]) {
+        if !self.counting {
+            return;
+        }
+        let mut session = match Session::new(timetable) {
+            Ok(session) if input.len() <= MOST_CALLS_BYTES => session,
+            _ => return self.count("whole input refused".to_string()),
+        };
+        for line in lines(input) {
+            let name = library_words(line, &session.answer(line));
+            self.count(name);
+        }
+    }
+
     pub fn print(&self) {
         for (name, count) in &self.counts {
             eprintln!("{count:>9}  {name}");
         }
     }
+}
+
+/// The word of a library call and what its answer is, such as `record refused 15`.
+pub fn library_words(line: &[u8], answer: &str) -> String {
+    let fields: Vec<&str> = answer.trim_end_matches('\n').split('\t').collect();
+    let result = match fields[..] {
+        ["refused", number, ..] => format!("refused {number:>2}"),
+        ["unreadable", .., number] => format!("unreadable {number:>2}"),
+        [word @ ("wrote" | "open" | "hit" | "miss" | "done"), ..] => word.to_string(),
+        [word @ ("lt" | "eq" | "gt" | "yes" | "no" | "closed" | "idle")] => word.to_string(),
+        _ => "answered".to_string(),
+    };
+    let known: &[&[u8]] = &[
+        b"date",
+        b"time",
+        b"dateTime",
+        b"dayTime",
+        b"yearMonth",
+        b"record",
+        b"write",
+        b"compare",
+        b"late",
+        b"open",
+        b"close",
+        b"turn",
+    ];
+    let word = line.split(|&byte| byte == b'\t').next().unwrap_or(line);
+    let word = if known.contains(&word) { String::from_utf8_lossy(word) } else { "none".into() };
+    format!("{word:<10} {result}")
 }

@@ -1,5 +1,5 @@
 //! Seeded cases for the comparison: texts near every bound that document 01 names, calls made of them, desk cases,
-//! scripts over desks built wrong, and damaged forms of all of these. The same seed gives the same cases on every machine.
+//! scripts over desks built wrong, sessions of library calls, and damaged forms of all of these. The same seed gives the same cases on every machine.
 
 pub mod calls;
 pub mod conditions;
@@ -7,5 +7,6 @@ pub mod damage;
 pub mod desks;
 pub mod histogram;
 pub mod hostile;
+pub mod library;
 pub mod random;
 pub mod texts;

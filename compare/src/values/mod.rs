@@ -4,6 +4,7 @@
 pub mod calendar;
 pub mod operations;
 pub mod reading;
+pub mod records;
 pub mod writing;
 
 use calendar::{days_from_civil, Civil};

@@ -7,7 +7,7 @@ use crate::{Refusal, ARGUMENT_BEYOND_BOUNDS, BAD_ZONE, KINDS_DO_NOT_FIT, RESULT_
 use std::cmp::Ordering;
 
 /// The reference day of times, 1972-12-31, as days from 1970-01-01.
-const REFERENCE_DAY: i128 = 1095;
+pub const REFERENCE_DAY: i128 = 1095;
 
 /// Local microseconds from 1970-01-01, of a date at its 00:00:00 and of a time on the reference day.
 fn local(value: &Value) -> Option<(i128, Zone)> {

@@ -1,7 +1,7 @@
 //! Cases of the test program `hostile_desks`: desks built in every way there is, with every call tried on each, and long
 //! random scripts.
 
-mod conditions;
+pub(super) mod conditions;
 mod harm;
 mod play;
 mod ways;
@@ -45,7 +45,7 @@ fn tried(way: Way) -> Case {
 }
 
 /// 65,537 bytes: the table, long lines, and short ones at the end.
-fn great_file() -> Vec<u8> {
+pub(super) fn great_file() -> Vec<u8> {
     let mut bytes = format!("{TABLE}\n").into_bytes();
     while bytes.len() < 65_000 {
         bytes.extend(format!("2024-03-31\t{}\n", "x".repeat(3_000)).bytes());
