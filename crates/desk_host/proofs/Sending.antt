@@ -9,7 +9,7 @@ use Rattle.basis.specs.Choice.{both}
 use Rattle.seat.specs.Files.{Files}
 use Rattle.seat.specs.Request.{asking}
 use Rattle.desk.specs.declared.Desk.{Desk}
-use Rattle.lines.specs.Text.{lineRoom}
+use Rattle.output_lines.specs.Text.{lineRoom}
 use Rattle.pieces.specs.Bounds.{roomSize}
 use Rattle.pieces.specs.Pieces.{Piece, openPiece, turnsPiece, Leaves}
 use Rattle.pieces.specs.declared.Part.{Part}

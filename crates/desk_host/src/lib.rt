@@ -1,13 +1,13 @@
 // The desk program (document 01, "The desk program"): it reads the timetable and the conditions, opens the conditions in order,
 // and takes turns until Idle. It keeps one desk for its whole life, in one variable of `live`, and has it updated where
-// it stands: its loops go through `desk_in_place::open_in` and `lines::turns_in`. What it writes are the pieces of crate
+// it stands: its loops go through `desk_in_place::open_in` and `output_turns::turns_in`. What it writes are the pieces of crate
 // `pieces`, each as it was left, and their bytes are counted; after a write that failed it writes nothing more.
 use desk::Desk;
 use libc::STDIN_FILENO;
 use libc::STDOUT_FILENO;
 use line_reader::moved;
 use line_reader::next;
-use lines::text::LineText;
+use output_lines::LineText;
 use pieces::Part;
 use words::cut;
 ghost use mathlib.Core.Path.{_≡_};

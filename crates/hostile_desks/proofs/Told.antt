@@ -15,8 +15,8 @@ use Rattle.desk.specs.Desk.{refused, haveLengths, turnOf}
 use Rattle.desk.specs.declared.Desk.{Desk}
 use Rattle.desk.specs.declared.AfterTurn.{AfterTurn}
 use Rattle.desk_laws.proofs.Sound.{sound-in}
-use Rattle.lines.specs.Text.{Within}
-use Rattle.lines.proofs.Bounded.{next-within}
+use Rattle.output_lines.specs.Carried.{Within}
+use Rattle.output_turns.proofs.Bounded.{next-within}
 
 refused-within : (d : Desk) (n : ℕ) (r : AfterTurn) → afterTurn r ≡ refused d n → Within (turnMeaning (r .answer))
 refused-within d n r h =

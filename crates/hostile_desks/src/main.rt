@@ -1,5 +1,5 @@
 // Hostile desks: a script builds desks, sound or not, and makes the desk's calls on them (docs/LINES.md, "Hostile desks"). It
-// reads and writes; the answers are those of crates `desk` and `lines`.
+// reads and writes; the answers are those of crates `desk` and `output_turns`.
 use desk::CloseAnswer;
 use desk::Desk;
 use desk::FreshAnswer;
@@ -11,11 +11,11 @@ use hostile::shown::kept;
 use libc::STDIN_FILENO;
 use libc::STDOUT_FILENO;
 use line_reader::read_line;
-use lines::TurnsAnswer;
-use lines::text::LineText;
-use lines::text::open_line;
-use lines::text::refused_line;
-use lines::text::turn_line;
+use output_lines::LineText;
+use output_lines::open_line;
+use output_lines::refused_line;
+use output_lines::turn_line;
+use output_turns::TurnsAnswer;
 use seat::Seat;
 use timetable::fields::field;
 use timetable::fields::has_field;
@@ -244,7 +244,7 @@ fn turn(desk: Desk, t: &[u8]) -> Desk {
 
 // Many turns into a room, which is written after the answer.
 fn turns_into(desk: Desk, t: &[u8], room: &mut [u8]) -> Desk {
-    let after = lines::turns(desk, t, room);
+    let after = output_turns::turns(desk, t, room);
     let answer = after.answer;
     tell_turns(answer);
     io::write_all(STDOUT_FILENO, room);

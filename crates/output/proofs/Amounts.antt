@@ -18,8 +18,8 @@ use Rattle.seat.specs.Files.{Files}
 use Rattle.seat.specs.Request.{asking}
 use Rattle.desk.specs.Desk.{freshFor, openOf, turnOf}
 use Rattle.desk.specs.declared.Desk.{Desk}
-use Rattle.lines.specs.Text.{openLine, turnLine, lineRoom}
-use Rattle.lines.specs.Turns.{isIdle}
+use Rattle.output_lines.specs.Text.{openLine, turnLine, lineRoom}
+use Rattle.output_turns.specs.Turns.{isIdle}
 use Rattle.pieces.specs.Bounds.{maxInput, roomSize}
 use Rattle.pieces.specs.Pieces.{turnsPiece, openedTold, untilIdleTold, mostTurns, toldAtEnd}
 use Rattle.pieces.proofs.Starting.{long-timetable, long-input, both-fit}

@@ -13,7 +13,7 @@ use Rattle.seat.specs.Files.{Files, over}
 use Rattle.desk.specs.Scan.{first, all}
 use Rattle.desk.specs.Soundness.{placeSound, soundOf}
 use Rattle.desk.specs.Desk.{freshOf, nextOf, turnOf}
-use Rattle.lines.specs.Text.{numbers, lineWith}
+use Rattle.output_lines.specs.Text.{numbers, lineWith}
 use Rattle.pieces.specs.Bounds.{maxInput}
 use Rattle.pieces.specs.Pieces.{openedAll}
 use Rattle.output.specs.Output.{openLines, turnLines, outputOf}

@@ -20,12 +20,12 @@ use Rattle.desk.specs.Answers.{After}
 use Rattle.desk.specs.Desk.{freshFor, turnOf, noDesk}
 use Rattle.desk.specs.declared.Desk.{Desk}
 use Rattle.desk_laws.proofs.Sound.{sound-out}
-use Rattle.lines.specs.Text.{refusedLine, turnLine}
-use Rattle.lines.specs.Turns.{isIdle, none, onto, taken, turnsOf}
+use Rattle.output_lines.specs.Text.{refusedLine, turnLine}
+use Rattle.output_turns.specs.Turns.{isIdle, none, onto, taken, turnsOf}
 use Rattle.pieces.specs.Bounds.{maxInput, roomSize}
 use Rattle.pieces.specs.Pieces.{Piece, stopped, startPiece, openPiece, turnsPiece, Stage, starting, opening, turning, stageAt, nextStage, pieceOf, openedAll, untilIdle, mostTurns}
 use Rattle.pieces.proofs.Starting.{long-timetable, long-input, both-fit}
-use Rattle.lines.proofs.Counting.{taken-next}
+use Rattle.output_turns.proofs.Counting.{taken-next}
 use Rattle.output.specs.Output.{openLines, outputOf}
 use Rattle.output.specs.Joined.{pieceAfter, joined, Pieces, PiecesAreTheOutput, EndsIdle}
 use Rattle.output.proofs.Left.{deskLeft}

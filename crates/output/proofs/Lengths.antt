@@ -32,8 +32,8 @@ use Rattle.desk.specs.Soundness.{soundOf}
 use Rattle.desk.specs.Desk.{openOf}
 use Rattle.desk.specs.declared.Desk.{Desk}
 use Rattle.desk_laws.proofs.OwnNumbers.{own-low}
-use Rattle.lines.specs.Text.{numbers, lineWith, refusedLine, openLine, turnLine, lineRoom}
-use Rattle.lines.proofs.Digits.{ten-digits, five-digits}
+use Rattle.output_lines.specs.Text.{numbers, lineWith, refusedLine, openLine, turnLine, lineRoom}
+use Rattle.output_lines.proofs.Widths.{ten-digits, five-digits}
 
 line-length : (w ns : List ℕ) → length (lineWith w ns) ≡ length w + length (numbers ns) + 1
 unfolding lineWith

@@ -28,8 +28,8 @@ use Rattle.desk_laws.proofs.NewDesk.{fresh-sound}
 use Rattle.desk_laws.proofs.Sound.{Sound, sound-in}
 use Rattle.desk_laws.proofs.Steps.{old-ticket, Turns, turn-cases, turn-lengths, turn-issued, open-lengths}
 use Rattle.desk_laws.proofs.Lasting.{open-lasts, turn-lasts}
-use Rattle.lines.specs.Text.{turnLine, lineRoom}
-use Rattle.lines.specs.Turns.{isIdle}
+use Rattle.output_lines.specs.Text.{turnLine, lineRoom}
+use Rattle.output_turns.specs.Turns.{isIdle}
 use Rattle.pieces.specs.Pieces.{openedAll, mostTurns}
 use Rattle.output.proofs.Lengths.{idle-fits, served-fits}
 use Rattle.output.proofs.Left.{deskLeft, serving-less, desk-bounded}

@@ -16,8 +16,8 @@ use Rattle.seat.specs.Bounds.{maxTimetable}
 use Rattle.seat.specs.Files.{Files, over}
 use Rattle.seat.specs.Answers.{Turned, idle}
 use Rattle.desk.specs.Desk.{freshFor}
-use Rattle.lines.specs.Text.{refusedLine, turnLine}
-use Rattle.lines.specs.Turns.{linesOfTurns}
+use Rattle.output_lines.specs.Text.{refusedLine, turnLine}
+use Rattle.output_turns.specs.Turns.{linesOfTurns}
 use Rattle.pieces.specs.Bounds.{maxInput}
 use Rattle.pieces.specs.Pieces.{mostTurns}
 use Rattle.output.specs.Output.{openLines, turnLines, openedFor, outputOf, GoesToIdle, LastIsIdle, ReadsEnough}

@@ -15,8 +15,8 @@ use Rattle.seat.specs.Answers.{Turned, idle}
 use Rattle.desk.specs.Answers.{After}
 use Rattle.desk.specs.Desk.{turnOf}
 use Rattle.desk.specs.declared.Desk.{Desk}
-use Rattle.lines.specs.Text.{turnLine}
-use Rattle.lines.specs.Turns.{isIdle, Taken, none, atMost, deskAfter, linesOfTurns, answerAfter}
+use Rattle.output_lines.specs.Text.{turnLine}
+use Rattle.output_turns.specs.Turns.{isIdle, Taken, none, atMost, deskAfter, linesOfTurns, answerAfter}
 use Rattle.pieces.specs.Pieces.{mostTurns}
 use Rattle.output.specs.Output.{turnLines}
 use Rattle.output.proofs.Left.{deskLeft}

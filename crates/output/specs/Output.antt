@@ -21,8 +21,8 @@ use Rattle.seat.specs.Request.{asking}
 use Rattle.seat.specs.Answers.{idle}
 use Rattle.desk.specs.Desk.{freshFor, openOf, turnOf}
 use Rattle.desk.specs.declared.Desk.{Desk}
-use Rattle.lines.specs.Text.{refusedLine, openLine, turnLine, lineRoom}
-use Rattle.lines.specs.Turns.{isIdle, linesOfTurns, answerAfter}
+use Rattle.output_lines.specs.Text.{refusedLine, openLine, turnLine, lineRoom}
+use Rattle.output_turns.specs.Turns.{isIdle, linesOfTurns, answerAfter}
 use Rattle.pieces.specs.Bounds.{maxInput}
 use Rattle.pieces.specs.Pieces.{openedAll, mostTurns}
 

@@ -14,11 +14,12 @@ use Rattle.desk.specs.Desk.{openOf, haveLengths, turnOf}
 use Rattle.desk.specs.Soundness.{soundOf}
 use Rattle.desk.specs.declared.Desk.{Desk}
 use Rattle.desk.specs.declared.OpenAnswer.{OpenAnswer}
-use Rattle.lines.specs.Text.{openLine, turnLine, lineIn, Holds}
-use Rattle.lines.specs.Turns.{none, taken, turnsOf, roomAfter, turnsMeaning}
-use Rattle.lines.specs.declared.text.LineText.{LineText}
-use Rattle.lines.specs.declared.TurnsAnswer.{TurnsAnswer}
-use Rattle.lines.proofs.Counting.{taken-next}
+use Rattle.output_lines.specs.Text.{openLine, turnLine}
+use Rattle.output_lines.specs.Carried.{lineIn, Holds}
+use Rattle.output_turns.specs.Turns.{none, taken, turnsOf, roomAfter, turnsMeaning}
+use Rattle.output_lines.specs.declared.LineText.{LineText}
+use Rattle.output_turns.specs.declared.TurnsAnswer.{TurnsAnswer}
+use Rattle.output_turns.proofs.Counting.{taken-next}
 use Rattle.pieces.specs.Pieces.{Piece, begun, openPiece, writtenCount, goesOn, turnsPiece, Leaves}
 use Rattle.pieces.specs.declared.Part.{Part}
 

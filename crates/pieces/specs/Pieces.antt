@@ -18,9 +18,9 @@ use Rattle.seat.specs.Request.{Request, asking}
 use Rattle.desk.specs.Bounds.{seatCount}
 use Rattle.desk.specs.Desk.{freshOf, openOf}
 use Rattle.desk.specs.declared.Desk.{Desk}
-use Rattle.lines.specs.Text.{refusedLine, openLine}
-use Rattle.lines.specs.Turns.{taken, turnsOf}
-use Rattle.lines.specs.declared.Written.{Written}
+use Rattle.output_lines.specs.Text.{refusedLine, openLine}
+use Rattle.output_turns.specs.Turns.{taken, turnsOf}
+use Rattle.output_turns.specs.declared.Written.{Written}
 use Rattle.pieces.specs.Bounds.{maxInput, roomSize}
 use Rattle.pieces.specs.declared.Part.{Part}
 

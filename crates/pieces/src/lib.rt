@@ -2,11 +2,11 @@
 // has and whether more is due after it. What the program has to write is then these bytes.
 use desk::Desk;
 use desk::OpenAnswer;
-use lines::TurnsAnswer;
-use lines::put;
-use lines::text::LineText;
-use lines::text::open_line;
-use lines::text::refused_line;
+use output_lines::LineText;
+use output_lines::open_line;
+use output_lines::put;
+use output_lines::refused_line;
+use output_turns::TurnsAnswer;
 use value::Refusal;
 ghost use mathlib.Core.Path.{_≡_};
 ghost use mathlib.Core.Bool.{true, false};
@@ -17,8 +17,9 @@ ghost use Rattle.seat.specs.Bounds.{maxTimetable};
 ghost use Rattle.seat.specs.Files.{over};
 ghost use Rattle.seat.specs.Request.{asking};
 ghost use Rattle.desk.specs.Answers.{openMeaning};
-ghost use Rattle.lines.specs.Text.{openLine, lineIn, lineRoom};
-ghost use Rattle.lines.specs.Turns.{turnsMeaning};
+ghost use Rattle.output_lines.specs.Text.{openLine, lineRoom};
+ghost use Rattle.output_lines.specs.Carried.{lineIn};
+ghost use Rattle.output_turns.specs.Turns.{turnsMeaning};
 ghost use Rattle.pieces.specs.Bounds.{maxInput};
 ghost use Rattle.pieces.specs.Pieces.{startPiece, openPiece, turnsPiece, goesOn, writtenCount, Leaves};
 
@@ -133,6 +134,6 @@ pub fn open_piece_in(desk: &mut Desk, condition: &[u8], room: &mut [u8]) -> Part
 pub fn turns_piece_in(desk: &mut Desk, t: &[u8], room: &mut [u8]) -> Part
     ensures { λ r. ⌜ (now (desk .exit) ≡ turnsPiece (over (now (t .entry))) (now (desk .entry)) (length (now (room .entry))) .desk) × Leaves (turnsPiece (over (now (t .entry))) (now (desk .entry)) (length (now (room .entry)))) r (now (room .entry)) (now (room .exit)) ⌝ }
 {
-    let answer = lines::turns_in(desk, t, room);
+    let answer = output_turns::turns_in(desk, t, room);
     turns_told(answer)
 }

@@ -50,7 +50,7 @@ use Rattle.words.proofs.cut.Met as cut-thm
 use Rattle.seat.specs.Request.{asking}
 use Rattle.desk.specs.declared.Desk.{Desk}
 use Rattle.desk.proofs.Desk as T
-use Rattle.lines.specs.Text.{lineRoom}
+use Rattle.output_lines.specs.Text.{lineRoom}
 use Rattle.pieces.specs.Pieces.{openPiece, Leaves}
 use Rattle.pieces.specs.declared.Part.{Part}
 use Rattle.pieces.proofs.Part as P

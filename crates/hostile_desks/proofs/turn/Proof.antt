@@ -1,7 +1,7 @@
 use mathlib.Core.Path.{_≡_}
 use lib.ListN.{length}
 use Rattle.desk.specs.Bounds.{seatCount}
-use Rattle.lines.proofs.Calls.{mapped-length}
+use Rattle.output_turns.proofs.Calls.{mapped-length}
 use Rattle.hostile_desks.proofs.Told.{turn-within}
 use borrow.Author.Needs.{needs}
 use Rattle.hostile_desks.proofs.turn.Statement.{statement}

@@ -1,8 +1,8 @@
 use mathlib.Core.Path.{_≡_}
 use lib.ListN.{length}
 use Rattle.desk.specs.Desk.{freshOf}
-use Rattle.lines.specs.Text.{lineRoom}
-use Rattle.lines.proofs.Bounded.{holds-fits}
+use Rattle.output_lines.specs.Text.{lineRoom}
+use Rattle.output_lines.proofs.Writing.{holds-fits}
 use Rattle.value.specs.Refusals.{badCondition, wrongTimetable}
 use Rattle.pieces.specs.Pieces.{stopped}
 use Rattle.pieces.proofs.Starting.{long-timetable, long-input, both-fit}
@@ -12,7 +12,7 @@ use Rattle.pieces.proofs.choice.Statement.{statement}
 use Rattle.pieces.proofs.choice.Tie as tie
 use Rattle.pieces.proofs.choice.Reads as reads
 use Rattle.pieces.proofs.choice.Lts as lts
-use Rattle.lines.proofs.text.refused_line.Reads as refused-line-reads
+use Rattle.output_lines.proofs.refused_line.Reads as refused-line-reads
 use Rattle.pieces.proofs.leave.Reads as leave-reads
 
 refused-line-requires : tie.Need-refused-line-requires

@@ -1,12 +1,12 @@
 use mathlib.Core.Path.{refl}
-use Rattle.lines.specs.Text.{lineIn}
+use Rattle.output_lines.specs.Carried.{lineIn}
 use Rattle.pieces.proofs.Leaving.{put-first}
 use borrow.Author.Needs.{needs}
 use Rattle.pieces.proofs.leave.Statement.{statement}
 use Rattle.pieces.proofs.leave.Tie as tie
 use Rattle.pieces.proofs.leave.Reads as reads
 use Rattle.pieces.proofs.leave.Lts as lts
-use Rattle.lines.proofs.put.Reads as put-reads
+use Rattle.output_lines.proofs.put.Reads as put-reads
 
 put-requires : tie.Need-put-requires
 put-requires c κs = search needs

@@ -53,7 +53,7 @@ use Rattle.desk_in_place.proofs.open_in as opens
 use Rattle.desk_in_place.proofs.open_in.Symbol as opens-def
 use Rattle.desk_in_place.proofs.open_in.Symbol.{name as #open-in}
 use Rattle.desk_in_place.proofs.open_in.Met as opens-thm
-use Rattle.lines.specs.Text.{openLine, lineRoom}
+use Rattle.output_lines.specs.Text.{openLine, lineRoom}
 use Rattle.pieces.specs.Pieces.{openPiece, Leaves}
 use Rattle.pieces.proofs.Leaving.{open-leaves}
 use Rattle.pieces.proofs.open_told as told

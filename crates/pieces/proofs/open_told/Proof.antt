@@ -1,14 +1,14 @@
 use mathlib.Core.Path.{_≡_}
 use lib.ListN.{length}
-use Rattle.lines.specs.Text.{lineRoom}
-use Rattle.lines.proofs.Bounded.{holds-fits}
+use Rattle.output_lines.specs.Text.{lineRoom}
+use Rattle.output_lines.proofs.Writing.{holds-fits}
 use Rattle.pieces.proofs.Leaving.{line-told}
 use borrow.Author.Needs.{needs}
 use Rattle.pieces.proofs.open_told.Statement.{statement}
 use Rattle.pieces.proofs.open_told.Tie as tie
 use Rattle.pieces.proofs.open_told.Reads as reads
 use Rattle.pieces.proofs.open_told.Lts as lts
-use Rattle.lines.proofs.text.open_line.Reads as open-line-reads
+use Rattle.output_lines.proofs.open_line.Reads as open-line-reads
 use Rattle.pieces.proofs.leave.Reads as leave-reads
 
 open-line-requires : tie.Need-open-line-requires

@@ -1,4 +1,4 @@
--- `turns_piece_in` meets its contract: a walk of its code by hand. The desk and the room go on to `lines::turns_in`, which keeps
+-- `turns_piece_in` meets its contract: a walk of its code by hand. The desk and the room go on to `output_turns::turns_in`, which keeps
 -- them; of its answer `turns_told` makes what is handed back.
 use mathlib.Core.Path.{_≡_, refl}
 use mathlib.Core.List.{[], _∷_, List}
@@ -43,14 +43,14 @@ use Rattle.pieces.specs.declared.Part.{Part}
 use Rattle.pieces.proofs.Part as P
 use Rattle.pieces.proofs.Part.Laws as P′
 use Rattle.pieces.proofs.Again.{sv, Own, at, Ref, twice}
-use Rattle.lines.specs.Turns.{turnsOf, roomAfter, turnsMeaning}
-use Rattle.lines.specs.declared.TurnsAnswer.{TurnsAnswer}
-use Rattle.lines.proofs.TurnsAnswer as E
-use Rattle.lines.proofs.TurnsAnswer.Laws as E′
-use Rattle.lines.proofs.turns_in as turns
-use Rattle.lines.proofs.turns_in.Symbol as turns-def
-use Rattle.lines.proofs.turns_in.Symbol.{name as #turns-in}
-use Rattle.lines.proofs.turns_in.Met as turns-thm
+use Rattle.output_turns.specs.Turns.{turnsOf, roomAfter, turnsMeaning}
+use Rattle.output_turns.specs.declared.TurnsAnswer.{TurnsAnswer}
+use Rattle.output_turns.proofs.TurnsAnswer as E
+use Rattle.output_turns.proofs.TurnsAnswer.Laws as E′
+use Rattle.output_turns.proofs.turns_in as turns
+use Rattle.output_turns.proofs.turns_in.Symbol as turns-def
+use Rattle.output_turns.proofs.turns_in.Symbol.{name as #turns-in}
+use Rattle.output_turns.proofs.turns_in.Met as turns-thm
 use Rattle.pieces.specs.Pieces.{writtenCount, goesOn, turnsPiece, Leaves}
 use Rattle.pieces.proofs.Leaving.{turns-leave}
 use Rattle.pieces.proofs.turns_told as told
@@ -181,5 +181,5 @@ turns-piece-in-spec 𝓤 H 𝓜 𝓖 𝓡 =
     entered 𝓤 H (tripleOf 𝓤 H (𝓖 .A) f.signature (f.spec 𝓤 H (𝓖 .A) (𝓜 .mem) (𝓡 .run)))
     (tables 𝓤 H 𝓜 𝓡 code.env .C) (tables 𝓤 H 𝓜 𝓡 code.env .Λ) #turns-piece-in code.function (code.unfolded 𝓤 H 𝓜 𝓡)
     (turns-piece-in-meets 𝓤 H (𝓖 .A) (givenOf 𝓤 H 𝓜 𝓖) (𝓜 .mem) (𝓡 .run) (tablesOf 𝓤 H 𝓜 (tables 𝓤 H 𝓜 𝓡 code.env))
-    (cited 𝓤 H (Turns 𝓤 H (𝓖 .A) (𝓜 .mem) (𝓡 .run)) 𝓜 𝓡 code.env #turns-in turns-def.routine code.calls-lines·turns-in (turns-thm.met 𝓤 H 𝓜 𝓖 𝓡))
+    (cited 𝓤 H (Turns 𝓤 H (𝓖 .A) (𝓜 .mem) (𝓡 .run)) 𝓜 𝓡 code.env #turns-in turns-def.routine code.calls-output-turns·turns-in (turns-thm.met 𝓤 H 𝓜 𝓖 𝓡))
     (cited 𝓤 H (Told 𝓤 H (𝓖 .A) (𝓜 .mem) (𝓡 .run)) 𝓜 𝓡 code.env #turns-told told-def.routine code.calls-pieces·turns-told (told-thm.met 𝓤 H 𝓜 𝓖 𝓡)))

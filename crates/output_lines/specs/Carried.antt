@@ -1,0 +1,33 @@
+-- Carried: what a text holds as it grows to a line, and which answers have lines that fit it. No promise to a caller rests on this
+-- file: what a line says is Text.antt.
+use mathlib.Core.Path.{_≡_}
+use mathlib.Core.List.{List, _++_}
+use Prim.Native.Nat.{ℕ, _+_, _≤_}
+use lib.ListN.{length, take}
+use Rattle.basis.specs.Answer.{Answer, gives, refuses}
+use Rattle.seat.specs.Bounds.{maxTimetable}
+use Rattle.seat.specs.Answers.{Turned, idle, hitAt, missAt, unreadableAt, doneWith}
+use Rattle.output_lines.specs.declared.LineText.{LineText}
+
+-- the bytes of a line that grows
+abbrev pub lineIn : LineText → List ℕ
+lineIn t = take (t .len) (t .bytes)
+
+-- it holds these bytes
+pub record Holds (t : LineText) (w : List ℕ) : Type 0 where
+  pub text : lineIn t ≡ w
+  pub size : t .len ≡ length w
+
+-- r is t with the bytes of w after it
+pub record Grown (t r : LineText) (w : List ℕ) : Type 0 where
+  pub text : lineIn r ≡ lineIn t ++ w
+  pub more : r .len ≡ t .len + length w
+
+-- the offset and the counts of an answer are within a timetable's bound, as those of a sound desk are
+abbrev pub Within : Answer Turned → Type 0
+Within (gives idle) = Unit {0}
+Within (gives (hitAt ticket offset)) = offset ≤ maxTimetable
+Within (gives (missAt ticket offset)) = offset ≤ maxTimetable
+Within (gives (unreadableAt ticket offset n)) = offset ≤ maxTimetable
+Within (gives (doneWith ticket hits bad)) = (hits ≤ maxTimetable) × (bad ≤ maxTimetable)
+Within (refuses n) = Unit {0}

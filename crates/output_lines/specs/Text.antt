@@ -1,0 +1,40 @@
+-- Document 01, "The desk program": "Output lines, tab between fields: `open` ticket; `refused` number; `hit` or `miss` ticket
+-- offset; `unreadable` ticket offset number; `done` ticket hits unreadables; last `idle`." Each line ends with byte 10.
+use mathlib.Core.List.{List, [], _∷_, _++_}
+use Prim.Native.Nat.{ℕ}
+use Rattle.basis.specs.Answer.{Answer, gives, refuses}
+use Rattle.basis.specs.Letters.{bytes}
+use Rattle.timetable.specs.Fields.{tab}
+use Rattle.timetable.specs.Lines.{newline}
+use Rattle.numerals.specs.Writing.{decimal}
+use Rattle.seat.specs.Answers.{Turned, idle, hitAt, missAt, unreadableAt, doneWith}
+
+-- numbers in decimal without leading zeros, a tab before each
+unfoldable pub numbers : List ℕ → List ℕ
+numbers [] = []
+numbers (n ∷ ns) = tab ∷ (decimal n ++ numbers ns)
+
+-- a line: its word and its numbers
+unfoldable pub lineWith : List ℕ → List ℕ → List ℕ
+lineWith word ns = word ++ (numbers ns ++ (newline ∷ []))
+
+abbrev pub refusedLine : ℕ → List ℕ
+refusedLine n = lineWith (bytes "refused") (n ∷ [])
+
+-- the line of what open answers
+abbrev pub openLine : Answer ℕ → List ℕ
+openLine (gives ticket) = lineWith (bytes "open") (ticket ∷ [])
+openLine (refuses n) = refusedLine n
+
+-- the line of what a turn answers
+abbrev pub turnLine : Answer Turned → List ℕ
+turnLine (gives idle) = lineWith (bytes "idle") []
+turnLine (gives (hitAt ticket offset)) = lineWith (bytes "hit") (ticket ∷ offset ∷ [])
+turnLine (gives (missAt ticket offset)) = lineWith (bytes "miss") (ticket ∷ offset ∷ [])
+turnLine (gives (unreadableAt ticket offset n)) = lineWith (bytes "unreadable") (ticket ∷ offset ∷ n ∷ [])
+turnLine (gives (doneWith ticket hits bad)) = lineWith (bytes "done") (ticket ∷ hits ∷ bad ∷ [])
+turnLine (refuses n) = refusedLine n
+
+-- a line has room for so many bytes
+abbrev pub lineRoom : ℕ
+lineRoom = 64

@@ -1,0 +1,9 @@
+pub mod Counting
+pub mod Fitting
+pub mod Bounded
+pub mod Served
+pub mod Going
+pub mod Rounds
+pub mod Calls
+pub mod Answers
+pub mod Singles
