@@ -3,15 +3,16 @@ use mathlib.Core.Path.{_≡_, ap, sym, _∙_}
 use mathlib.Core.List.{List, [], _∷_, _++_, append-assoc, append-nil}
 use Prim.Native.Nat.{ℕ, _+_, _≤_}
 use native.Mathlib.Omega.{arith}
-use lib.ListN.{length, length-append, length-take}
+use lib.ListN.{length, length-append}
 use Rattle.timetable.specs.Fields.{tab}
 use Rattle.timetable.specs.Lines.{newline}
-use Rattle.numerals.specs.Writing.{decimal}
+use Rattle.numerals.specs.Writing.{decimal, Holds}
+use Rattle.numerals.proofs.Texts.{holds-fits}
 use Rattle.output_lines.specs.Text.{numbers, lineWith, lineRoom}
-use Rattle.output_lines.specs.Carried.{lineIn, Holds, Grown}
+use Rattle.output_lines.specs.Carried.{lineIn, Grown}
 use Rattle.output_lines.specs.declared.LineText.{LineText}
 
-pub and-then : {t r : LineText} {w v : List ℕ} → Holds t w → Grown t r v → Holds r (w ++ v)
+pub and-then : {t r : LineText} {w v : List ℕ} → Holds (t .bytes) (t .len) w → Grown t r v → Holds (r .bytes) (r .len) (w ++ v)
 and-then {t} {r} {w} {v} h a =
     record {
       text = a .text ∙ ap (λ (x : List ℕ). x ++ v) (h .text);
@@ -31,27 +32,27 @@ nothing-more t = record { text = sym (append-nil (lineIn t)); more = omega arith
 pub grown-by : {t r : LineText} {w v : List ℕ} → Grown t r w → w ≡ v → Grown t r v
 grown-by h e = rw (← e) h
 
-pub same-bytes : {t : LineText} {w v : List ℕ} → Holds t w → w ≡ v → Holds t v
+pub same-bytes : {bytes w v : List ℕ} {len : ℕ} → Holds bytes len w → w ≡ v → Holds bytes len v
 same-bytes h e = rw (← e) h
 
 -- a line that holds its bytes has no more than there is room for
-pub holds-fits : (t : LineText) (w : List ℕ) → Holds t w → length (t .bytes) ≡ lineRoom → t .len ≤ lineRoom
-holds-fits t w h e = omega (arith, length-take (t .len) (t .bytes), ap length (h .text), h .size)
+pub line-fits : (t : LineText) (w : List ℕ) → Holds (t .bytes) (t .len) w → length (t .bytes) ≡ lineRoom → t .len ≤ lineRoom
+line-fits t w h e = omega (arith, holds-fits h, e)
 
-pub no-number : {t r : LineText} (w : List ℕ) → Holds t w → Grown t r (newline ∷ []) → Holds r (lineWith w [])
+pub no-number : {t r : LineText} (w : List ℕ) → Holds (t .bytes) (t .len) w → Grown t r (newline ∷ []) → Holds (r .bytes) (r .len) (lineWith w [])
 unfolding lineWith numbers
 no-number w h a = and-then h a
 
-pub one-number : {t r : LineText} (w : List ℕ) (a : ℕ) → Holds t (w ++ (tab ∷ decimal a)) → Grown t r (newline ∷ []) → Holds r (lineWith w (a ∷ []))
+pub one-number : {t r : LineText} (w : List ℕ) (a : ℕ) → Holds (t .bytes) (t .len) (w ++ (tab ∷ decimal a)) → Grown t r (newline ∷ []) → Holds (r .bytes) (r .len) (lineWith w (a ∷ []))
 unfolding lineWith numbers
 one-number w a h e = same-bytes (and-then h e) (simp (append-assoc, append-nil))
 
-pub two-numbers : {t u r : LineText} (w : List ℕ) (a b : ℕ) → Holds t (w ++ (tab ∷ decimal a))
-    → Grown t u (tab ∷ decimal b) → Grown u r (newline ∷ []) → Holds r (lineWith w (a ∷ b ∷ []))
+pub two-numbers : {t u r : LineText} (w : List ℕ) (a b : ℕ) → Holds (t .bytes) (t .len) (w ++ (tab ∷ decimal a))
+    → Grown t u (tab ∷ decimal b) → Grown u r (newline ∷ []) → Holds (r .bytes) (r .len) (lineWith w (a ∷ b ∷ []))
 unfolding lineWith numbers
 two-numbers w a b h x e = same-bytes (and-then (and-then h x) e) (simp (append-assoc, append-nil))
 
-pub three-numbers : {t u v r : LineText} (w : List ℕ) (a b c : ℕ) → Holds t (w ++ (tab ∷ decimal a))
-    → Grown t u (tab ∷ decimal b) → Grown u v (tab ∷ decimal c) → Grown v r (newline ∷ []) → Holds r (lineWith w (a ∷ b ∷ c ∷ []))
+pub three-numbers : {t u v r : LineText} (w : List ℕ) (a b c : ℕ) → Holds (t .bytes) (t .len) (w ++ (tab ∷ decimal a))
+    → Grown t u (tab ∷ decimal b) → Grown u v (tab ∷ decimal c) → Grown v r (newline ∷ []) → Holds (r .bytes) (r .len) (lineWith w (a ∷ b ∷ c ∷ []))
 unfolding lineWith numbers
 three-numbers w a b c h x y e = same-bytes (and-then (and-then (and-then h x) y) e) (simp (append-assoc, append-nil))

@@ -1,5 +1,5 @@
--- Carried: what a text holds as it grows to a line, and which answers have lines that fit it. No promise to a caller rests on this
--- file: what a line says is Text.antt.
+-- Carried: a text as it grows to a line, and which answers have lines that fit it. No promise to a caller rests on it: what a
+-- line says is Text.antt.
 use mathlib.Core.Path.{_≡_}
 use mathlib.Core.List.{List, _++_}
 use Prim.Native.Nat.{ℕ, _+_, _≤_}
@@ -12,11 +12,6 @@ use Rattle.output_lines.specs.declared.LineText.{LineText}
 -- the bytes of a line that grows
 abbrev pub lineIn : LineText → List ℕ
 lineIn t = take (t .len) (t .bytes)
-
--- it holds these bytes
-pub record Holds (t : LineText) (w : List ℕ) : Type 0 where
-  pub text : lineIn t ≡ w
-  pub size : t .len ≡ length w
 
 -- r is t with the bytes of w after it
 pub record Grown (t r : LineText) (w : List ℕ) : Type 0 where

@@ -7,13 +7,13 @@ ghost use Prim.Native.Nat.{_+_, _≤_, _<_};
 ghost use lib.ListN.{length, take, drop};
 ghost use Rattle.timetable.specs.Fields.{tab};
 ghost use Rattle.timetable.specs.Lines.{newline};
-ghost use Rattle.numerals.specs.Writing.{decimal};
+ghost use Rattle.numerals.specs.Writing.{decimal, Holds};
 ghost use Rattle.numerals.specs.Writing as its;
 ghost use Rattle.seat.specs.Bounds.{maxTimetable};
 ghost use Rattle.seat.specs.Answers.{turnMeaning};
 ghost use Rattle.desk.specs.Answers.{openMeaning};
 ghost use Rattle.output_lines.specs.Text.{refusedLine, openLine, turnLine, lineRoom};
-ghost use Rattle.output_lines.specs.Carried.{lineIn, Holds, Grown, Within};
+ghost use Rattle.output_lines.specs.Carried.{lineIn, Grown, Within};
 
 const TAB: u8 = 9;
 
@@ -30,7 +30,7 @@ impl LineText {
     pub const ROOM: usize = 64;
 
     fn new() -> LineText
-        ensures { λ r. ⌜ Holds r [] ⌝ }
+        ensures { λ r. ⌜ Holds (r .bytes) (r .len) [] ⌝ }
     {
         LineText {
             bytes: [0u8; LineText::ROOM],
@@ -66,7 +66,7 @@ fn with(line: LineText, more: &[u8]) -> LineText
 // A line's word.
 fn word(w: &[u8]) -> LineText
     requires { ⌜ length (now w) ≤ 10 ⌝ }
-    ensures { λ r. ⌜ Holds r (now (w .entry)) ⌝ }
+    ensures { λ r. ⌜ Holds (r .bytes) (r .len) (now (w .entry)) ⌝ }
 {
     with(LineText::new(), w)
 }
@@ -100,7 +100,7 @@ fn number(t: LineText, n: u64) -> LineText
 // A word, and a number that may be a ticket.
 fn begun(w: &[u8], n: u32) -> LineText
     requires { ⌜ length (now w) ≤ 10 ⌝ }
-    ensures { λ r. ⌜ (Holds r (now (w .entry) ++ (tab ∷ decimal n))) × (r .len ≤ length (now (w .entry)) + 11) ⌝ }
+    ensures { λ r. ⌜ (Holds (r .bytes) (r .len) (now (w .entry) ++ (tab ∷ decimal n))) × (r .len ≤ length (now (w .entry)) + 11) ⌝ }
 {
     number(word(w), n as u64)
 }
@@ -129,13 +129,13 @@ fn ended(t: LineText) -> LineText
 }
 
 pub fn refused_line(number: u8) -> LineText
-    ensures { λ r. ⌜ Holds r (refusedLine number) ⌝ }
+    ensures { λ r. ⌜ Holds (r .bytes) (r .len) (refusedLine number) ⌝ }
 {
     ended(begun(b"refused", number as u32))
 }
 
 pub fn open_line(answer: OpenAnswer) -> LineText
-    ensures { λ r. ⌜ Holds r (openLine (openMeaning answer)) ⌝ }
+    ensures { λ r. ⌜ Holds (r .bytes) (r .len) (openLine (openMeaning answer)) ⌝ }
 {
     match answer {
         OpenAnswer::Ticket(ticket) => ended(begun(b"open", ticket)),
@@ -146,7 +146,7 @@ pub fn open_line(answer: OpenAnswer) -> LineText
 // The longest has 32 bytes, an unreadable line with a number of three digits: it fits.
 pub fn turn_line(answer: TurnAnswer) -> LineText
     requires { ⌜ Within (turnMeaning answer) ⌝ }
-    ensures { λ r. ⌜ Holds r (turnLine (turnMeaning answer)) ⌝ }
+    ensures { λ r. ⌜ Holds (r .bytes) (r .len) (turnLine (turnMeaning answer)) ⌝ }
 {
     match answer {
         TurnAnswer::Idle => ended(word(b"idle")),

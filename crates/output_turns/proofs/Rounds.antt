@@ -9,6 +9,7 @@ use borrow.Author.Tests.{ltb-true, ltb-false}
 use lib.Dec.{ltb}
 use lib.ListN.{length, take, drop}
 use Rattle.basis.specs.Answer.{gives}
+use Rattle.numerals.specs.Writing.{Holds}
 use Rattle.seat.specs.Files.{Files}
 use Rattle.seat.specs.Answers.{turnMeaning, idle}
 use Rattle.seat.specs.declared.TurnAnswer.the-variants as TV
@@ -20,7 +21,7 @@ use Rattle.desk_laws.proofs.Sound.{Sound}
 use Rattle.desk_laws.proofs.Steps.{turn-lengths}
 use Rattle.desk_laws.proofs.Lasting.{turn-lasts}
 use Rattle.output_lines.specs.Text.{turnLine}
-use Rattle.output_lines.specs.Carried.{lineIn, Holds}
+use Rattle.output_lines.specs.Carried.{lineIn}
 use Rattle.output_lines.specs.declared.LineText.{LineText}
 use Rattle.output_turns.specs.Turns.{isIdle, taken}
 use Rattle.output_turns.specs.Carried.{Ran}
@@ -41,7 +42,7 @@ module _ {f : Files} {before room : List ℕ} {d₀ d : Desk} {at : ℕ} (g : Lo
   ran-full l = going-full f d₀ before d at room (g .going) (omega (arith, g .going .size)) _ refl refl refl
 
   -- a turn of the desk, and the line of its answer, put where it fits
-  module _ (r : AfterTurn) (h : afterTurn r ≡ nextOf f d) (line : LineText) (hl : Holds line (turnLine (turnMeaning (r .answer))))
+  module _ (r : AfterTurn) (h : afterTurn r ≡ nextOf f d) (line : LineText) (hl : Holds (line .bytes) (line .len) (turnLine (turnMeaning (r .answer))))
       {end : ℕ} {room′ : List ℕ} (p : Put at line room end room′) where
     answer-is : turnMeaning (r .answer) ≡ turnOf f d .answer
     answer-is = next-answer f d (g .sound) (g .same) r h
@@ -93,7 +94,7 @@ module _ {f : Files} {before room : List ℕ} {d₀ d : Desk} {at : ℕ} (g : Lo
           going-idle f d₀ before d at room (g .going) (lineIn line) line-is in-room room′ put-is q _ desk-is end-is refl
 
   -- at Idle it stops, whether the line fits or not
-  module _ (h : afterTurn (record { desk = d; answer = TV.Idle }) ≡ nextOf f d) (line : LineText) (hl : Holds line (turnLine (gives idle)))
+  module _ (h : afterTurn (record { desk = d; answer = TV.Idle }) ≡ nextOf f d) (line : LineText) (hl : Holds (line .bytes) (line .len) (turnLine (gives idle)))
       {end : ℕ} {room′ : List ℕ} (p : Put at line room end room′) where
     pub ran-idle : Ran (record { desk = d; written = record { count = end; idle = ltb at end } }) (taken f d₀ (length before)) before room′
     ran-idle = go (ltb at end) refl

@@ -1,4 +1,4 @@
--- Carried: what the loop that takes the turns hands to the call. No promise to a caller rests on this file: what the call gives is
+-- Carried: what the loop that takes the turns hands to the call. No promise to a caller rests on it: what the call gives is
 -- Turns.antt.
 use mathlib.Core.Path.{_≡_}
 use mathlib.Core.List.{List, _++_}

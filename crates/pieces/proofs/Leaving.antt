@@ -7,6 +7,7 @@ use native.Mathlib.Omega.{arith}
 use lib.Dec.{leb}
 use lib.ListN.{length, take, drop}
 use Rattle.basis.specs.Answer.{Answer}
+use Rattle.numerals.specs.Writing.{Holds}
 use Rattle.seat.specs.Files.{Files}
 use Rattle.seat.specs.Request.{Request}
 use Rattle.desk.specs.Answers.{openMeaning}
@@ -15,7 +16,7 @@ use Rattle.desk.specs.Soundness.{soundOf}
 use Rattle.desk.specs.declared.Desk.{Desk}
 use Rattle.desk.specs.declared.OpenAnswer.{OpenAnswer}
 use Rattle.output_lines.specs.Text.{openLine, turnLine}
-use Rattle.output_lines.specs.Carried.{lineIn, Holds}
+use Rattle.output_lines.specs.Carried.{lineIn}
 use Rattle.output_turns.specs.Turns.{none, taken, turnsOf, roomAfter, turnsMeaning}
 use Rattle.output_lines.specs.declared.LineText.{LineText}
 use Rattle.output_turns.specs.declared.TurnsAnswer.{TurnsAnswer}
@@ -31,11 +32,11 @@ put-first room w after n e = e ∙ ap (λ (m : ℕ). w ++ drop m room) {x = 0 + 
 abbrev Left : LineText → Part → Bool → List ℕ → List ℕ → Type 0
 Left line r more before after = (r .count ≡ line .len) × (r .more ≡ more) × (after ≡ lineIn line ++ drop (line .len) before)
 
-pub line-told : (w : List ℕ) (line : LineText) (more : Bool) (r : Part) (before after : List ℕ) → Holds line w → Left line r more before after
+pub line-told : (w : List ℕ) (line : LineText) (more : Bool) (r : Part) (before after : List ℕ) → Holds (line .bytes) (line .len) w → Left line r more before after
     → (r .count ≡ length w) × (r .more ≡ more) × (after ≡ w ++ drop (length w) before)
 line-told w line more r before after h e = (e .0 ∙ h .size, e .1, e .2 ∙ (λ i. h .text i ++ drop (h .size i) before))
 
-pub line-leaves : (p : Piece) (line : LineText) (r : Part) (before after : List ℕ) → Holds line (p .text) → Left line r (p .more) before after → Leaves p r before after
+pub line-leaves : (p : Piece) (line : LineText) (r : Part) (before after : List ℕ) → Holds (line .bytes) (line .len) (p .text) → Left line r (p .more) before after → Leaves p r before after
 line-leaves p line r before after h e =
     let z = line-told (p .text) line (p .more) r before after h e in
     record { count = z .0; more = z .1; room = z .2 }

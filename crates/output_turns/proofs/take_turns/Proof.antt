@@ -13,7 +13,7 @@ use Rattle.desk_laws.proofs.Sound.{sound-in}
 use Rattle.output_turns.proofs.Calls.{mapped-length}
 use Rattle.output_lines.specs.Text.{lineRoom}
 use Rattle.output_turns.proofs.Bounded.{next-within}
-use Rattle.output_lines.proofs.Writing.{holds-fits}
+use Rattle.output_lines.proofs.Writing.{line-fits}
 use Rattle.output_turns.proofs.Going.{going-starts}
 use Rattle.output_turns.proofs.Served.{Looking, Found, looking-starts, looking-on, found-held, found-none, found-sound, stored, idle-next, stored-next, stored-some}
 use Rattle.output_turns.proofs.Rounds.{Loop, ran-full, ran-out, goes-on, ran-idle}
@@ -94,7 +94,7 @@ put-fitting-requires c κs =
     let line = c .before .turn-line in
     let z : length (line .result .bytes) ≡ lineRoom = search needs in
     let l = c .before .before .before .before .before .loop-test .taken in
-    (holds-fits (line .result) _ (line .ensures) z, omega arith)
+    (line-fits (line .result) _ (line .ensures) z, omega arith)
 
 same-length : tie.Need-same-length Inv-loop2 μ-loop2 Inv-loop μ-loop
 same-length c = search needs
@@ -130,7 +130,7 @@ put-fitting-requires-2 c κs =
     let line = c .before .turn-line2 in
     let z : length (line .result .bytes) ≡ lineRoom = search needs in
     let l = c .before .before .before .before .before .before .before .before .loop-test .taken in
-    (holds-fits (line .result) _ (line .ensures) z, omega arith)
+    (line-fits (line .result) _ (line .ensures) z, omega arith)
 
 same-length-2 : tie.Need-same-length-2 Inv-loop2 μ-loop2 Inv-loop μ-loop
 same-length-2 c = search needs

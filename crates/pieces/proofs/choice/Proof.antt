@@ -2,7 +2,7 @@ use mathlib.Core.Path.{_≡_}
 use lib.ListN.{length}
 use Rattle.desk.specs.Desk.{freshOf}
 use Rattle.output_lines.specs.Text.{lineRoom}
-use Rattle.output_lines.proofs.Writing.{holds-fits}
+use Rattle.output_lines.proofs.Writing.{line-fits}
 use Rattle.value.specs.Refusals.{badCondition, wrongTimetable}
 use Rattle.pieces.specs.Pieces.{stopped}
 use Rattle.pieces.proofs.Starting.{long-timetable, long-input, both-fit}
@@ -19,7 +19,7 @@ refused-line-requires : tie.Need-refused-line-requires
 refused-line-requires c κs = search needs
 
 leave-requires : tie.Need-leave-requires
-leave-requires c κs = (let z : length (c .refused-line .result .bytes) ≡ lineRoom = search needs in holds-fits (c .refused-line .result) _ (c .refused-line .ensures) z, search needs)
+leave-requires c κs = (let z : length (c .refused-line .result .bytes) ≡ lineRoom = search needs in line-fits (c .refused-line .result) _ (c .refused-line .ensures) z, search needs)
 
 same-length : tie.Need-same-length
 same-length c = search needs
@@ -33,7 +33,7 @@ refused-line-requires-2 : tie.Need-refused-line-requires-2
 refused-line-requires-2 c κs = search needs
 
 leave-requires-2 : tie.Need-leave-requires-2
-leave-requires-2 c κs = (let z : length (c .refused-line2 .result .bytes) ≡ lineRoom = search needs in holds-fits (c .refused-line2 .result) _ (c .refused-line2 .ensures) z, search needs)
+leave-requires-2 c κs = (let z : length (c .refused-line2 .result .bytes) ≡ lineRoom = search needs in line-fits (c .refused-line2 .result) _ (c .refused-line2 .ensures) z, search needs)
 
 same-length-2 : tie.Need-same-length-2
 same-length-2 c = search needs

@@ -1,7 +1,7 @@
 use mathlib.Core.Path.{_≡_}
 use lib.ListN.{length}
 use Rattle.output_lines.specs.Text.{lineRoom}
-use Rattle.output_lines.proofs.Writing.{holds-fits}
+use Rattle.output_lines.proofs.Writing.{line-fits}
 use Rattle.pieces.proofs.Leaving.{line-told}
 use borrow.Author.Needs.{needs}
 use Rattle.pieces.proofs.open_told.Statement.{statement}
@@ -15,7 +15,7 @@ open-line-requires : tie.Need-open-line-requires
 open-line-requires c κs = search needs
 
 leave-requires : tie.Need-leave-requires
-leave-requires c κs = (let z : length (c .open-line .result .bytes) ≡ lineRoom = search needs in holds-fits (c .open-line .result) _ (c .open-line .ensures) z, search needs)
+leave-requires c κs = (let z : length (c .open-line .result .bytes) ≡ lineRoom = search needs in line-fits (c .open-line .result) _ (c .open-line .ensures) z, search needs)
 
 same-length : tie.Need-same-length
 same-length c = search needs
