@@ -9,7 +9,8 @@ use Rattle.basis.specs.Answer.{gives}
 use Rattle.basis.proofs.Tests.{both-left, both-right, both-true}
 use Rattle.value.specs.Bounds.{maxYear, secondTicks, maxZone, maxDayTime, minuteTicks, dayTicks}
 use Rattle.value.specs.Values.{okSigned, okDayTime, okOffset, okZone, okDateTime}
-use Rattle.instants.specs.Ticks.{utc, ticksOf, spanOf, localOf, instantAt}
+use Rattle.instants.specs.Ticks.{utc, localOf, instantAt}
+use Rattle.instants.specs.Carried.{ticksOf, spanOf}
 use Rattle.value.specs.declared.Offset.{Offset}
 use Rattle.value.specs.declared.Offset.the-variants.{East, West}
 use Rattle.value.specs.declared.Zone.{Zone}

@@ -18,7 +18,7 @@ ghost use Prim.Native.Nat.{_*_, _<_, _≤_, _^_};
 ghost use Rattle.value.specs.Bounds.{secondTicks, minuteSeconds, maxZone};
 ghost use Rattle.value.specs.Values.{okOffset, okDateTime, okDayTime};
 ghost use Rattle.value.specs.Kinds.{okValue, meaning};
-ghost use Rattle.instants.specs.Ticks.{spanOf, ticksOf};
+ghost use Rattle.instants.specs.Carried.{spanOf, ticksOf};
 ghost use Rattle.quantities.specs.Operands.{operandOf};
 ghost use Rattle.adjusting.specs.Adjustment as the;
 

@@ -14,7 +14,7 @@ ghost use mathlib.Core.Bool.{true};
 ghost use Prim.Native.Nat.{_*_, _≤_};
 ghost use Rattle.value.specs.Bounds.{maxDayTime};
 ghost use Rattle.value.specs.Kinds.{okValue, meaning};
-ghost use Rattle.instants.specs.Ticks.{spanOf};
+ghost use Rattle.instants.specs.Carried.{spanOf};
 ghost use Rattle.quantities.specs.Operands.{operandOf};
 ghost use Rattle.arithmetic.specs.Products as the;
 ghost use Rattle.quantities.specs.declared.Operand.the-variants as X;

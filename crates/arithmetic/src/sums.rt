@@ -24,7 +24,7 @@ ghost use Rattle.value.specs.Bounds.{maxDayTime, maxYearMonth};
 ghost use Rattle.value.specs.Durations as halves;
 ghost use Rattle.value.specs.Values.{okOffset, okDateTime};
 ghost use Rattle.value.specs.Kinds.{okValue, meaning};
-ghost use Rattle.instants.specs.Ticks.{spanOf};
+ghost use Rattle.instants.specs.Carried.{spanOf};
 ghost use Rattle.quantities.specs.Operands.{operandOf};
 ghost use Rattle.arithmetic.specs.Sums as the;
 ghost use Rattle.quantities.specs.declared.Operand.the-variants as X;

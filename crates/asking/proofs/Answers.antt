@@ -3,7 +3,7 @@
 use mathlib.Core.Path.{_≡_, sym, _∙_}
 use mathlib.Core.List.{List}
 use Prim.Native.Nat.{ℕ}
-use Rattle.asking.specs.Asked.{KeptOf}
+use Rattle.asking.specs.Carried.{KeptOf}
 use Rattle.asking.specs.declared.forms.Factor.{Factor}
 
 pub factor-determined : (s : List ℕ) (r r′ : Factor) → KeptOf s r → KeptOf s r′ → r ≡ r′

@@ -9,7 +9,8 @@ use lib.Dec.{eqb, leb}
 use lib.ListN.{length}
 use borrow.Author.Tests.{eq-eqb, ne-eqb, lt-leb, leb-true, leb-false}
 use Rattle.basis.specs.Choice.{pick, both}
-use Rattle.numerals.specs.Reading.{at, run, Found}
+use Rattle.numerals.specs.Reading.{at, run}
+use Rattle.numerals.specs.Carried.{Found}
 use Rattle.numerals.specs.declared.Run.{Run}
 use Rattle.numerals.proofs.Places.{within}
 use Rattle.value.specs.declared.Value.{Value}
@@ -20,7 +21,8 @@ use Rattle.quantities.specs.Operands.{operandOf}
 use Rattle.arithmetic.specs.Products as products
 use Rattle.arithmetic.specs.Products.{timesOf, maxFactor}
 use Rattle.timetable.specs.Fields.{fieldAt}
-use Rattle.asking.specs.Asked.{beyond, hasMinus, digitsFrom, isWhole, magnitudeOf}
+use Rattle.asking.specs.Asked.{hasMinus, digitsFrom, isWhole, magnitudeOf}
+use Rattle.asking.specs.Carried.{beyond}
 
 module _ (s : List ℕ) (i : ℕ) (r : Run) (f : Found s i beyond r) where
   pub no-digits : r .end ≡ i → false ≡ digitsFrom s i

@@ -1,16 +1,14 @@
 -- docs/LINES.md, "The calculator": which call a line is. "A line that is no such call is answered with `refused` 7: an unknown
 -- word, too few or too many fields, a K that is no kind's name, an N of another form."
-use mathlib.Core.Path.{_≡_}
 use mathlib.Core.Bool.{Bool, false}
 use mathlib.Core.List.{List}
-use Prim.Native.Nat.{ℕ, _+_, min}
+use Prim.Native.Nat.{ℕ, _+_}
 use lib.Dec.{eqb}
 use lib.ListN.{length}
 use Rattle.basis.specs.Choice.{pick}
 use Rattle.basis.specs.Letters.{bytes}
 use Rattle.timetable.specs.Fields.{fieldsOf, fieldAt}
 use Rattle.numerals.specs.Reading.{at, run}
-use Rattle.arithmetic.specs.Products.{maxFactor}
 use Rattle.words.specs.Runs.{same}
 use Rattle.symbols.specs.Symbols.{named}
 use Rattle.symbols.specs.declared.Named.{Named}
@@ -19,7 +17,6 @@ use Rattle.asking.specs.declared.One.{One}
 use Rattle.asking.specs.declared.One.the-variants as O
 use Rattle.asking.specs.declared.Two.{Two}
 use Rattle.asking.specs.declared.Two.the-variants as T
-use Rattle.asking.specs.declared.forms.Factor.{Factor}
 use Rattle.asking.specs.declared.Form.{Form}
 use Rattle.asking.specs.declared.Form.the-variants as F
 
@@ -44,14 +41,6 @@ isWhole s = digitsFrom s (digitsAt s)
 
 unfoldable pub magnitudeOf : List ℕ → ℕ
 magnitudeOf s = run s (digitsAt s) .value
-
--- the first number that is no factor; code keeps greater ones as this one, which is refused like them
-abbrev pub beyond : ℕ
-beyond = maxFactor + 1
-
--- what is kept of a text: whether it is an N, its minus, and its number as far as the first that is no factor
-abbrev pub KeptOf : List ℕ → Factor → Type 0
-KeptOf s r = (r .good ≡ isWhole s) × (r .negative ≡ hasMinus s) × (r .magnitude ≡ min beyond (magnitudeOf s))
 
 -- word K T
 abbrev pub oneBy : One → Named → Form

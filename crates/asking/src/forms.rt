@@ -14,6 +14,7 @@ ghost use Prim.Native.Nat.{_≤_, _<_, min};
 ghost use lib.ListN.{length};
 ghost use Rattle.numerals.specs.Reading.{run};
 ghost use Rattle.asking.specs.Asked as the;
+ghost use Rattle.asking.specs.Carried as carried;
 
 // The first whole number that is no factor. A greater one is kept as this one.
 const BEYOND: u64 = MAX_FACTOR as u64 + 1;
@@ -27,7 +28,7 @@ pub struct Factor {
 
 fn whole_from(s: &[u8], negative: bool, at: usize) -> Factor
     requires { ⌜ at ≤ length (now s) ⌝ }
-    ensures { λ r. ⌜ (r .good ≡ the.digitsFrom (now (s .entry)) at) × (r .negative ≡ negative) × (r .magnitude ≡ min the.beyond (run (now (s .entry)) at .value)) ⌝ }
+    ensures { λ r. ⌜ (r .good ≡ the.digitsFrom (now (s .entry)) at) × (r .negative ≡ negative) × (r .magnitude ≡ min carried.beyond (run (now (s .entry)) at .value)) ⌝ }
 {
     let n = numerals::digits(s, at, BEYOND);
     let end = n.end;
@@ -47,7 +48,7 @@ fn whole_from(s: &[u8], negative: bool, at: usize) -> Factor
 }
 
 pub fn whole(s: &[u8]) -> Factor
-    ensures { λ r. ⌜ the.KeptOf (now (s .entry)) r ⌝ }
+    ensures { λ r. ⌜ carried.KeptOf (now (s .entry)) r ⌝ }
 {
     if byte(s, 0) == b'-' {
         return whole_from(s, true, 1);

@@ -12,7 +12,7 @@ use Rattle.value.specs.Refusals.{badCondition, tooDeep, wrongKind}
 use Rattle.value.specs.declared.Refusal.{Refusal}
 use Rattle.depth.specs.Depth.{deep}
 use Rattle.givens.specs.Data.{Datum, value, truth}
-use Rattle.givens.specs.Givens.{givenOf, badOf}
+use Rattle.givens.specs.Carried.{givenOf, badOf}
 use Rattle.sorts.specs.declared.Sort.{Sort}
 use Rattle.sorts.specs.declared.Sort.the-variants as S
 use Rattle.givens.specs.declared.Given.{Given}
@@ -25,7 +25,7 @@ use Rattle.grammar.specs.Grammar.{Parsed, none, got}
 use Rattle.grammar.specs.Trees.{Tree, parse}
 use Rattle.reading.specs.Meaning.{sortOf, first, firstBad, eval}
 use Rattle.reading.specs.Lengths.{parseWithin}
-use Rattle.reading.specs.Readers.{givenIn, partOf, readOf}
+use Rattle.reading.specs.Carried.{givenIn, partOf, readOf}
 use Rattle.reading.specs.declared.Read.{Read}
 use Rattle.reading.specs.declared.Read.the-variants.{Bad, Got}
 use Rattle.reading.proofs.Wholes.{no-part, good-length}

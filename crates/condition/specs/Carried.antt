@@ -1,5 +1,5 @@
--- What the part that was read says, which the code carries in place of a tree: of its literals where it was checked, of the line
--- where it was evaluated. No contract of a public call rests on this file.
+-- Carried: what a part that was read says, in place of a tree: of its literals where it was checked, of the line where it
+-- was evaluated. No promise to a caller rests on it.
 use Rattle.basis.specs.Choice.{pick}
 use Rattle.basis.specs.Answer.{Answer, gives, refuses}
 use Rattle.value.specs.Refusals.{wrongKind}

@@ -13,7 +13,8 @@ use Rattle.timetable.proofs.Offsets.{line-cut, lines-end, lines-next, next-furt
 use Rattle.words.specs.Runs.{between}
 use Rattle.seat.specs.Request.{asking}
 use Rattle.desk.specs.declared.Desk.{Desk}
-use Rattle.pieces.specs.Pieces.{Piece, openPiece, openedAll, openedTold}
+use Rattle.pieces.specs.Pieces.{Piece, openPiece, openedAll}
+use Rattle.pieces.specs.Carried.{openedTold}
 use Rattle.desk_host.specs.declared.Sent.{Sent}
 use Rattle.desk_host.proofs.Due.{failed, second-fails}
 

@@ -10,7 +10,8 @@ use Rattle.basis.specs.Choice.{both}
 use Rattle.timetable.specs.Lines.{placedLines}
 use Rattle.seat.specs.Files.{Files, over}
 use Rattle.desk.specs.declared.Desk.{Desk}
-use Rattle.pieces.specs.Pieces.{startPiece, openedAll, openedTold, untilIdle, untilIdleTold, mostTurns, servedAll, servedTold, deskAtEnd, toldAtEnd}
+use Rattle.pieces.specs.Pieces.{startPiece, openedAll, untilIdle, mostTurns, servedAll, deskAtEnd}
+use Rattle.pieces.specs.Carried.{openedTold, untilIdleTold, servedTold, toldAtEnd}
 use Rattle.output.specs.Output.{outputOf}
 use Rattle.output.proofs.Amounts.{told-is-the-output, bounded}
 use Rattle.desk_host.specs.declared.Progress.{Progress}

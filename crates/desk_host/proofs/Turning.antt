@@ -9,7 +9,8 @@ use Rattle.basis.specs.Choice.{pick, both}
 use Rattle.seat.specs.Files.{Files}
 use Rattle.desk.specs.declared.Desk.{Desk}
 use Rattle.pieces.specs.Bounds.{roomSize}
-use Rattle.pieces.specs.Pieces.{turnsPiece, untilIdle, untilIdleTold, mostTurns}
+use Rattle.pieces.specs.Pieces.{turnsPiece, untilIdle, mostTurns}
+use Rattle.pieces.specs.Carried.{untilIdleTold}
 use Rattle.desk_host.specs.declared.Sent.{Sent}
 use Rattle.desk_host.proofs.Due.{held, failed, second-holds, second-fails}
 

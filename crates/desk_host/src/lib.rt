@@ -22,7 +22,8 @@ ghost use Rattle.seat.specs.Bounds.{maxTimetable};
 ghost use Rattle.seat.specs.Files.{over};
 ghost use Rattle.seat.specs.Request.{asking};
 ghost use Rattle.pieces.specs.Bounds.{maxInput, roomSize};
-ghost use Rattle.pieces.specs.Pieces.{startPiece, openPiece, turnsPiece, openedAll, openedTold, untilIdle, untilIdleTold, mostTurns, servedAll, servedTold, deskAtEnd};
+ghost use Rattle.pieces.specs.Pieces.{startPiece, openPiece, turnsPiece, openedAll, untilIdle, mostTurns, servedAll, deskAtEnd};
+ghost use Rattle.pieces.specs.Carried.{openedTold, untilIdleTold, servedTold};
 ghost use Rattle.output.specs.Output.{outputOf};
 
 // The bytes of lines that are written at once.

@@ -4,7 +4,7 @@ use Prim.Native.Nat.{ℕ}
 use Rattle.basis.specs.Answer.{Answer}
 use Rattle.value.specs.declared.Value.{Value}
 use Rattle.value.proofs.Answers.{outcome-determined}
-use Rattle.durations.specs.Walks.{Reads}
+use Rattle.durations.specs.Carried.{Reads}
 use Rattle.durations.specs.declared.Reading.{Reading}
 
 pub reading-determined : (a : Answer Value) (n : ℕ) (r r′ : Reading) → Reads a n r → Reads a n r′ → r ≡ r′

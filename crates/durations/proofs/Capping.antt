@@ -18,7 +18,7 @@ use Rattle.durations.specs.declared.Walk.{Walk}
 use Rattle.durations.specs.declared.Shape.{Shape}
 use Rattle.durations.specs.Forms.{weight, seconds, point, timeMark}
 use Rattle.durations.specs.Walks.{component, componentOf, components, pointed, timed, ended, onward, counted, signed}
-use Rattle.durations.specs.Capped.{upTo, shapeUpTo}
+use Rattle.durations.specs.Carried.{upTo, shapeUpTo}
 
 -- a sum that stopped is as good as the whole
 pub sum-again : (cap a x : ℕ) → min cap (min cap a + x) ≡ min cap (a + x)

@@ -11,7 +11,8 @@ use Rattle.value.specs.declared.Value.the-variants as VV
 use Rattle.numerals.specs.Reading.{isDigit, number, fractionAt}
 use Rattle.numerals.specs.Writing.{digits, shortest, decimal, stripped, fractionText}
 use Rattle.durations.specs.Forms.{weight, dayTime, yearMonth}
-use Rattle.durations.specs.Walks.{component, components, shapeFrom, shape, counted, readBy, readDayTime, readYearMonth, placeIn}
+use Rattle.durations.specs.Walks.{component, components, shapeFrom, shape, counted, readBy, readDayTime, readYearMonth}
+use Rattle.durations.specs.Carried.{placeIn}
 use Rattle.durations.specs.Spelling.{shown, shownAll, left, body, textBy, dayTimeText, yearMonthText}
 
 -- the greatest number of months below zero, and none

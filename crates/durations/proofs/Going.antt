@@ -11,13 +11,14 @@ use lib.Seq.{drop-cons}
 use borrow.Author.Tests.{eq-eqb, ne-eqb, lt-ltb, le-ltb, leb-true}
 use Rattle.basis.specs.Choice.{both}
 use Rattle.basis.proofs.Tests.{both-left, both-right}
-use Rattle.numerals.specs.Reading.{at, marked}
+use Rattle.numerals.specs.Reading.{at}
+use Rattle.numerals.specs.Carried.{marked}
 use Rattle.numerals.proofs.Places.{nonzero, within}
 use Rattle.durations.specs.declared.Walk.{Walk}
 use Rattle.durations.specs.declared.Shape.{Shape}
 use Rattle.durations.specs.Forms.{timeMark, startMark, minusSign}
 use Rattle.durations.specs.Walks.{component, components, timed, ended, onward, begun, shapeFrom, shape}
-use Rattle.durations.specs.Capped.{upTo, shapeUpTo}
+use Rattle.durations.specs.Carried.{upTo, shapeUpTo}
 use Rattle.durations.proofs.Capping.{kept-whole, components-cap, timed-cap}
 use Rattle.durations.proofs.Ways.{component-le}
 

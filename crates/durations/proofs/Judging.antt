@@ -11,7 +11,8 @@ use Rattle.durations.specs.declared.Shape.{Shape}
 use Rattle.durations.specs.declared.Amount.{Amount}
 use Rattle.durations.specs.declared.Count.{Count}
 use Rattle.durations.specs.declared.Count.the-variants as NV
-use Rattle.durations.specs.Walks.{counted, signed, meaning}
+use Rattle.durations.specs.Walks.{counted, signed}
+use Rattle.durations.specs.Carried.{meaning}
 
 module _ (unit most : ℕ) (t : Shape) where
   -- the second and third check, and the third

@@ -19,8 +19,9 @@ use Rattle.durations.specs.declared.Shape.{Shape}
 use Rattle.durations.specs.declared.Amount.{Amount}
 use Rattle.durations.specs.declared.Count.{Count}
 use Rattle.durations.specs.Forms.{Form, weight, seconds, point, timeMark, startMark, minusSign}
-use Rattle.durations.specs.Walks.{component, componentOf, components, pointed, timed, onward, begun, shapeFrom, shape, counted, signed, readBy, meaning}
-use Rattle.durations.specs.Capped.{shapeUpTo}
+use Rattle.durations.specs.Walks.{component, componentOf, components, pointed, timed, onward, begun, shapeFrom, shape, counted, signed, readBy}
+use Rattle.durations.specs.Carried.{meaning}
+use Rattle.durations.specs.Carried.{shapeUpTo}
 use Rattle.durations.proofs.Capping.{counted-cap}
 
 module _ (s : List ℕ) where

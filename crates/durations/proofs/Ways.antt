@@ -10,12 +10,13 @@ use borrow.Author.Tests.{eq-eqb, ne-eqb, eqb-true}
 use Rattle.basis.specs.Choice.{pick, both}
 use Rattle.numerals.specs.declared.Run.{Run}
 use Rattle.numerals.specs.declared.Fraction.{Fraction}
-use Rattle.numerals.specs.Reading.{Found, Number, run, at, fractionAt}
+use Rattle.numerals.specs.Reading.{Number, run, at, fractionAt}
+use Rattle.numerals.specs.Carried.{Found}
 use Rattle.numerals.proofs.Places.{within}
 use Rattle.durations.specs.declared.Walk.{Walk}
 use Rattle.durations.specs.Forms.{weight, seconds, point}
 use Rattle.durations.specs.Walks.{component, componentOf, pointed, taken, tried, takenWith}
-use Rattle.durations.specs.Capped.{upTo}
+use Rattle.durations.specs.Carried.{upTo}
 use Rattle.durations.proofs.Weights.{weight-between}
 use Rattle.durations.proofs.Capping.{number-again, kept-whole, pointed-cap}
 

@@ -8,7 +8,7 @@ use Rattle.basis.specs.Choice.{both}
 use Rattle.value.specs.Bounds.{secondTicks, dayTicks}
 use Rattle.numerals.specs.Reading.{fractionDigits}
 use Rattle.durations.specs.Forms.{weight, years, days, hours, minutes}
-use Rattle.durations.specs.Capped.{Roomy}
+use Rattle.durations.specs.Carried.{Roomy}
 
 pub fraction-of-second : 10 ^ fractionDigits ≡ secondTicks
 fraction-of-second = refl

@@ -1,4 +1,4 @@
 pub mod Forms
 pub mod Walks
-pub mod Capped
+pub mod Carried
 pub mod Spelling

@@ -1,7 +1,6 @@
 -- Document 01, "Reading text", of durations: "optional minus, P, components in order, at least one; after T at least one."
 -- The walk says how far it came: to the first byte that no good text could have there, or to the text's end where the
 -- text only stops short. A component's number has no bound; only the total has one.
-use mathlib.Core.Path.{_≡_}
 use mathlib.Core.Bool.{Bool, true, false}
 use mathlib.Core.List.{List, [], _∷_}
 use Prim.Native.Nat.{ℕ, _+_, _*_}
@@ -9,7 +8,6 @@ use lib.Dec.{eqb, leb, ltb}
 use lib.ListN.{length}
 use Rattle.basis.specs.Choice.{pick, both}
 use Rattle.basis.specs.Answer.{Answer, gives, refuses}
-use Rattle.value.specs.Kinds as kinds
 use Rattle.value.specs.Refusals.{badText, beyondBounds, longFraction}
 use Rattle.value.specs.declared.Value.{Value}
 use Rattle.value.specs.declared.Value.the-variants as VV
@@ -18,9 +16,6 @@ use Rattle.numerals.specs.Reading.{Number, run, at, fractionAt}
 use Rattle.durations.specs.declared.Walk.{Walk}
 use Rattle.durations.specs.declared.Shape.{Shape}
 use Rattle.durations.specs.declared.Amount.{Amount}
-use Rattle.durations.specs.declared.Reading.{Reading}
-use Rattle.durations.specs.declared.Count.{Count}
-use Rattle.durations.specs.declared.Count.the-variants as NV
 use Rattle.durations.specs.Forms.{Form, weight, dayTime, yearMonth, seconds, minusSign, point, startMark, timeMark}
 
 -- a walk that has found nothing yet, at a place
@@ -129,16 +124,3 @@ readDayTime s = asDayTime (readBy dayTime s)
 
 abbrev pub readYearMonth : List ℕ → Answer Value
 readYearMonth s = asYearMonth (readBy yearMonth s)
-
--- how far a text is one of a form
-abbrev pub placeIn : Form → List ℕ → ℕ
-placeIn f s = shape (f .before) (f .after) s .place
-
--- what an answer of the code says
-abbrev pub meaning : Count → Answer Amount
-meaning (NV.Of a) = gives a
-meaning (NV.Refused r) = refuses (r .number)
-
--- what a reading is to say: what the text reads as, and the place at which its shape ends
-abbrev pub Reads : Answer Value → ℕ → Reading → Type 0
-Reads a n r = (kinds.meaning (r .outcome) ≡ a) × (r .place ≡ n)

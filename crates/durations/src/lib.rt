@@ -9,9 +9,11 @@ use value::YearMonth;
 ghost use mathlib.Core.Path.{_≡_};
 ghost use Prim.Native.Nat.{_+_, _*_, _≤_, _<_, _^_};
 ghost use lib.ListN.{length};
-ghost use Rattle.numerals.specs.Writing.{textIn, longest};
+ghost use Rattle.numerals.specs.Writing.{longest};
+ghost use Rattle.numerals.specs.Carried.{textIn};
 ghost use Rattle.durations.specs.Forms.{dayTime, yearMonth};
 ghost use Rattle.durations.specs.Walks as the;
+ghost use Rattle.durations.specs.Carried as carried;
 ghost use Rattle.durations.specs.Spelling as its;
 
 mod scan; // scan.rt: the components of a text, found in order
@@ -64,7 +66,7 @@ pub struct Reading {
 // The checks of document 01 in their order.
 fn counted(t: Shape, unit: u64, most: u64) -> Count
     requires { ⌜ t .sum * unit + t .ticks < 2 ^ 64 ⌝ }
-    ensures { λ r. ⌜ the.meaning r ≡ the.counted unit most t ⌝ }
+    ensures { λ r. ⌜ carried.meaning r ≡ the.counted unit most t ⌝ }
 {
     if !t.good {
         return Count::Refused(Refusal {
@@ -95,7 +97,7 @@ fn counted(t: Shape, unit: u64, most: u64) -> Count
 }
 
 pub fn read_day_time(s: &[u8]) -> Reading
-    ensures { λ r. ⌜ the.Reads (the.readDayTime (now (s .entry))) (the.placeIn dayTime (now (s .entry))) r ⌝ }
+    ensures { λ r. ⌜ carried.Reads (the.readDayTime (now (s .entry))) (carried.placeIn dayTime (now (s .entry))) r ⌝ }
 {
     let parts = Span::TICKS as u64;
     let t = scan::shape(s, b"D", b"HMS", DayTime::MAX / parts + 1);
@@ -117,7 +119,7 @@ pub fn read_day_time(s: &[u8]) -> Reading
 }
 
 pub fn read_year_month(s: &[u8]) -> Reading
-    ensures { λ r. ⌜ the.Reads (the.readYearMonth (now (s .entry))) (the.placeIn yearMonth (now (s .entry))) r ⌝ }
+    ensures { λ r. ⌜ carried.Reads (the.readYearMonth (now (s .entry))) (carried.placeIn yearMonth (now (s .entry))) r ⌝ }
 {
     let most = YearMonth::MAX as u64;
     let t = scan::shape(s, b"YM", b"", most + 1);

@@ -6,11 +6,11 @@ ghost use mathlib.Core.Path.{_≡_};
 ghost use mathlib.Core.Bool.{true, false};
 ghost use Prim.Native.Nat.{_+_, _*_, _≤_, min};
 ghost use lib.ListN.{length};
-ghost use Rattle.numerals.specs.Reading.{marked};
+ghost use Rattle.numerals.specs.Carried.{marked};
 ghost use Rattle.numerals.specs.Reading as digits;
 ghost use Rattle.durations.specs.Forms as forms;
 ghost use Rattle.durations.specs.Walks as the;
-ghost use Rattle.durations.specs.Capped.{Roomy, upTo, shapeUpTo};
+ghost use Rattle.durations.specs.Carried.{Roomy, upTo, shapeUpTo};
 
 const YEAR: u64 = calendar::MONTH_COUNT as u64;
 

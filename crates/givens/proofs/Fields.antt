@@ -12,7 +12,7 @@ use Rattle.value.specs.declared.Outcome.{Outcome}
 use Rattle.timetable.specs.Fields.{fieldAt, hasField}
 use Rattle.text.specs.Reading.{readAs}
 use Rattle.givens.specs.Data.{valued, readField}
-use Rattle.givens.specs.Givens.{givenOf}
+use Rattle.givens.specs.Carried.{givenOf}
 use Rattle.givens.specs.declared.Given.{Given}
 
 module _ (k : Kind) (line : List ℕ) (n : ℕ) {t : Bool} {r : Given} (e : t ≡ hasField line n) where

@@ -10,7 +10,7 @@ ghost use Rattle.basis.specs.Answer.{refuses};
 ghost use Rattle.text.specs.Reading.{readAs};
 ghost use Rattle.words.specs.Runs.{between};
 ghost use Rattle.givens.specs.Data as its;
-ghost use Rattle.givens.specs.Givens as the;
+ghost use Rattle.givens.specs.Carried as the;
 
 // What a part gives: nothing where it is not evaluated, a value, a truth value, or the first refusal.
 pub enum Given {

@@ -7,7 +7,8 @@ use lib.Dec.{ltb}
 use borrow.Author.Tests.{lt-ltb, le-ltb, ltb-true, ltb-false}
 use mathlib.Core.Bool.{Bool, true, false}
 use Rattle.value.specs.Bounds.{secondTicks, dayTicks}
-use Rattle.instants.specs.Ticks.{ticksOf, spanOf, instantAt}
+use Rattle.instants.specs.Ticks.{instantAt}
+use Rattle.instants.specs.Carried.{ticksOf, spanOf}
 use Rattle.value.specs.declared.Offset.{Offset}
 use Rattle.value.specs.declared.Offset.the-variants.{East, West}
 use Rattle.value.specs.declared.Span.{Span}

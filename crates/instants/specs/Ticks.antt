@@ -5,22 +5,14 @@ use Prim.Native.Nat.{ℕ, _+_, _-_, _*_, _/_, _%_}
 use lib.Dec.{leb}
 use Rattle.basis.specs.Choice.{pick, both}
 use Rattle.calendar.specs.Calendar.{dayNumber, dateOf}
-use Rattle.value.specs.Bounds.{minYear, maxYear, secondTicks, minuteTicks, dayTicks}
+use Rattle.value.specs.Bounds.{minYear, maxYear, minuteTicks, dayTicks}
 use Rattle.value.specs.declared.Offset.{Offset}
 use Rattle.value.specs.declared.Offset.the-variants.{East, West}
 use Rattle.value.specs.declared.Zone.{Zone}
 use Rattle.value.specs.declared.Zone.the-variants.{Absent, At}
 use Rattle.value.specs.declared.DateTime.{DateTime}
-use Rattle.value.specs.declared.Span.{Span}
 use Rattle.instants.specs.declared.Placed.{Placed}
 use Rattle.instants.specs.declared.Placed.the-variants as P
-
--- a span of time in code is whole seconds and a part of a second; here it is its ticks
-abbrev pub ticksOf : Span → ℕ
-ticksOf s = s .seconds * secondTicks + s .part
-
-abbrev pub spanOf : ℕ → Span
-spanOf t = record { seconds = t / secondTicks; part = t % secondTicks }
 
 unfoldable pub localOf : DateTime → ℕ
 localOf d = dayNumber (d .year) (d .month) (d .day) * dayTicks + d .micros

@@ -5,7 +5,7 @@ ghost use mathlib.Core.Path.{_≡_};
 ghost use Prim.Native.Nat.{_+_, _-_, _*_, _≤_, _<_, _^_};
 ghost use lib.Dec.{ltb};
 ghost use Rattle.value.specs.Bounds.{secondTicks};
-ghost use Rattle.instants.specs.Ticks.{ticksOf, spanOf};
+ghost use Rattle.instants.specs.Carried.{ticksOf, spanOf};
 
 // Records keep microseconds: from them, and back.
 pub fn from_micros(micros: u64) -> Span

@@ -12,7 +12,8 @@ ghost use mathlib.Core.Bool.{true};
 ghost use Prim.Native.Nat.{_*_, _≤_, _<_, _^_};
 ghost use Rattle.value.specs.Bounds.{secondTicks, minuteSeconds, maxZone};
 ghost use Rattle.value.specs.Values.{okOffset, okDateTime};
-ghost use Rattle.instants.specs.Ticks.{ticksOf, spanOf, localOf, offsetIn, instantAt, instantOf, placedAt};
+ghost use Rattle.instants.specs.Ticks.{localOf, offsetIn, instantAt, instantOf, placedAt};
+ghost use Rattle.instants.specs.Carried.{ticksOf, spanOf};
 
 pub fn local(d: DateTime) -> Span
     requires { ⌜ okDateTime d ≡ true ⌝ }

@@ -22,7 +22,8 @@ use Rattle.value.specs.declared.Kind.{Kind}
 use Rattle.value.specs.declared.Value.{Value}
 use Rattle.value.proofs.Good.{good-day, numbered}
 use Rattle.scan.specs.declared.Scan.{Scan}
-use Rattle.scan.specs.Scanning.{capped, whole, partsOf}
+use Rattle.scan.specs.Scanning.{whole, partsOf}
+use Rattle.scan.specs.Carried.{capped}
 use Rattle.scan.proofs.Caps.{cut, parts-cut}
 use Rattle.judging.specs.Reading.{valued, placedOn, nextDay, okClock, isDayEnd, ticksOf, clocked, onCalendar, bounded, judge, readLayout}
 

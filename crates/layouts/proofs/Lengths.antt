@@ -12,7 +12,8 @@ use Rattle.value.specs.declared.Kind.{Kind}
 use Rattle.value.specs.declared.Kind.the-variants as KV
 use Rattle.numerals.specs.Writing.{longest, digits, stripped, fractionText}
 use Rattle.scan.specs.Scanning.{layout, isPair}
-use Rattle.layouts.specs.Writing.{partText, pairOf, textBy, textOf, widths}
+use Rattle.layouts.specs.Writing.{partText, pairOf, textBy, textOf}
+use Rattle.layouts.specs.Carried.{widths}
 use Rattle.layouts.proofs.Pieces.{text-short, wide}
 
 by-widths : (ps : List ℕ) (d : DateTime) → length (textBy ps d) ≤ widths ps

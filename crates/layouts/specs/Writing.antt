@@ -14,8 +14,8 @@ use Rattle.value.specs.declared.Zone.{Zone}
 use Rattle.value.specs.declared.Zone.the-variants.{Absent, At}
 use Rattle.value.specs.declared.DateTime.{DateTime}
 use Rattle.value.specs.declared.Kind.{Kind}
-use Rattle.numerals.specs.Reading.{fractionDigits}
-use Rattle.numerals.specs.Writing.{digits, fractionText, textIn, longest}
+use Rattle.numerals.specs.Writing.{digits, fractionText, longest}
+use Rattle.numerals.specs.Carried.{textIn}
 use Rattle.numerals.specs.declared.Text.{Text}
 use Rattle.scan.specs.Scanning.{layout, isPair, yearDigits}
 
@@ -49,14 +49,6 @@ textBy (p ∷ ps) d = partText p d ++ textBy ps d
 
 abbrev pub textOf : Kind → DateTime → List ℕ
 textOf k d = textBy (layout k) d
-
--- how long a part's text can be: a zone is a sign with hh:mm
-unfoldable pub width : ℕ → ℕ
-width p = pick (eqb p (code "Y")) yearDigits (pick (eqb p (code "f")) (1 + fractionDigits) (pick (eqb p (code "z")) 6 (pick (isPair p) 2 1)))
-
-unfoldable pub widths : List ℕ → ℕ
-widths [] = 0
-widths (p ∷ ps) = width p + widths ps
 
 -- a text that grew to w
 pub record Holds (t : Text) (w : List ℕ) : Type 0 where

@@ -3,7 +3,7 @@
 use mathlib.Core.Path.{_≡_, sym, _∙_}
 use mathlib.Core.List.{List}
 use Prim.Native.Nat.{ℕ}
-use Rattle.numerals.specs.Reading.{Found}
+use Rattle.numerals.specs.Carried.{Found}
 use Rattle.numerals.specs.declared.Run.{Run}
 
 pub run-determined : (s : List ℕ) (i cap : ℕ) (r r′ : Run) → Found s i cap r → Found s i cap r′ → r ≡ r′

@@ -10,7 +10,8 @@ use lib.ListN.{length, getD, length-append}
 use borrow.Author.Tests.{ltb-true, lt-ltb, le-ltb}
 use Rattle.basis.specs.Choice.{pick}
 use Rattle.numerals.specs.Reading.{number, isDigit}
-use Rattle.numerals.specs.Writing.{digits, shortest, decimal, Added}
+use Rattle.numerals.specs.Writing.{digits, shortest, decimal}
+use Rattle.numerals.specs.Carried.{Added}
 use Rattle.numerals.specs.declared.Text.{Text}
 use Rattle.numerals.proofs.Powers.{few-digits}
 use Rattle.numerals.proofs.Runs.{pass, stop}

@@ -11,8 +11,9 @@ use Rattle.basis.specs.Choice.{pick}
 use Rattle.numerals.specs.declared.Run.{Run}
 use Rattle.numerals.specs.declared.Kept.{Kept}
 use Rattle.numerals.specs.declared.Text.{Text}
-use Rattle.numerals.specs.Reading.{isDigit, number, run, Found, fractionDigits, fractionOf, fractionAt}
-use Rattle.numerals.specs.Writing.{digits, stripped, fractionText, Added}
+use Rattle.numerals.specs.Reading.{isDigit, number, run, fractionDigits, fractionOf, fractionAt}
+use Rattle.numerals.specs.Carried.{Found, Added}
+use Rattle.numerals.specs.Writing.{digits, stripped, fractionText}
 use Rattle.numerals.proofs.Powers.{widened, filled}
 use Rattle.numerals.proofs.Runs.{run-le, run-lt}
 use Rattle.numerals.proofs.Decimals.{length-digits, digits-run}

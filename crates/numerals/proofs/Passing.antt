@@ -7,7 +7,8 @@ use native.Mathlib.Numerals.{add-one}
 use native.Mathlib.Omega.{arith}
 use lib.ListN.{length, getD, drop, drop-of-length-le}
 use lib.Seq.{drop-cons}
-use Rattle.numerals.specs.Reading.{isDigit, number, Number, Found}
+use Rattle.numerals.specs.Reading.{isDigit, number, Number}
+use Rattle.numerals.specs.Carried.{Found}
 
 -- the digits from `at` up to i were passed, with their number in v as far as the cap
 pub record Passed (s : List ℕ) (at cap i v : ℕ) : Type 0 where

@@ -11,7 +11,8 @@ use lib.ListN.{length, getD, drop, length-drop, List·getD-eq-default}
 use lib.Seq.{getD-drop, drop-drop, drop-at}
 use borrow.Author.Tests.{ltb-true, ltb-false, leb-true}
 use Rattle.basis.proofs.Tests.{both-left, both-right}
-use Rattle.numerals.specs.Reading.{at, marked}
+use Rattle.numerals.specs.Reading.{at}
+use Rattle.numerals.specs.Carried.{marked}
 
 -- what stands from i on
 module _ (s : List ℕ) (i : ℕ) {t : List ℕ} (e : drop i s ≡ t) where

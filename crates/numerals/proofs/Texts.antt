@@ -6,7 +6,7 @@ use Prim.Native.Nat.{ℕ, _+_, _≤_}
 use native.Mathlib.Omega.{arith}
 use lib.ListN.{length, length-take}
 use Rattle.numerals.specs.declared.Text.{Text}
-use Rattle.numerals.specs.Writing.{textIn, Holds, Added}
+use Rattle.numerals.specs.Carried.{textIn, Holds, Added}
 
 pub then : {t r q : Text} {v w : List ℕ} {m n : ℕ} → Added t r v m → Added r q w n → Added t q (v ++ w) (m + n)
 then {t} {r} {q} {v} {w} a b =

@@ -2,12 +2,10 @@
 -- here, however many digits it has. A byte past the end of a text counts as 0, which is no digit and no punctuation.
 use mathlib.Core.Bool.{Bool, true, false}
 use mathlib.Core.List.{List, [], _∷_}
-use Prim.Native.Nat.{ℕ, suc, _+_, _-_, _*_, _^_, _≤_, min}
-use mathlib.Core.Path.{_≡_}
+use Prim.Native.Nat.{ℕ, suc, _+_, _-_, _*_, _^_}
 use lib.Dec.{leb}
-use lib.ListN.{getD, length, drop}
+use lib.ListN.{getD, drop}
 use Rattle.basis.specs.Choice.{pick, both}
-use Rattle.numerals.specs.declared.Run.{Run}
 use Rattle.numerals.specs.declared.Fraction.{Fraction}
 
 -- the byte of a text at a place
@@ -32,12 +30,6 @@ number v k (x ∷ xs) = pick (isDigit x) (number (v * 10 + (x - 48)) (suc k) xs)
 abbrev pub run : List ℕ → ℕ → Number
 run s i = number 0 0 (drop i s)
 
--- what code keeps of the run at i: where it ends, and its number as far as a cap
-pub record Found (s : List ℕ) (i cap : ℕ) (r : Run) : Type 0 where
-  pub ends : r .end ≡ i + run s i .count
-  pub capped : r .value ≡ min cap (run s i .value)
-  pub within : r .end ≤ length s
-
 -- a fraction has at most so many digits, each a tenth of the one before; the last counts ticks
 abbrev pub fractionDigits : ℕ
 fractionDigits = 6
@@ -50,8 +42,3 @@ fractionOf i n =
 
 unfoldable pub fractionAt : List ℕ → ℕ → Fraction
 fractionAt s i = fractionOf i (run s i)
-
--- the letters by which a text is read have no byte 0 among them: past its end every text has a byte 0
-unfoldable pub marked : List ℕ → Bool
-marked [] = true
-marked (c ∷ cs) = both (leb 1 c) (marked cs)

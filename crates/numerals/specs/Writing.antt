@@ -1,13 +1,10 @@
--- Document 01, "Writing text": numbers and fractions as digits, and text that grows.
-use mathlib.Core.Path.{_≡_}
+-- Document 01, "Writing text": numbers and fractions as digits.
 use mathlib.Core.List.{List, [], _∷_, _++_}
 use Prim.Native.Nat.{ℕ, zero, suc, _+_, _/_, _%_}
 use lib.Dec.{eqb, ltb}
-use lib.ListN.{length, take}
 use Rattle.basis.specs.Choice.{pick}
 use Rattle.numerals.specs.Reading.{fractionDigits}
 use Rattle.numerals.specs.declared.Kept.{Kept}
-use Rattle.numerals.specs.declared.Text.{Text}
 
 -- the longest text has so many bytes
 abbrev pub longest : ℕ
@@ -35,17 +32,3 @@ stripped (suc k) n = pick (eqb (n % 10) 0) (stripped k (n / 10)) (record { value
 -- a fraction loses its final zeros and vanishes if zero
 unfoldable pub fractionText : ℕ → List ℕ
 fractionText u = pick (eqb u 0) [] (46 ∷ digits (stripped fractionDigits u .count) (stripped fractionDigits u .value))
-
--- the first `len` bytes of an array are the text w, and w has as many
-pub record Holds (bytes : List ℕ) (len : ℕ) (w : List ℕ) : Type 0 where
-  pub text : take len bytes ≡ w
-  pub size : len ≡ length w
-
--- the bytes of a text that grows
-abbrev pub textIn : Text → List ℕ
-textIn t = take (t .len) (t .bytes)
-
--- r is t with n more bytes, those of w
-pub record Added (t r : Text) (w : List ℕ) (n : ℕ) : Type 0 where
-  pub text : textIn r ≡ textIn t ++ w
-  pub more : r .len ≡ t .len + n

@@ -4,7 +4,8 @@ ghost use mathlib.Core.List.{[], _∷_};
 ghost use Prim.Native.Nat.{_+_, _*_, _≤_, _<_, _^_, min};
 ghost use lib.ListN.{length};
 ghost use Rattle.numerals.specs.Reading as the;
-ghost use Rattle.numerals.specs.Writing.{textIn, Added, longest};
+ghost use Rattle.numerals.specs.Writing.{longest};
+ghost use Rattle.numerals.specs.Carried.{Found, textIn, Added};
 ghost use Rattle.numerals.specs.Writing as its;
 
 // A fraction has at most so many digits.
@@ -66,7 +67,7 @@ fn longer(v: u64, d: u8, cap: u64) -> u64
 // The run of digits from a place on. However long it is, its number stops at the cap and never wraps.
 pub fn digits(s: &[u8], at: usize, cap: u64) -> Run
     requires { ⌜ (at ≤ length (now s)) × (cap * 10 + 9 < 2 ^ 64) ⌝ }
-    ensures { λ r. ⌜ the.Found (now (s .entry)) at cap r ⌝ }
+    ensures { λ r. ⌜ Found (now (s .entry)) at cap r ⌝ }
 {
     let mut i = at;
     let mut v: u64 = 0;

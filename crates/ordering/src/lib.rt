@@ -14,7 +14,7 @@ ghost use Prim.Native.Nat.{_+_};
 ghost use Rattle.basis.specs.Answer.{gives, refuses};
 ghost use Rattle.value.specs.Values.{okOffset};
 ghost use Rattle.value.specs.Kinds.{okValue};
-ghost use Rattle.instants.specs.Ticks.{spanOf};
+ghost use Rattle.instants.specs.Carried.{spanOf};
 ghost use Rattle.quantities.specs.Operands.{operandOf};
 ghost use Rattle.ordering.specs.Order as the;
 

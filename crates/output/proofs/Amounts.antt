@@ -21,10 +21,11 @@ use Rattle.desk.specs.declared.Desk.{Desk}
 use Rattle.output_lines.specs.Text.{openLine, turnLine, lineRoom}
 use Rattle.output_turns.specs.Turns.{isIdle}
 use Rattle.pieces.specs.Bounds.{maxInput, roomSize}
-use Rattle.pieces.specs.Pieces.{turnsPiece, openedTold, untilIdleTold, mostTurns, toldAtEnd}
+use Rattle.pieces.specs.Pieces.{turnsPiece, mostTurns}
+use Rattle.pieces.specs.Carried.{openedTold, untilIdleTold, toldAtEnd}
 use Rattle.pieces.proofs.Starting.{long-timetable, long-input, both-fit}
 use Rattle.output.specs.Output.{openLines, turnLines, openedFor, outputOf, mostBytes, Bounded}
-use Rattle.output.specs.Joined.{ToldIsTheOutput}
+use Rattle.output.specs.Carried.{ToldIsTheOutput}
 use Rattle.output.proofs.Lengths.{open-fits, refused-fits}
 use Rattle.output.proofs.Left.{deskLeft}
 use Rattle.output.proofs.Ready.{Ready, line-fits, turn-ready, enough, opened-ready, fresh-ready}

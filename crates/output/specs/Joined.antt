@@ -12,7 +12,7 @@ use Rattle.seat.specs.Answers.{idle}
 use Rattle.desk.specs.Desk.{noDesk, turnOf}
 use Rattle.desk.specs.declared.Desk.{Desk}
 use Rattle.pieces.specs.Bounds.{maxInput}
-use Rattle.pieces.specs.Pieces.{Piece, Stage, starting, nextStage, pieceOf, mostTurns, deskAtEnd, toldAtEnd}
+use Rattle.pieces.specs.Pieces.{Piece, Stage, starting, nextStage, pieceOf, mostTurns, deskAtEnd}
 use Rattle.output.specs.Output.{outputOf}
 
 -- the piece after n others, from a stage and a desk
@@ -43,10 +43,6 @@ pub record Pieces (f : Files) (input : List ℕ) (m : ℕ) : Type 0 where
 
 abbrev pub PiecesAreTheOutput : Type 0
 PiecesAreTheOutput = (f : Files) (input : List ℕ) → (m : ℕ) × Pieces f input m
-
--- their bytes, counted stage by stage, are as many as the output has
-abbrev pub ToldIsTheOutput : Type 0
-ToldIsTheOutput = (f : Files) (input : List ℕ) → toldAtEnd f input ≡ length (outputOf f input)
 
 -- where neither is too long, the next turn of the desk at the end would be Idle: no query is left without its last answer
 abbrev pub EndsIdle : Type 0

@@ -6,7 +6,8 @@ use native.Mathlib.Omega.{arith}
 use lib.ListN.{length, length-append}
 use Rattle.timetable.specs.Fields.{tab}
 use Rattle.timetable.specs.Lines.{newline}
-use Rattle.numerals.specs.Writing.{decimal, Holds}
+use Rattle.numerals.specs.Writing.{decimal}
+use Rattle.numerals.specs.Carried.{Holds}
 use Rattle.numerals.proofs.Texts.{holds-fits}
 use Rattle.output_lines.specs.Text.{numbers, lineWith, lineRoom}
 use Rattle.output_lines.specs.Carried.{lineIn, Grown}

@@ -9,7 +9,7 @@ use borrow.Author.Tests.{ltb-true, ltb-false}
 use lib.Dec.{ltb}
 use lib.ListN.{length, take, drop}
 use Rattle.basis.specs.Answer.{gives}
-use Rattle.numerals.specs.Writing.{Holds}
+use Rattle.numerals.specs.Carried.{Holds}
 use Rattle.seat.specs.Files.{Files}
 use Rattle.seat.specs.Answers.{turnMeaning, idle}
 use Rattle.seat.specs.declared.TurnAnswer.the-variants as TV

@@ -13,7 +13,8 @@ use Rattle.seat.specs.Bounds.{maxTimetable}
 use Rattle.seat.specs.Query.{Result, hit, miss, unreadable}
 use Rattle.seat.specs.Answers.{turnMeaning}
 use Rattle.seat.specs.Soundness.{seatSound}
-use Rattle.seat.specs.Serving.{afterLine, resultOf, judgedAs, serveOf, Steps}
+use Rattle.seat.specs.Serving.{afterLine, resultOf, judgedAs, serveOf}
+use Rattle.seat.specs.Carried.{Steps}
 use Rattle.seat.specs.declared.Seat.{Seat}
 use Rattle.seat.specs.declared.AfterServing.{AfterServing}
 use Rattle.seat.specs.declared.TurnAnswer.the-variants as TV

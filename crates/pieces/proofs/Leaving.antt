@@ -7,7 +7,7 @@ use native.Mathlib.Omega.{arith}
 use lib.Dec.{leb}
 use lib.ListN.{length, take, drop}
 use Rattle.basis.specs.Answer.{Answer}
-use Rattle.numerals.specs.Writing.{Holds}
+use Rattle.numerals.specs.Carried.{Holds}
 use Rattle.seat.specs.Files.{Files}
 use Rattle.seat.specs.Request.{Request}
 use Rattle.desk.specs.Answers.{openMeaning}
@@ -21,7 +21,8 @@ use Rattle.output_turns.specs.Turns.{none, taken, turnsOf, roomAfter, turnsMean
 use Rattle.output_lines.specs.declared.LineText.{LineText}
 use Rattle.output_turns.specs.declared.TurnsAnswer.{TurnsAnswer}
 use Rattle.output_turns.proofs.Counting.{taken-next}
-use Rattle.pieces.specs.Pieces.{Piece, begun, openPiece, writtenCount, goesOn, turnsPiece, Leaves}
+use Rattle.pieces.specs.Pieces.{Piece, begun, openPiece, goesOn, turnsPiece, Leaves}
+use Rattle.pieces.specs.Carried.{writtenCount}
 use Rattle.pieces.specs.declared.Part.{Part}
 
 -- put from place 0 on

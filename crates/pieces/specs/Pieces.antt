@@ -57,10 +57,6 @@ abbrev pub writtenText : Answer Written → List ℕ → List ℕ
 writtenText (gives w) text = text
 writtenText (refuses n) text = []
 
-abbrev pub writtenCount : Answer Written → ℕ
-writtenCount (gives w) = w .count
-writtenCount (refuses n) = 0
-
 -- whether more turns are due: the last one was not Idle
 abbrev pub goesOn : Answer Written → Bool
 goesOn (gives w) = not (w .idle)
@@ -101,27 +97,18 @@ pub record Leaves (p : Piece) (r : Part) (before after : List ℕ) : Type 0 wher
   pub more : r .more ≡ p .more
   pub room : after ≡ p .text ++ drop (length (p .text)) before
 
--- ---- the desk after the pieces of each stage, and how many bytes they have
+-- ---- the desk after the pieces of each stage
 
 -- the conditions opened in order, one a line
 unfoldable pub openedAll : List Line → Desk → Desk
 openedAll [] d = d
 openedAll (l ∷ ls) d = openedAll ls (openOf (asking (l .text)) d .desk)
 
-unfoldable pub openedTold : List Line → Desk → ℕ
-openedTold [] d = 0
-openedTold (l ∷ ls) d = length (openPiece (asking (l .text)) d .text) + openedTold ls (openOf (asking (l .text)) d .desk)
-
 -- turns until they end with Idle or are refused; at most n pieces
 unfoldable pub untilIdle : Files → ℕ → Desk → Desk
 untilIdle f zero d = d
 untilIdle f (suc n) d =
     pick (turnsPiece f d roomSize .more) (untilIdle f n (turnsPiece f d roomSize .desk)) (turnsPiece f d roomSize .desk)
-
-unfoldable pub untilIdleTold : Files → ℕ → Desk → ℕ
-untilIdleTold f zero d = 0
-untilIdleTold f (suc n) d =
-    length (turnsPiece f d roomSize .text) + pick (turnsPiece f d roomSize .more) (untilIdleTold f n (turnsPiece f d roomSize .desk)) 0
 
 -- as many turns as a full desk has over a timetable of empty lines, and one for Idle
 abbrev pub mostTurns : ℕ
@@ -131,19 +118,9 @@ mostTurns = seatCount * (maxTimetable + 1) + 1
 abbrev pub servedAll : Files → List ℕ → Desk → Desk
 servedAll f input d = untilIdle f mostTurns (openedAll (placedLines input) d)
 
-abbrev pub servedTold : Files → List ℕ → Desk → ℕ
-servedTold f input d = openedTold (placedLines input) d + untilIdleTold f mostTurns (openedAll (placedLines input) d)
-
 -- the desk at the program's end, by the timetable and the input
 abbrev pub deskAtEnd : Files → List ℕ → Desk
 deskAtEnd f input =
     pick (startPiece (length (f .timetable)) (length input) .more)
     (servedAll f input (startPiece (length (f .timetable)) (length input) .desk))
     (startPiece (length (f .timetable)) (length input) .desk)
-
--- the bytes of all its pieces
-abbrev pub toldAtEnd : Files → List ℕ → ℕ
-toldAtEnd f input =
-    length (startPiece (length (f .timetable)) (length input) .text)
-    + pick (startPiece (length (f .timetable)) (length input) .more)
-    (servedTold f input (startPiece (length (f .timetable)) (length input) .desk)) 0

@@ -21,7 +21,8 @@ ghost use Rattle.output_lines.specs.Text.{openLine, lineRoom};
 ghost use Rattle.output_lines.specs.Carried.{lineIn};
 ghost use Rattle.output_turns.specs.Turns.{turnsMeaning};
 ghost use Rattle.pieces.specs.Bounds.{maxInput};
-ghost use Rattle.pieces.specs.Pieces.{startPiece, openPiece, turnsPiece, goesOn, writtenCount, Leaves};
+ghost use Rattle.pieces.specs.Pieces.{startPiece, openPiece, turnsPiece, goesOn, Leaves};
+ghost use Rattle.pieces.specs.Carried.{writtenCount};
 
 // The most bytes of conditions.
 const MAX_INPUT: usize = 4_096;

@@ -11,7 +11,7 @@ use Rattle.value.specs.Bounds.{maxDayTime, maxYearMonth}
 use Rattle.value.specs.Refusals.{beyondResult}
 use Rattle.value.specs.Values.{okSigned}
 use Rattle.value.specs.Durations.{apart, lessTicks, lessMonths}
-use Rattle.instants.specs.Ticks.{ticksOf, spanOf}
+use Rattle.instants.specs.Carried.{ticksOf, spanOf}
 use Rattle.value.specs.declared.Span.{Span}
 use Rattle.value.specs.declared.Value.{Value}
 use Rattle.value.specs.declared.Value.the-variants as VV

@@ -4,7 +4,7 @@ use Prim.Native.Nat.{ℕ, _+_, _/_, _%_, _<_}
 use native.Mathlib.Omega.{arith}
 use lib.Dec.{ltb}
 use Rattle.value.specs.Bounds.{secondTicks}
-use Rattle.instants.specs.Ticks.{ticksOf, spanOf}
+use Rattle.instants.specs.Carried.{ticksOf, spanOf}
 use Rattle.value.specs.declared.Span.{Span}
 use Rattle.value.specs.declared.Zone.{Zone}
 use Rattle.value.specs.declared.Kind.{Kind}

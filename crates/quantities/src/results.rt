@@ -20,7 +20,7 @@ ghost use Rattle.basis.specs.Answer.{gives, refuses};
 ghost use Rattle.value.specs.Bounds.{secondTicks, maxDayTime, maxYearMonth};
 ghost use Rattle.value.specs.Refusals.{beyondResult};
 ghost use Rattle.value.specs.Kinds.{meaning};
-ghost use Rattle.instants.specs.Ticks.{ticksOf};
+ghost use Rattle.instants.specs.Carried.{ticksOf};
 ghost use Rattle.value.specs.declared.Value.the-variants as VV;
 ghost use Rattle.quantities.specs.Results as the;
 

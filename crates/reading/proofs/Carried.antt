@@ -14,9 +14,9 @@ use Rattle.words.specs.Runs.{between}
 use Rattle.operators.specs.Roles.{roleOf, settles}
 use Rattle.operators.specs.declared.Role.{Role}
 use Rattle.givens.specs.Data.{Datum, value, truth, readField}
-use Rattle.givens.specs.Givens.{givenOf, badOf, textIn, fieldIn}
+use Rattle.givens.specs.Carried.{givenOf, badOf, textIn, fieldIn}
 use Rattle.results.specs.Evaluation.{applied, onto, joined, castDatum, timesDatum}
-use Rattle.results.specs.Parts.{ontoGiven, refusedGiven, twoGiven, afterGiven, literalPart, fieldPart, castPart, timesPart, twoPart, afterPart}
+use Rattle.results.specs.Carried.{ontoGiven, refusedGiven, twoGiven, afterGiven, literalPart, fieldPart, castPart, timesPart, twoPart, afterPart}
 use Rattle.sorts.specs.declared.Sort.{Sort}
 use Rattle.givens.specs.declared.Given.{Given}
 use Rattle.givens.specs.declared.Given.the-variants as G
@@ -25,7 +25,7 @@ use Rattle.givens.specs.declared.Mode.{Mode}
 use Rattle.givens.specs.declared.Mode.the-variants.{Check, Live, Dead}
 use Rattle.grammar.specs.Trees.{Tree, leaf, one, two, literal, field, cast, times}
 use Rattle.reading.specs.Meaning.{sortOf, fits, first, firstBad, eval}
-use Rattle.reading.specs.Readers.{parts, givenIn, partOf}
+use Rattle.reading.specs.Carried.{parts, givenIn, partOf}
 use Rattle.grammar.proofs.Folds.{Meets}
 
 with-given : (x : Sort) (g h : Given) → g ≡ h → _≡_ {A = Part} (record { sort = x; given = g }) (record { sort = x; given = h })

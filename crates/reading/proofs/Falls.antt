@@ -19,7 +19,7 @@ use Rattle.givens.specs.declared.Mode.{Mode}
 use Rattle.grammar.specs.Grammar.{Parsed, none, got}
 use Rattle.grammar.proofs.Ends.{Past, PastJoint, PastStart, PastMultiplier, or-past, and-past, comparison-past, sign-past, start-past, multiplier-past}
 use Rattle.grammar.proofs.Good.{Good, inner-good, condition-good, clause-good, test-good, sum-good, term-good}
-use Rattle.reading.specs.Readers.{told, parts, inside, jointAt, joinedRead, chainRead, operandRead}
+use Rattle.reading.specs.Carried.{told, parts, inside, jointAt, joinedRead, chainRead, operandRead}
 use Rattle.reading.specs.declared.Read.{Read}
 use Rattle.reading.specs.declared.Read.the-variants.{Bad, Got}
 use Rattle.reading.specs.declared.Rule.{Rule}

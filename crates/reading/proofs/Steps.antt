@@ -17,12 +17,12 @@ use Rattle.symbols.specs.declared.Held.{Held}
 use Rattle.symbols.specs.declared.Held.the-variants as H
 use Rattle.symbols.specs.declared.Multiplier.{Multiplier}
 use Rattle.symbols.specs.declared.Multiplier.the-variants as T
-use Rattle.results.specs.Parts.{literalPart, fieldPart, castPart, timesPart, twoPart, afterPart}
+use Rattle.results.specs.Carried.{literalPart, fieldPart, castPart, timesPart, twoPart, afterPart}
 use Rattle.results.specs.declared.Part.{Part}
 use Rattle.givens.specs.declared.Mode.{Mode}
 use Rattle.grammar.specs.Grammar.{Parsed, none, got, then, operated, scaled, started, holding, closedAt, inner, conditionIn, conditionMoreIn, clauseIn, clauseMoreIn, testIn, sumIn, sumMoreIn, termIn, termMoreIn, factorIn, heldIn}
 use Rattle.grammar.proofs.Good.{inner-good, term-more-unfolds, sum-more-unfolds, clause-more-unfolds, condition-more-unfolds}
-use Rattle.reading.specs.Readers.{told, parts, inside, jointAt, joinedRead, castRead, closedRead, termMoreRead, termRead, chainRead, moreIn, moreRead, operandRead, testRead, factorRead, innerRead}
+use Rattle.reading.specs.Carried.{told, parts, inside, jointAt, joinedRead, castRead, closedRead, termMoreRead, termRead, chainRead, moreIn, moreRead, operandRead, testRead, factorRead, innerRead}
 use Rattle.reading.specs.declared.Read.{Read}
 use Rattle.reading.specs.declared.Read.the-variants.{Bad, Got}
 use Rattle.reading.specs.declared.Rule.{Rule}

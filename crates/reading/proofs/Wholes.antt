@@ -12,7 +12,7 @@ use Rattle.givens.specs.declared.Mode.{Mode}
 use Rattle.grammar.specs.Grammar.{Parsed, none, got, condition}
 use Rattle.grammar.specs.Trees.{Tree, trees, whole, parse}
 use Rattle.reading.specs.Lengths.{maxLength, parseWithin}
-use Rattle.reading.specs.Readers.{told, parts, chainRead, partOf, readOf}
+use Rattle.reading.specs.Carried.{told, parts, chainRead, partOf, readOf}
 use Rattle.reading.specs.declared.Read.{Read}
 use Rattle.reading.specs.declared.Read.the-variants.{Bad, Got}
 use Rattle.reading.specs.declared.Rule.the-variants.{Condition}

@@ -1,3 +1,3 @@
 pub mod Lengths
 pub mod Meaning
-pub mod Readers
+pub mod Carried

@@ -21,7 +21,7 @@ use value::Kind;
 use words::skip;
 ghost use mathlib.Core.Path.{_≡_};
 ghost use Rattle.reading.specs.Lengths.{parseWithin};
-ghost use Rattle.reading.specs.Readers as the;
+ghost use Rattle.reading.specs.Carried as the;
 
 // The greatest length of a condition's text.
 pub const MAX_LENGTH: usize = 240;

@@ -7,7 +7,8 @@ use native.Mathlib.Omega.{arith}
 use lib.ListN.{length, getD, take, set, replicate, length-append}
 use lib.Seq.{set-append-seam, take-suc, take-all, length-take-le}
 use Rattle.replies.specs.declared.Reply.{Reply}
-use Rattle.replies.specs.Replies.{replySize, replyOf, Grown}
+use Rattle.replies.specs.Replies.{replySize, replyOf}
+use Rattle.replies.specs.Carried.{Grown}
 
 pub empty : record { bytes = replicate replySize 0; len = 0 } ≡ replyOf []
 unfolding replyOf

@@ -7,12 +7,14 @@ use native.Mathlib.Omega.{arith}
 use lib.ListN.{length, length-append}
 use Rattle.basis.specs.Choice.{pick}
 use Rattle.numerals.specs.declared.Text.{Text}
-use Rattle.numerals.specs.Writing.{textIn, Added, decimal, fractionText, longest}
+use Rattle.numerals.specs.Writing.{decimal, fractionText, longest}
+use Rattle.numerals.specs.Carried.{textIn, Added}
 use Rattle.numerals.proofs.Decimals.{decimal-le}
 use Rattle.numerals.proofs.Fractions.{fraction-short}
 use Rattle.numerals.proofs.Texts as texts
 use Rattle.replies.specs.declared.Reply.{Reply}
-use Rattle.replies.specs.Replies.{signText, numberText, numberWidth, Grown}
+use Rattle.replies.specs.Replies.{signText, numberText}
+use Rattle.replies.specs.Carried.{numberWidth, Grown}
 use lib.IntN.{ℤ, natAbs}
 use lib.Signed.{mag}
 use mir.Syntax.{w32}

@@ -2,7 +2,7 @@
 -- the order `year month day hours minutes seconds zone`; of either duration kind all six.
 use mathlib.Core.Bool.{Bool, true, false}
 use mathlib.Core.List.{List, _∷_, _++_}
-use Prim.Native.Nat.{ℕ, _+_, _*_}
+use Prim.Native.Nat.{ℕ}
 use Prim.Native.String.{String}
 use lib.IntN.{ℤ, pos, negsuc, natAbs}
 use Rattle.basis.specs.Choice.{pick}
@@ -14,20 +14,10 @@ use Rattle.value.specs.declared.Zone.{Zone}
 use Rattle.value.specs.declared.Zone.the-variants.{Absent, At}
 use Rattle.components.specs.declared.Clock.{Clock}
 use Rattle.components.specs.declared.Lasting.{Lasting}
-use Rattle.replies.specs.Replies.{numberText, numberWidth}
+use Rattle.replies.specs.Replies.{numberText}
 
 abbrev pub space : ℕ
 space = 32
-
--- no text of a date, a clock or a zone below is longer than this: its names, and its numbers with their width
-abbrev pub dateRoom : ℕ
-dateRoom = 17 + 3 * numberWidth
-
-abbrev pub clockRoom : ℕ
-clockRoom = 24 + 3 * numberWidth
-
-abbrev pub zoneRoom : ℕ
-zoneRoom = 6 + numberWidth
 
 abbrev pub plain : String → ℕ → List ℕ
 plain name n = bytes name ++ numberText false n 0

@@ -1,9 +1,8 @@
 -- A reply: the text of an answer at the start of an array that every answer fits, and zeros after it. Numbers in it have no
 -- leading zeros, and a minus before them where they are below zero.
-use mathlib.Core.Path.{_≡_}
 use mathlib.Core.Bool.{Bool, false}
 use mathlib.Core.List.{List, [], _∷_, _++_}
-use Prim.Native.Nat.{ℕ, _+_, _-_}
+use Prim.Native.Nat.{ℕ, _-_}
 use lib.ListN.{length, replicate}
 use Rattle.basis.specs.Choice.{pick}
 use Rattle.basis.specs.Letters.{bytes}
@@ -17,11 +16,6 @@ replySize = 192
 unfoldable pub replyOf : List ℕ → Reply
 replyOf w = record { bytes = w ++ replicate (replySize - length w) 0; len = length w }
 
--- r is t with the bytes s more
-pub record Grown (t r : Reply) (s : List ℕ) : Type 0 where
-  pub more : r .len ≡ t .len + length s
-  pub text : (w : List ℕ) → t ≡ replyOf w → r ≡ replyOf (w ++ s)
-
 -- a minus, or nothing
 abbrev pub signText : Bool → List ℕ
 signText negative = pick negative (bytes "-") []
@@ -29,10 +23,6 @@ signText negative = pick negative (bytes "-") []
 -- a number by its sign and magnitude, with a fraction that vanishes if zero
 unfoldable pub numberText : Bool → ℕ → ℕ → List ℕ
 numberText negative n ticks = signText negative ++ (decimal n ++ fractionText ticks)
-
--- as many bytes are enough for a number's text: a sign, ten digits, a point and six digits
-abbrev pub numberWidth : ℕ
-numberWidth = 18
 
 -- `refused`, a tab and the number
 unfoldable pub refusedText : ℕ → List ℕ

@@ -6,8 +6,10 @@ ghost use mathlib.Core.Path.{_≡_};
 ghost use mathlib.Core.List.{[], _∷_};
 ghost use Prim.Native.Nat.{_+_, _≤_, _<_};
 ghost use lib.ListN.{length};
-ghost use Rattle.numerals.specs.Writing.{textIn, longest};
-ghost use Rattle.replies.specs.Replies.{replySize, replyOf, Grown};
+ghost use Rattle.numerals.specs.Writing.{longest};
+ghost use Rattle.numerals.specs.Carried.{textIn};
+ghost use Rattle.replies.specs.Replies.{replySize, replyOf};
+ghost use Rattle.replies.specs.Carried.{Grown};
 
 pub fn nothing() -> Reply
     ensures { λ r. ⌜ (r ≡ replyOf []) × (r .len ≡ 0) ⌝ }

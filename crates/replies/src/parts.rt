@@ -13,8 +13,9 @@ ghost use mathlib.Core.Path.{_≡_};
 ghost use mathlib.Core.List.{_∷_};
 ghost use Prim.Native.Nat.{_+_, _≤_};
 ghost use Rattle.components.specs.Components.{ofDate, ofTime, ofDateTime, ofDuration};
-ghost use Rattle.replies.specs.Replies.{replySize, replyOf, Grown};
-ghost use Rattle.replies.specs.Parts.{space, dateRoom, clockRoom, zoneRoom, dateText, clockText, zoneText, partsText};
+ghost use Rattle.replies.specs.Replies.{replySize, replyOf};
+ghost use Rattle.replies.specs.Carried.{Grown, dateRoom, clockRoom, zoneRoom};
+ghost use Rattle.replies.specs.Parts.{space, dateText, clockText, zoneText, partsText};
 
 fn with_date(reply: Reply, d: Date) -> Reply
     requires { ⌜ reply .len + dateRoom ≤ replySize ⌝ }

@@ -1,4 +1,4 @@
 pub mod Evaluation
-pub mod Parts
+pub mod Carried
 pub mod Fitting
 pub mod Numbers

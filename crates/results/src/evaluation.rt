@@ -15,9 +15,9 @@ use value::Value;
 ghost use mathlib.Core.Path.{_≡_};
 ghost use Rattle.ordering.specs.Order as orders;
 ghost use Rattle.givens.specs.Data.{value, truth};
-ghost use Rattle.givens.specs.Givens.{givenOf};
+ghost use Rattle.givens.specs.Carried.{givenOf};
 ghost use Rattle.results.specs.Evaluation as its;
-ghost use Rattle.results.specs.Parts as the;
+ghost use Rattle.results.specs.Carried as the;
 
 pub fn cast(kind: Kind, a: Given) -> Given
     ensures { λ r. ⌜ r ≡ the.ontoGiven a (its.castDatum kind) ⌝ }

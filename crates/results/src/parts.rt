@@ -6,7 +6,7 @@ use sorts::Sort;
 use symbols::Op;
 use value::Kind;
 ghost use mathlib.Core.Path.{_≡_};
-ghost use Rattle.results.specs.Parts as the;
+ghost use Rattle.results.specs.Carried as the;
 
 // A literal: the bytes of a condition's text between two places.
 pub fn literal(mode: Mode, kind: Kind, s: &[u8], from: usize, to: usize) -> Part

@@ -11,10 +11,11 @@ use Rattle.basis.specs.Choice.{both}
 use Rattle.value.specs.Kinds.{template}
 use Rattle.value.specs.declared.Kind.{Kind}
 use Rattle.value.specs.declared.Kind.the-variants as KV
-use Rattle.numerals.specs.Reading.{marked}
+use Rattle.numerals.specs.Carried.{marked}
 use Rattle.numerals.proofs.Places.{nonzero}
 use Rattle.scan.specs.declared.Scan.{Scan}
-use Rattle.scan.specs.Scanning.{capped, partOf, scanned, layout, startOf, partsOf}
+use Rattle.scan.specs.Scanning.{partOf, scanned, layout, startOf, partsOf}
+use Rattle.scan.specs.Carried.{capped}
 use Rattle.scan.proofs.Ends.{part-le}
 
 pub record Going (layout s : List ℕ) (t₀ t : Scan) (k : ℕ) : Type 0 where

@@ -13,7 +13,8 @@ use Rattle.numerals.specs.Reading.{at, run, fractionAt}
 use Rattle.scan.specs.declared.Scan.{Scan}
 use Rattle.scan.specs.declared.Pair.{Pair}
 use Rattle.scan.specs.declared.Year.{Year}
-use Rattle.scan.specs.Scanning.{found, whole, capped, fourZeros, pairAt, yearAt, yearPart, fractionPart, zonePart, zoneSigned, zoneHours, zoneMinutes, placed, partAt, partOf, isPair, scanned, layout, startOf, partsOf, withYear}
+use Rattle.scan.specs.Scanning.{found, whole, fourZeros, pairAt, yearAt, yearPart, fractionPart, zonePart, zoneSigned, zoneHours, zoneMinutes, placed, partAt, partOf, isPair, scanned, layout, startOf, partsOf, withYear}
+use Rattle.scan.specs.Carried.{capped}
 
 abbrev pub cut : Scan → Scan
 cut t = found (t .negative) (capped (t .year)) (t .month) (t .day) (t .hour) (t .minute) (t .second) (t .part) (t .long) (t .sign) (t .zh) (t .zm) (t .at) (t .good)

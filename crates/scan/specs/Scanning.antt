@@ -3,13 +3,13 @@
 -- it. A byte past the text's end counts as 0, which is no digit and no punctuation.
 use mathlib.Core.Bool.{Bool, true, false}
 use mathlib.Core.List.{List, [], _∷_}
-use Prim.Native.Nat.{ℕ, suc, _+_, _-_, _*_, _/_, _%_, min}
+use Prim.Native.Nat.{ℕ, _+_, _-_, _*_, _/_, _%_}
 use Prim.Native.Char.{code}
 use lib.Dec.{eqb, ltb}
 use lib.ListN.{length}
 use Rattle.basis.specs.Choice.{both, every, pick}
 use Rattle.basis.specs.Letters.{bytes}
-use Rattle.value.specs.Bounds.{maxYear, secondTicks, minuteSeconds, hourMinutes, minuteTicks, hourTicks}
+use Rattle.value.specs.Bounds.{secondTicks, minuteSeconds, hourMinutes, minuteTicks, hourTicks}
 use Rattle.value.specs.Kinds.{template}
 use Rattle.value.specs.declared.DateTime.{DateTime}
 use Rattle.value.specs.declared.Kind.{Kind}
@@ -97,12 +97,9 @@ zonePart s t =
     (pick (eqb (at s (t .at)) (code "Z")) (withZone t (code "Z") 0 0 (t .at + 1))
     (pick (eqb (at s (t .at)) (code "+")) (zoneSigned s t (code "+")) (pick (eqb (at s (t .at)) (code "-")) (zoneSigned s t (code "-")) (reached t (t .at) false))))
 
--- What is kept of a year's number: all of it here, and in the code no more than one above the greatest year.
+-- What is kept of a year's number: all of it here; in the code less (Carried.antt).
 abbrev pub whole : ℕ → ℕ
 whole n = n
-
-abbrev pub capped : ℕ → ℕ
-capped n = min (suc maxYear) n
 
 -- a year has four digits, or more
 abbrev pub yearDigits : ℕ

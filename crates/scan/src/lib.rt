@@ -13,8 +13,9 @@ ghost use lib.Dec.{eqb};
 ghost use lib.ListN.{length, getD};
 ghost use Rattle.basis.specs.Choice.{pick};
 ghost use Rattle.value.specs.Kinds.{template};
-ghost use Rattle.numerals.specs.Reading.{marked};
-ghost use Rattle.scan.specs.Scanning.{capped, fourZeros, leadingZero, pairAt, yearAt, yearPart, fractionPart, zonePart, zoneSigned, isPair, placed, partOf, scanned, reached, startOf, partsOf};
+ghost use Rattle.numerals.specs.Carried.{marked};
+ghost use Rattle.scan.specs.Scanning.{fourZeros, leadingZero, pairAt, yearAt, yearPart, fractionPart, zonePart, zoneSigned, isPair, placed, partOf, scanned, reached, startOf, partsOf};
+ghost use Rattle.scan.specs.Carried.{capped};
 
 // A year has so many digits, or more.
 pub const YEAR_DIGITS: usize = 4;

@@ -8,3 +8,4 @@ pub mod Seat
 pub mod Soundness
 pub mod Serving
 pub mod TurnsLeft
+pub mod Carried

@@ -1,30 +1,22 @@
 -- Document 01, "Timetable, seats and turns": what a turn does to the seat that it serves. "Offset at the timetable's end:
 -- Done with the ticket, its hits and its unreadable lines; the seat is freed; else its next line: Hit, Miss or Unreadable
 -- (with a number), each with ticket and line offset."
-use mathlib.Core.Path.{_≡_}
 use mathlib.Core.Bool.{Bool}
 use Prim.Native.Nat.{ℕ, _+_}
 use lib.Dec.{ltb}
 use lib.ListN.{length}
 use Rattle.basis.specs.Choice.{pick}
-use Rattle.basis.specs.Answer.{gives}
 use Rattle.timetable.specs.Lines.{nextLine, lineAt}
 use Rattle.seat.specs.Files.{Files}
 use Rattle.seat.specs.Query.{Result, hit, miss, unreadable, resultAt}
-use Rattle.seat.specs.Answers.{Turned, turnMeaning, hitAt, missAt, unreadableAt, doneWith}
+use Rattle.seat.specs.Answers.{Turned, hitAt, missAt, unreadableAt, doneWith}
 use Rattle.seat.specs.Seat.{freeSeat, conditionOf}
 use Rattle.seat.specs.declared.Seat.{Seat}
-use Rattle.seat.specs.declared.AfterServing.{AfterServing}
 
 -- a seat after a turn of its own, and the answer
 pub record Step : Type 0 where
   pub seat : Seat
   pub answer : Turned
-
--- what a call hands back is such a step
-pub record Steps (r : AfterServing) (x : Step) : Type 0 where
-  pub seat : r .seat ≡ x .seat
-  pub answer : turnMeaning (r .answer) ≡ gives (x .answer)
 
 -- the seat with another offset and other counts
 abbrev pub movedTo : Seat → ℕ → ℕ → ℕ → Seat

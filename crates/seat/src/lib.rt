@@ -15,7 +15,8 @@ ghost use Rattle.seat.specs.Request.{asking};
 ghost use Rattle.seat.specs.Query.{accepted, judged, Result, unreadable};
 ghost use Rattle.seat.specs.Seat.{freeSeat, seatFor};
 ghost use Rattle.seat.specs.Soundness.{seatSound};
-ghost use Rattle.seat.specs.Serving.{judgedAs, serveOf, Steps};
+ghost use Rattle.seat.specs.Serving.{judgedAs, serveOf};
+ghost use Rattle.seat.specs.Carried.{Steps};
 
 // A seat. A fresh desk, close and Done leave a free seat all zeros; of a free seat in a desk that is handed in nothing is asked.
 pub struct Seat {

@@ -9,7 +9,8 @@ use lib.ListN.{length, getD}
 use borrow.Author.Tests.{leb-true, leb-false, eq-eqb, ne-eqb, le-leb, lt-leb, lt-ltb, le-ltb}
 use Rattle.basis.specs.Choice.{pick}
 use Rattle.basis.specs.Letters.{bytes}
-use Rattle.numerals.specs.Reading.{Number, run, Found}
+use Rattle.numerals.specs.Reading.{Number, run}
+use Rattle.numerals.specs.Carried.{Found}
 use Rattle.numerals.specs.declared.Run.{Run}
 use Rattle.numerals.proofs.Places.{within}
 use Rattle.numerals.proofs.Runs.{run-lt, run-le}

@@ -41,7 +41,8 @@ use Rattle.seat.specs.Files.{over}
 use Rattle.desk.specs.declared.Desk.{Desk}
 use Rattle.desk.proofs.Desk as T
 use Rattle.desk.proofs.Desk.Laws as T′
-use Rattle.pieces.specs.Pieces.{servedAll, servedTold}
+use Rattle.pieces.specs.Pieces.{servedAll}
+use Rattle.pieces.specs.Carried.{servedTold}
 use Rattle.pieces.proofs.Again.{sv, Own, Tok, twice}
 use Rattle.desk_host.specs.declared.Sent.{Sent}
 use Rattle.desk_host.specs.declared.Progress.{Progress}

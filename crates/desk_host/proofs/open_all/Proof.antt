@@ -69,7 +69,8 @@ use Rattle.line_reader.proofs.moved.Met as moves-thm
 use Rattle.seat.specs.Request.{asking}
 use Rattle.desk.specs.declared.Desk.{Desk}
 use Rattle.desk.proofs.Desk as T
-use Rattle.pieces.specs.Pieces.{openPiece, openedAll, openedTold}
+use Rattle.pieces.specs.Pieces.{openPiece, openedAll}
+use Rattle.pieces.specs.Carried.{openedTold}
 use Rattle.pieces.proofs.Again.{sv, Own, at, Ref, Tok, twice, lends, back}
 use Rattle.desk_host.specs.declared.Sent.{Sent}
 use Rattle.desk_host.proofs.Sent as S

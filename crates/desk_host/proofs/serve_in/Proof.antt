@@ -42,7 +42,8 @@ use Rattle.timetable.specs.Lines.{placedLines}
 use Rattle.seat.specs.Files.{over}
 use Rattle.desk.specs.declared.Desk.{Desk}
 use Rattle.desk.proofs.Desk as T
-use Rattle.pieces.specs.Pieces.{openedAll, openedTold, untilIdle, untilIdleTold, mostTurns, servedAll, servedTold}
+use Rattle.pieces.specs.Pieces.{openedAll, untilIdle, mostTurns, servedAll}
+use Rattle.pieces.specs.Carried.{openedTold, untilIdleTold, servedTold}
 use Rattle.pieces.proofs.Again.{sv, Own, at, Ref, Tok, twice, lends, back}
 use Rattle.desk_host.specs.declared.Sent.{Sent}
 use Rattle.desk_host.proofs.Sent as S

@@ -48,7 +48,8 @@ use Rattle.desk.specs.declared.Desk.{Desk}
 use Rattle.desk.proofs.Desk as T
 use Rattle.basis.specs.Choice.{both}
 use Rattle.pieces.specs.Bounds.{roomSize}
-use Rattle.pieces.specs.Pieces.{turnsPiece, untilIdle, untilIdleTold}
+use Rattle.pieces.specs.Pieces.{turnsPiece, untilIdle}
+use Rattle.pieces.specs.Carried.{untilIdleTold}
 use Rattle.desk_host.specs.declared.Sent.{Sent}
 use Rattle.desk_host.proofs.Sent as S
 use Rattle.desk_host.proofs.Sent.Laws as S′

@@ -51,7 +51,8 @@ use Rattle.output_turns.proofs.turns_in as turns
 use Rattle.output_turns.proofs.turns_in.Symbol as turns-def
 use Rattle.output_turns.proofs.turns_in.Symbol.{name as #turns-in}
 use Rattle.output_turns.proofs.turns_in.Met as turns-thm
-use Rattle.pieces.specs.Pieces.{writtenCount, goesOn, turnsPiece, Leaves}
+use Rattle.pieces.specs.Pieces.{goesOn, turnsPiece, Leaves}
+use Rattle.pieces.specs.Carried.{writtenCount}
 use Rattle.pieces.proofs.Leaving.{turns-leave}
 use Rattle.pieces.proofs.turns_told as told
 use Rattle.pieces.proofs.turns_told.Symbol as told-def

@@ -5,7 +5,7 @@ use mathlib.Core.Path.{_≡_, refl, sym, ap, _∙_}
 use Prim.Native.Nat.{ℕ, _<_, _≤_, _+_, _%_}
 use Rattle.basis.specs.Answer.{Answer, gives, refuses}
 use Rattle.seat.specs.Query.{Result, hit, miss, unreadable}
-use Rattle.seat.specs.Serving.{judgedAs, Steps}
+use Rattle.seat.specs.Serving.{judgedAs}
 use borrow.Author.Needs.{needs}
 use Rattle.seat.proofs.judged_as.Statement.{statement}
 use Rattle.seat.proofs.judged_as.Tie as tie

@@ -1,5 +1,5 @@
 use Prim.Native.Nat.{ℕ, _*_}
-use Rattle.instants.specs.Ticks.{spanOf}
+use Rattle.instants.specs.Carried.{spanOf}
 use Rattle.arithmetic.specs.Products.{productOf}
 use Rattle.quantities.specs.Results.{inTicks}
 use native.Mathlib.Omega.{arith}

@@ -1,6 +1,6 @@
 use Rattle.value.specs.Bounds.{maxDayTime, secondTicks}
 use Prim.Native.Nat.{ℕ, _*_, _≤_, _/_}
-use Rattle.instants.specs.Ticks.{spanOf}
+use Rattle.instants.specs.Carried.{spanOf}
 use native.Mathlib.Nat.{mul-le-mul-right}
 use native.Mathlib.Omega.{arith}
 use mathlib.Core.Path.{_≡_, ap, _∙_}

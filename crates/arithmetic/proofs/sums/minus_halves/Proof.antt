@@ -1,5 +1,5 @@
 use Prim.Native.Nat.{_+_}
-use Rattle.instants.specs.Ticks.{spanOf}
+use Rattle.instants.specs.Carried.{spanOf}
 use native.Mathlib.Omega.{arith}
 use mathlib.Core.Path.{_≡_, _∙_}
 use Rattle.quantities.proofs.Spanned.{part-of, seconds-of, spans-sum}

@@ -1,4 +1,4 @@
-use Rattle.instants.specs.Ticks.{ticksOf}
+use Rattle.instants.specs.Carried.{ticksOf}
 use Rattle.instants.proofs.TwoParts.{order-by-part}
 use borrow.Author.Tests.{lt-ltb, le-ltb}
 use native.Mathlib.Omega.{arith}

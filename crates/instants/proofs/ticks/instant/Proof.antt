@@ -3,7 +3,8 @@ use Rattle.instants.proofs.Instants.{offset-good}
 use Rattle.value.proofs.Good.{good}
 use Rattle.instants.proofs.Within.{timed}
 use Rattle.value.specs.declared.Span.{Span}
-use Rattle.instants.specs.Ticks.{localOf, instantOf, instantAt, offsetIn, spanOf, ticksOf}
+use Rattle.instants.specs.Ticks.{localOf, instantOf, instantAt, offsetIn}
+use Rattle.instants.specs.Carried.{spanOf, ticksOf}
 use Rattle.value.specs.Values.{okOffset}
 use Rattle.value.specs.Bounds.{secondTicks}
 use native.Mathlib.Omega.{arith}

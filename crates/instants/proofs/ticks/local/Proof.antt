@@ -2,7 +2,8 @@ use Rattle.value.specs.Bounds.{dayTicks}
 use Rattle.value.specs.declared.Span.{Span}
 use Prim.Native.Nat.{ℕ, _+_, _*_}
 use mathlib.Core.Path.{_≡_, ap, _∙_}
-use Rattle.instants.specs.Ticks.{localOf, spanOf}
+use Rattle.instants.specs.Ticks.{localOf}
+use Rattle.instants.specs.Carried.{spanOf}
 use Rattle.value.proofs.Good.{good, numbered}
 use Rattle.instants.proofs.TwoParts.{days-and-span}
 use native.Mathlib.Omega.{arith}

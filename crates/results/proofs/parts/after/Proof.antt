@@ -1,4 +1,4 @@
-use Rattle.results.specs.Parts.{afterPart}
+use Rattle.results.specs.Carried.{afterPart}
 use borrow.Author.Needs.{needs}
 use Rattle.results.proofs.parts.after.Statement.{statement}
 use Rattle.results.proofs.parts.after.Tie as tie

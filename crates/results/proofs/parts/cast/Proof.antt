@@ -1,4 +1,4 @@
-use Rattle.results.specs.Parts.{castPart}
+use Rattle.results.specs.Carried.{castPart}
 use borrow.Author.Needs.{needs}
 use Rattle.results.proofs.parts.cast.Statement.{statement}
 use Rattle.results.proofs.parts.cast.Tie as tie

@@ -1,4 +1,4 @@
-use Rattle.results.specs.Parts.{fieldPart}
+use Rattle.results.specs.Carried.{fieldPart}
 use borrow.Author.Needs.{needs}
 use Rattle.results.proofs.parts.field.Statement.{statement}
 use Rattle.results.proofs.parts.field.Tie as tie

@@ -1,4 +1,4 @@
-use Rattle.results.specs.Parts.{literalPart}
+use Rattle.results.specs.Carried.{literalPart}
 use borrow.Author.Needs.{needs}
 use Rattle.results.proofs.parts.literal.Statement.{statement}
 use Rattle.results.proofs.parts.literal.Tie as tie

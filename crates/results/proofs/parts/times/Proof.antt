@@ -1,4 +1,4 @@
-use Rattle.results.specs.Parts.{timesPart}
+use Rattle.results.specs.Carried.{timesPart}
 use borrow.Author.Needs.{needs}
 use Rattle.results.proofs.parts.times.Statement.{statement}
 use Rattle.results.proofs.parts.times.Tie as tie

@@ -1,4 +1,4 @@
-use Rattle.results.specs.Parts.{twoPart}
+use Rattle.results.specs.Carried.{twoPart}
 use borrow.Author.Needs.{needs}
 use Rattle.results.proofs.parts.two.Statement.{statement}
 use Rattle.results.proofs.parts.two.Tie as tie

@@ -1,7 +1,7 @@
 use Rattle.instants.proofs.Within.{timed}
 use Rattle.quantities.specs.Results.{atTicks}
 use Prim.Native.Nat.{ℕ, _-_}
-use Rattle.instants.specs.Ticks.{spanOf}
+use Rattle.instants.specs.Carried.{spanOf}
 use borrow.Author.Tests.{ltb-true, ltb-false}
 use native.Mathlib.Omega.{arith}
 use mathlib.Core.Path.{_≡_, ap, sym, _∙_}

@@ -1,6 +1,6 @@
--- What the code carries of a part of a condition: its sort, and what it gives in the mode in which it is read.
--- No contract of a public call of `condition` rests on this file: what a condition gives at a line is stated over Evaluation.antt. That
--- the code, which carries this, comes to the same is proved (`code-meets` in crate `reading`).
+-- Carried: a part's sort and what it gives in the mode in which it is read, as functions hand them on. No promise to a
+-- caller rests on it: what a condition gives at a line is stated over Evaluation.antt, and that the code comes to the same is
+-- proved (`code-meets` in crate `reading`).
 use mathlib.Core.Bool.{Bool}
 use mathlib.Core.List.{List}
 use Prim.Native.Nat.{ℕ}
@@ -14,7 +14,7 @@ use Rattle.operators.specs.Roles.{roleOf, settles}
 use Rattle.sorts.specs.Sorts.{sortTwo, sortCast, sortTimes}
 use Rattle.sorts.specs.declared.Sort.the-variants.{Of}
 use Rattle.givens.specs.Data.{Datum, value, truth, readField}
-use Rattle.givens.specs.Givens.{givenOf, textIn, fieldIn}
+use Rattle.givens.specs.Carried.{givenOf, textIn, fieldIn}
 use Rattle.givens.specs.declared.Given.{Given}
 use Rattle.givens.specs.declared.Given.the-variants.{Nothing, Is, Truth, Refused}
 use Rattle.givens.specs.declared.Mode.{Mode}

@@ -1,5 +1,5 @@
--- What the code carries of what a part gives, in the mode in which the part is read: one that is not evaluated gives nothing; one that
--- is only checked gives the leftmost refusal of a literal in it, or nothing.
+-- Carried: what a part gives in the mode in which it is read: nothing where it is not evaluated, and where it is only
+-- checked the leftmost refusal of a literal in it, or nothing. No promise to a caller rests on it.
 use Rattle.basis.specs.Answer.{Answer, gives, refuses}
 use Rattle.value.specs.declared.Value.{Value}
 use Rattle.givens.specs.Data.{Datum, value, truth, valued}

@@ -1,5 +1,5 @@
--- What the code's readers give: the grammar at the parts that the code carries. No contract of a public call of `condition` rests on
--- this file, but on the tree that a text states (Productions.antt of the crate grammar): `readOf` says what the reader of a whole text
+-- Carried: what the readers hand one another, the grammar at the parts that the code carries. No promise to a caller rests on
+-- it, but on the tree that a text states (Productions.antt of crate `grammar`): `readOf` says what the reader of a whole text
 -- gives of that tree.
 use Prim.Native.Nat.{ℕ}
 use mathlib.Core.List.{List, []}
@@ -9,8 +9,8 @@ use Rattle.symbols.specs.declared.Op.{Op}
 use Rattle.symbols.specs.declared.Joint.{Joint}
 use Rattle.symbols.specs.declared.Start.{Start}
 use Rattle.symbols.specs.declared.Start.the-variants as S
-use Rattle.givens.specs.Givens.{givenOf, badOf}
-use Rattle.results.specs.Parts.{literalPart, fieldPart, castPart, timesPart, twoPart, afterPart}
+use Rattle.givens.specs.Carried.{givenOf, badOf}
+use Rattle.results.specs.Carried.{literalPart, fieldPart, castPart, timesPart, twoPart, afterPart}
 use Rattle.givens.specs.declared.Given.{Given}
 use Rattle.givens.specs.declared.Given.the-variants as G
 use Rattle.results.specs.declared.Part.{Part}
