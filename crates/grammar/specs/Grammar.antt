@@ -1,6 +1,6 @@
 -- Document 01, "Conditions": the grammar, each rule once, as the readers go through a text. That they find what the rules derive
 -- (Productions.antt) is stated in Laws.antt. What is made of a part that was read is left open: a tree, in the definitions
--- (Trees.antt), or what the code carries (Readers.antt of the crate reading). So each rule is over X, what is made of a part, and C,
+-- (Trees.antt), or what the code carries (Carried.antt of the crate reading). So each rule is over X, what is made of a part, and C,
 -- what is known where a part begins (in the code: whether it is evaluated).
 -- "So a factor may hold a whole condition again": each rule is over the readers of what stands in parentheses, and the depth
 -- is how many parentheses may still be opened. A loop runs at most as often as there are bytes left, which is as often as it can.
