@@ -15,8 +15,7 @@ use Rattle.value.specs.declared.YearMonth.{YearMonth}
 use Rattle.value.proofs.Signs.{signed-within}
 use Rattle.numerals.specs.declared.Text.{Text}
 use Rattle.numerals.specs.Reading.{fractionDigits}
-use Rattle.numerals.specs.Writing.{decimal, fractionText, longest}
-use Rattle.numerals.specs.Carried.{textIn, Added}
+use Rattle.numerals.specs.Writing.{Holds, Added, decimal, fractionText, longest}
 use Rattle.numerals.proofs.Decimals.{decimal-le}
 use Rattle.numerals.proofs.Fractions.{fraction-short, no-fraction}
 use Rattle.durations.specs.declared.Amount.{Amount}
@@ -90,23 +89,19 @@ module _ (f : Form) (a : Amount) where
   unfolding textBy
   text-some e = λ i. pick (ne-eqb (a .number) 0 e i) (f .nothing) (spelt (a .negative) (body (f .before) (f .after) (a .number / f .unit) (a .number % f .unit)))
 
-abbrev Holds : Text → List ℕ → Type 0
-Holds r w = (textIn r ≡ w) × (r .len ≡ length w) × (r .len ≤ longest)
-
-pub holds-zero : (f : Form) (a : Amount) {n r : Text} → a .number ≡ 0 → (textIn n ≡ []) × (n .len ≡ 0) → length (f .nothing) ≤ longest → Added n r (f .nothing) (length (f .nothing)) → Holds r (textBy f a)
-holds-zero f a e z l x =
-    rw (text-zero f a e) (x .text ∙ ap (λ (q : List ℕ). q ++ f .nothing) (z .0), omega (arith, x .more, z .1), omega (arith, x .more, z .1))
+pub holds-zero : (f : Form) (a : Amount) {n r : Text} → a .number ≡ 0 → Holds (n .bytes) (n .len) [] → Added n r (f .nothing) (length (f .nothing))
+    → Holds (r .bytes) (r .len) (textBy f a)
+holds-zero f a e z x =
+    rw (text-zero f a e) (record { text = x .text ∙ ap (λ (q : List ℕ). q ++ f .nothing) (z .text); size = omega (arith, x .more, z .size) })
 
 spelt-short : (b : Bool) (w : List ℕ) → length (spelt b w) ≤ 1 + length w
 spelt-short true w = omega arith
 spelt-short false w = omega arith
 
-pub holds-some : (f : Form) (a : Amount) (r : Text) → (a .number ≡ 0 → ⊥) → 1 + length (body (f .before) (f .after) (a .number / f .unit) (a .number % f .unit)) ≤ longest
-    → (textIn r ≡ spelt (a .negative) (body (f .before) (f .after) (a .number / f .unit) (a .number % f .unit)))
-    × (r .len ≡ length (spelt (a .negative) (body (f .before) (f .after) (a .number / f .unit) (a .number % f .unit)))) → Holds r (textBy f a)
-holds-some f a r e l x =
-    let w : List ℕ = body (f .before) (f .after) (a .number / f .unit) (a .number % f .unit) in
-    rw (text-some f a e) (x .0, x .1, omega (arith, x .1, spelt-short (a .negative) w))
+pub holds-some : (f : Form) (a : Amount) (r : Text) → (a .number ≡ 0 → ⊥)
+    → Holds (r .bytes) (r .len) (spelt (a .negative) (body (f .before) (f .after) (a .number / f .unit) (a .number % f .unit)))
+    → Holds (r .bytes) (r .len) (textBy f a)
+holds-some f a r e x = rw (text-some f a e) x
 
 -- a month has no parts
 pub whole-months : (n : ℕ) → body (yearMonth .before) (yearMonth .after) n 0 ≡ body (yearMonth .before) (yearMonth .after) (n / yearMonth .unit) (n % yearMonth .unit)

@@ -12,8 +12,7 @@ use lib.Seq.{drop-cons}
 use borrow.Author.Tests.{eq-eqb, ne-eqb}
 use Rattle.basis.specs.Choice.{pick}
 use Rattle.numerals.specs.declared.Text.{Text}
-use Rattle.numerals.specs.Writing.{decimal, fractionText}
-use Rattle.numerals.specs.Carried.{textIn, Added}
+use Rattle.numerals.specs.Writing.{textIn, Holds, Added, decimal, fractionText}
 use Rattle.numerals.proofs.Texts.{then, unchanged, named}
 use Rattle.durations.specs.Forms.{weight, seconds, startMark, timeMark, minusSign}
 use Rattle.durations.specs.Spelling.{fractionIn, shown, shownAll, left, afterMark, body, spelt}
@@ -144,14 +143,14 @@ module _ (before after : List ℕ) (n ticks : ℕ) where
         named w (omega (arith, length-append A (timeMark ∷ shownAll true after l ticks))) (then x (then y (then z v)))
 
 -- the sign
-module _ (w : List ℕ) (n : Text) (z : (textIn n ≡ []) × (n .len ≡ 0)) where
+module _ (w : List ℕ) (n : Text) (z : Holds (n .bytes) (n .len) []) where
   abbrev Whole : Bool → Text → Type 0
-  Whole b r = (textIn r ≡ spelt b w) × (r .len ≡ length (spelt b w))
+  Whole b r = Holds (r .bytes) (r .len) (spelt b w)
 
   pub with-minus : {a r : Text} {b : Bool} → b ≡ true → Added n a (minusSign ∷ []) 1 → Added a r w (length w) → Whole b r
   with-minus e x y =
       let q = then x y in
-      rw e (q .text ∙ ap (λ (v : List ℕ). v ++ minusSign ∷ w) (z .0), omega (arith, q .more, z .1))
+      rw e (record { text = q .text ∙ ap (λ (v : List ℕ). v ++ minusSign ∷ w) (z .text); size = omega (arith, q .more, z .size) })
 
   pub without : {r : Text} {b : Bool} → b ≡ false → Added n r w (length w) → Whole b r
-  without e y = rw e (y .text ∙ ap (λ (v : List ℕ). v ++ w) (z .0), omega (arith, y .more, z .1))
+  without e y = rw e (record { text = y .text ∙ ap (λ (v : List ℕ). v ++ w) (z .text); size = omega (arith, y .more, z .size) })

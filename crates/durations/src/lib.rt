@@ -7,10 +7,8 @@ use value::Span;
 use value::Value;
 use value::YearMonth;
 ghost use mathlib.Core.Path.{_≡_};
-ghost use Prim.Native.Nat.{_+_, _*_, _≤_, _<_, _^_};
-ghost use lib.ListN.{length};
-ghost use Rattle.numerals.specs.Writing.{longest};
-ghost use Rattle.numerals.specs.Carried.{textIn};
+ghost use Prim.Native.Nat.{_+_, _*_, _<_, _^_};
+ghost use Rattle.numerals.specs.Writing.{Holds};
 ghost use Rattle.durations.specs.Forms.{dayTime, yearMonth};
 ghost use Rattle.durations.specs.Walks as the;
 ghost use Rattle.durations.specs.Carried as carried;
@@ -141,7 +139,7 @@ pub fn read_year_month(s: &[u8]) -> Reading
 }
 
 pub fn day_time_text(d: DayTime) -> Text
-    ensures { λ r. ⌜ (textIn r ≡ its.dayTimeText d) × (r .len ≡ length (its.dayTimeText d)) × (r .len ≤ longest) ⌝ }
+    ensures { λ r. ⌜ Holds (r .bytes) (r .len) (its.dayTimeText d) ⌝ }
 {
     let n = d.micros;
     if n == 0 {
@@ -152,7 +150,7 @@ pub fn day_time_text(d: DayTime) -> Text
 }
 
 pub fn year_month_text(d: YearMonth) -> Text
-    ensures { λ r. ⌜ (textIn r ≡ its.yearMonthText d) × (r .len ≡ length (its.yearMonthText d)) × (r .len ≤ longest) ⌝ }
+    ensures { λ r. ⌜ Holds (r .bytes) (r .len) (its.yearMonthText d) ⌝ }
 {
     let n = d.months as u64;
     if n == 0 {

@@ -5,8 +5,7 @@ use numerals::Text;
 ghost use mathlib.Core.Path.{_≡_};
 ghost use Prim.Native.Nat.{_+_, _≤_, _<_, _^_};
 ghost use lib.ListN.{length};
-ghost use Rattle.numerals.specs.Writing.{longest};
-ghost use Rattle.numerals.specs.Carried.{Added, textIn};
+ghost use Rattle.numerals.specs.Writing.{Holds, Added, longest};
 ghost use Rattle.durations.specs.Spelling as its;
 
 // Seconds alone have a fraction.
@@ -62,7 +61,7 @@ fn body(t: Text, before: &[u8], after: &[u8], n: u64, ticks: u64) -> Text
 // A number that is not zero, with its sign, by its components before T and after it.
 pub fn spelt(negative: bool, before: &[u8], after: &[u8], n: u64, ticks: u64) -> Text
     requires { ⌜ (1 + length (its.body (now before) (now after) n ticks) ≤ longest) × (n + ticks < 2 ^ 64) ⌝ }
-    ensures { λ r. ⌜ (textIn r ≡ its.spelt negative (its.body (now (before .entry)) (now (after .entry)) n ticks)) × (r .len ≡ length (its.spelt negative (its.body (now (before .entry)) (now (after .entry)) n ticks))) ⌝ }
+    ensures { λ r. ⌜ Holds (r .bytes) (r .len) (its.spelt negative (its.body (now (before .entry)) (now (after .entry)) n ticks)) ⌝ }
 {
     if negative {
         return body(Text::new().push(b'-'), before, after, n, ticks);

@@ -19,15 +19,13 @@ use Rattle.value.specs.declared.DateTime.{DateTime}
 use Rattle.value.specs.declared.Kind.{Kind}
 use Rattle.value.specs.declared.Kind.the-variants as KV
 use Rattle.numerals.specs.Reading.{fractionDigits}
-use Rattle.numerals.specs.Writing.{digits, fractionText, longest}
-use Rattle.numerals.specs.Carried.{textIn, Added}
+use Rattle.numerals.specs.Writing.{digits, fractionText, textIn, Holds, Added, longest}
 use Rattle.numerals.specs.declared.Text.{Text}
 use Rattle.numerals.proofs.Texts.{then, named}
 use Rattle.numerals.proofs.Decimals.{length-digits}
 use Rattle.numerals.proofs.Fractions.{fraction-short}
 use Rattle.scan.specs.Scanning.{layout, isPair}
-use Rattle.layouts.specs.Writing.{hhmm, offsetText, zoneText, pairOf, partText, textBy, textOf, Holds}
-use Rattle.layouts.specs.Carried.{width, widths}
+use Rattle.layouts.specs.Writing.{hhmm, offsetText, zoneText, pairOf, partText, textBy, textOf, width, widths}
 
 -- the text of an offset, by its cases
 hhmm-length : (n : ℕ) → length (hhmm n) ≡ 5
@@ -108,9 +106,9 @@ pub record Grown (layout : List ℕ) (d : DateTime) (t : Text) (k : ℕ) : Type 
   pub text : textIn t ++ textBy (drop k layout) d ≡ textBy layout d
   pub own : t .len + length (textBy (drop k layout) d) ≡ length (textBy layout d)
 
-pub start : (layout : List ℕ) (d : DateTime) {t : Text} → widths layout ≤ longest → (textIn t ≡ []) × (t .len ≡ 0) → Grown layout d t 0
+pub start : (layout : List ℕ) (d : DateTime) {t : Text} → widths layout ≤ longest → Holds (t .bytes) (t .len) [] → Grown layout d t 0
 start layout d {t} w e =
-    record { to = omega arith; room = omega (arith, e .1); text = ap (λ (q : List ℕ). q ++ textBy layout d) (e .0); own = omega (arith, e .1) }
+    record { to = omega arith; room = omega (arith, e .size); text = ap (λ (q : List ℕ). q ++ textBy layout d) (e .text); own = omega (arith, e .size) }
 
 pub next-width : (layout : List ℕ) (k : ℕ) → k < length layout → widths (drop k layout) ≡ width (getD layout k 0) + widths (drop (suc k) layout)
 unfolding widths
@@ -132,14 +130,13 @@ step layout d {t} {r} k g h a =
       own = omega (arith, g .own, a .more);
     })
 
-pub finish : (layout : List ℕ) (d : DateTime) {t : Text} (k : ℕ) → Grown layout d t k → length layout ≤ k → Holds t (textBy layout d)
+pub finish : (layout : List ℕ) (d : DateTime) {t : Text} (k : ℕ) → Grown layout d t k → length layout ≤ k → Holds (t .bytes) (t .len) (textBy layout d)
 unfolding textBy
 finish layout d {t} k g h =
     let e : textBy (drop k layout) d ≡ [] = rw (drop-of-length-le layout h) in
     record {
       text = sym (append-nil (textIn t)) ∙ ap (λ (q : List ℕ). textIn t ++ q) (sym e) ∙ g .text;
-      own = omega (arith, g .own, ap length e);
-      fits = omega (arith, g .room);
+      size = omega (arith, g .own, ap length e);
     }
 
 -- every layout leaves room for its parts
@@ -151,9 +148,5 @@ wide KV.DateTime = omega arith
 wide KV.DayTimeDuration = omega arith
 wide KV.YearMonthDuration = omega arith
 
-pub kinded : {k x : Kind} (d : DateTime) (r : Text) → k ≡ x → Holds r (textOf x d) → Holds r (textOf k d)
-kinded {k} {x} d r e a = subst (λ (y : Kind). Holds r (textOf y d)) (sym e) a
-
--- a kind with no layout has an empty text
-pub empty : {r : Text} → (textIn r ≡ []) × (r .len ≡ 0) → Holds r []
-empty e = record { text = e .0; own = e .1; fits = omega (arith, e .1) }
+pub kinded : {k x : Kind} (d : DateTime) (r : Text) → k ≡ x → Holds (r .bytes) (r .len) (textOf x d) → Holds (r .bytes) (r .len) (textOf k d)
+kinded {k} {x} d r e a = subst (λ (y : Kind). Holds (r .bytes) (r .len) (textOf y d)) (sym e) a

@@ -1,11 +1,9 @@
 -- Document 01, "Writing text": the text of a date, a time or a dateTime. Local fields and zone are kept; zone 0 is Z; a
 -- fraction loses its final zeros and vanishes if zero. The text is that of the parts of the kind's layout, in order.
-use mathlib.Core.Path.{_≡_}
 use mathlib.Core.List.{List, [], _∷_, _++_}
-use Prim.Native.Nat.{ℕ, _+_, _/_, _%_, _≤_}
+use Prim.Native.Nat.{ℕ, _+_, _/_, _%_}
 use Prim.Native.Char.{code}
 use lib.Dec.{eqb}
-use lib.ListN.{length}
 use Rattle.basis.specs.Choice.{pick}
 use Rattle.value.specs.Bounds.{secondTicks, minuteSeconds, hourMinutes, minuteTicks, hourTicks}
 use Rattle.value.specs.declared.Offset.{Offset}
@@ -14,9 +12,8 @@ use Rattle.value.specs.declared.Zone.{Zone}
 use Rattle.value.specs.declared.Zone.the-variants.{Absent, At}
 use Rattle.value.specs.declared.DateTime.{DateTime}
 use Rattle.value.specs.declared.Kind.{Kind}
-use Rattle.numerals.specs.Writing.{digits, fractionText, longest}
-use Rattle.numerals.specs.Carried.{textIn}
-use Rattle.numerals.specs.declared.Text.{Text}
+use Rattle.numerals.specs.Reading.{fractionDigits}
+use Rattle.numerals.specs.Writing.{digits, fractionText}
 use Rattle.scan.specs.Scanning.{layout, isPair, yearDigits}
 
 abbrev pub hhmm : ℕ → List ℕ
@@ -49,9 +46,3 @@ textBy (p ∷ ps) d = partText p d ++ textBy ps d
 
 abbrev pub textOf : Kind → DateTime → List ℕ
 textOf k d = textBy (layout k) d
-
--- a text that grew to w
-pub record Holds (t : Text) (w : List ℕ) : Type 0 where
-  pub text : textIn t ≡ w
-  pub own : t .len ≡ length w
-  pub fits : t .len ≤ longest

@@ -20,7 +20,7 @@ pub fn read_layout(kind: Kind, s: &[u8]) -> Outcome
 
 // The text of a record as a value of a kind: what the parts of its layout say of the record. The durations have none.
 pub fn layout_text(kind: Kind, d: DateTime) -> Text
-    ensures { λ r. ⌜ Holds r (textOf kind d) ⌝ }
+    ensures { λ r. ⌜ Holds (r .bytes) (r .len) (textOf kind d) ⌝ }
 {
     match kind {
         Kind::Date => writing::parts(b"Y-M-Dz", d),

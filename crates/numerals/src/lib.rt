@@ -4,8 +4,7 @@ ghost use mathlib.Core.List.{[], _∷_};
 ghost use Prim.Native.Nat.{_+_, _*_, _≤_, _<_, _^_, min};
 ghost use lib.ListN.{length};
 ghost use Rattle.numerals.specs.Reading as the;
-ghost use Rattle.numerals.specs.Writing.{longest};
-ghost use Rattle.numerals.specs.Carried.{Found, textIn, Added};
+ghost use Rattle.numerals.specs.Writing.{Holds, Added, longest};
 ghost use Rattle.numerals.specs.Writing as its;
 
 // A fraction has at most so many digits.
@@ -117,7 +116,7 @@ pub fn fraction_at(s: &[u8], at: usize) -> Fraction
 
 impl Text {
     pub fn new() -> Text
-        ensures { λ r. ⌜ (textIn r ≡ []) × (r .len ≡ 0) ⌝ }
+        ensures { λ r. ⌜ Holds (r .bytes) (r .len) [] ⌝ }
     {
         Text {
             bytes: [0u8; LONGEST],

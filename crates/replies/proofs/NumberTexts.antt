@@ -1,14 +1,14 @@
 -- A number's text is its sign, its digits and its fraction, and never wider than the numbers of a reply.
 use mathlib.Core.Path.{_≡_, ap, sym, _∙_}
-use mathlib.Core.Bool.{Bool, true}
-use mathlib.Core.List.{List, [], _∷_, _++_}
+use mathlib.Core.Bool.{Bool, true, false}
+use mathlib.Core.List.{List, [], _++_}
 use Prim.Native.Nat.{ℕ, _+_, _^_, _≤_, _<_}
 use native.Mathlib.Omega.{arith}
 use lib.ListN.{length, length-append}
 use Rattle.basis.specs.Choice.{pick}
+use Rattle.basis.specs.Letters.{bytes}
 use Rattle.numerals.specs.declared.Text.{Text}
-use Rattle.numerals.specs.Writing.{decimal, fractionText, longest}
-use Rattle.numerals.specs.Carried.{textIn, Added}
+use Rattle.numerals.specs.Writing.{textIn, Holds, Added, decimal, fractionText, longest}
 use Rattle.numerals.proofs.Decimals.{decimal-le}
 use Rattle.numerals.proofs.Fractions.{fraction-short}
 use Rattle.numerals.proofs.Texts as texts
@@ -23,32 +23,37 @@ use mir.ValLaws.{toZ-ofZ}
 use Rattle.replies.specs.Parts.{isNegative, signedText}
 use Rattle.replies.proofs.Growing.{then, named}
 
-abbrev pub Signed : Bool → Text → Type 0
-Signed negative s = (textIn s ≡ signText negative) × (s .len ≡ length (signText negative)) × (s .len ≤ 1)
-
-pub minus-sign : (negative : Bool) {n r : Text} → negative ≡ true → (textIn n ≡ []) × (n .len ≡ 0) → Added n r (45 ∷ []) 1 → Signed negative r
+pub minus-sign : (negative : Bool) {n r : Text} → negative ≡ true → Holds (n .bytes) (n .len) [] → Added n r (bytes "-") 1
+    → Holds (r .bytes) (r .len) (signText negative)
 minus-sign negative e z a =
-    rw e (a .text ∙ ap (λ (q : List ℕ). q ++ 45 ∷ []) (z .0), omega (arith, a .more, z .1), omega (arith, a .more, z .1))
+    rw e (record { text = a .text ∙ ap (λ (q : List ℕ). q ++ bytes "-") (z .text); size = omega (arith, a .more, z .size) })
+
+pub no-sign : (negative : Bool) {n : Text} → negative ≡ false → Holds (n .bytes) (n .len) [] → Holds (n .bytes) (n .len) (signText negative)
+no-sign negative e z = rw e z
+
+pub sign-short : (negative : Bool) → length (signText negative) ≤ 1
+sign-short true = omega arith
+sign-short false = omega arith
 
 pub digits-fit : (n : ℕ) → n < 2 ^ 32 → length (decimal n) ≤ 10
 digits-fit n h = decimal-le 10 n (omega arith) (omega arith)
 
-module _ (negative : Bool) (n ticks : ℕ) (h : n < 2 ^ 32) {s d : Text} (z : Signed negative s) (a : Added s d (decimal n) (length (decimal n))) where
+module _ (negative : Bool) (n ticks : ℕ) (h : n < 2 ^ 32) {s d : Text} (z : Holds (s .bytes) (s .len) (signText negative)) (a : Added s d (decimal n) (length (decimal n))) where
   pub room-after : d .len + length (fractionText ticks) ≤ longest
-  room-after = omega (arith, z .2, a .more, digits-fit n h, fraction-short ticks)
+  room-after = omega (arith, z .size, sign-short negative, a .more, digits-fit n h, fraction-short ticks)
 
   module _ {t : Text} (b : Added d t (fractionText ticks) (length (fractionText ticks))) where
     pub number-text : textIn t ≡ numberText negative n ticks
     unfolding numberText
-    number-text = texts.then a b .text ∙ ap (λ (q : List ℕ). q ++ (decimal n ++ fractionText ticks)) (z .0)
+    number-text = texts.then a b .text ∙ ap (λ (q : List ℕ). q ++ (decimal n ++ fractionText ticks)) (z .text)
 
     pub number-length : t .len ≡ length (numberText negative n ticks)
     unfolding numberText
     number-length =
-        omega (arith, b .more, a .more, z .1, length-append (signText negative) (decimal n ++ fractionText ticks), length-append (decimal n) (fractionText ticks))
+        omega (arith, b .more, a .more, z .size, length-append (signText negative) (decimal n ++ fractionText ticks), length-append (decimal n) (fractionText ticks))
 
     pub number-fits : (t .len ≡ length (textIn t)) × (t .len ≤ numberWidth)
-    number-fits = (number-length ∙ sym (ap length number-text), omega (arith, z .2, a .more, b .more, digits-fit n h, fraction-short ticks))
+    number-fits = (number-length ∙ sym (ap length number-text), omega (arith, z .size, sign-short negative, a .more, b .more, digits-fit n h, fraction-short ticks))
 
     pub number-grown : {r j q : Reply} {name : List ℕ} → Grown r j name → Grown j q (textIn t)
         → (Grown r q (name ++ numberText negative n ticks)) × (q .len ≤ r .len + length name + numberWidth)

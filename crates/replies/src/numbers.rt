@@ -10,9 +10,8 @@ ghost use lib.ListN.{length};
 ghost use lib.IntN.{natAbs};
 ghost use Rattle.basis.specs.Choice.{pick};
 ghost use mathlib.Core.Bool.{true};
-ghost use Rattle.numerals.specs.Carried.{textIn};
-ghost use Rattle.replies.specs.Replies.{replySize, signText, numberText};
-ghost use Rattle.replies.specs.Carried.{numberWidth, Grown};
+ghost use Rattle.numerals.specs.Writing.{Holds};
+ghost use Rattle.replies.specs.Replies.{replySize, signText, numberText, numberWidth, Grown};
 ghost use Rattle.replies.specs.Parts.{isNegative, signedText};
 
 fn magnitude(z: i32) -> u32
@@ -37,7 +36,7 @@ fn is_negative(z: i32, fraction: i32) -> bool
 
 // A minus, or nothing.
 fn sign(negative: bool) -> Text
-    ensures { λ r. ⌜ (textIn r ≡ signText negative) × (r .len ≡ length (signText negative)) × (r .len ≤ 1) ⌝ }
+    ensures { λ r. ⌜ Holds (r .bytes) (r .len) (signText negative) ⌝ }
 {
     if negative {
         return Text::new().push(b'-');

@@ -5,7 +5,7 @@ use mathlib.Core.List.{List, _++_}
 use Prim.Native.Nat.{ℕ, _≤_, _<_}
 use native.Mathlib.Omega.{arith}
 use lib.Dec.{leb}
-use lib.ListN.{length, take, drop, length-take}
+use lib.ListN.{length, take, drop}
 use lib.Seq.{take-length}
 use borrow.Author.Tests.{le-leb, lt-leb}
 use Rattle.basis.specs.Answer.{Answer, gives, refuses}
@@ -13,8 +13,8 @@ use Rattle.value.specs.Refusals.{noRoom, outside}
 use Rattle.value.specs.Kinds.{okValue}
 use Rattle.value.specs.declared.Value.{Value}
 use Rattle.numerals.specs.declared.Text.{Text}
-use Rattle.numerals.specs.Carried.{textIn}
-use Rattle.layouts.specs.Writing.{Holds}
+use Rattle.numerals.specs.Writing.{textIn, Holds}
+use Rattle.numerals.proofs.Texts.{holds-fits}
 use Rattle.text.specs.Writing.{textOf, written, afterWrite}
 
 module _ (v : Value) (room : List ℕ) where
@@ -37,7 +37,5 @@ module _ (v : Value) (room : List ℕ) where
       (rw (e, l, en), x ∙ rw (e, l, take-length s, es))
 
 -- a text's length is that of its bytes, and its array is at least as long
-pub own-length : (t : Text) (w : List ℕ) → Holds t w → (t .len ≡ length (textIn t)) × (t .len ≤ length (t .bytes))
-own-length t w h =
-    let a : length (textIn t) ≡ length w = ap length (h .text) in
-    (omega (arith, h .own), omega (arith, h .own, length-take (t .len) (t .bytes)))
+pub own-length : (t : Text) (w : List ℕ) → Holds (t .bytes) (t .len) w → (t .len ≡ length (textIn t)) × (t .len ≤ length (t .bytes))
+own-length t w h = (h .size ∙ sym (ap length (h .text)), holds-fits h)

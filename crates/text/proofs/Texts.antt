@@ -5,13 +5,12 @@ use Prim.Native.Nat.{ℕ}
 use lib.ListN.{length}
 use Rattle.value.specs.declared.Value.{Value}
 use Rattle.numerals.specs.declared.Text.{Text}
-use Rattle.layouts.specs.Writing.{Holds}
+use Rattle.numerals.specs.Writing.{Holds}
 use Rattle.text.specs.Writing.{textOf}
 
-pub holds-as : (v w : Value) (r : Text) → v ≡ w → Holds r (textOf w) → Holds r (textOf v)
+pub holds-as : (v w : Value) (r : Text) → v ≡ w → Holds (r .bytes) (r .len) (textOf w) → Holds (r .bytes) (r .len) (textOf v)
 holds-as v w r e h =
     record {
       text = h .text ∙ ap textOf (sym e);
-      own = h .own ∙ ap (λ (x : Value). length (textOf x)) (sym e);
-      fits = h .fits;
+      size = h .size ∙ ap (λ (x : Value). length (textOf x)) (sym e);
     }

@@ -7,7 +7,7 @@ use value::Value;
 ghost use mathlib.Core.Path.{_≡_};
 ghost use lib.ListN.{length};
 ghost use Rattle.value.specs.Kinds as kinds;
-ghost use Rattle.layouts.specs.Writing.{Holds};
+ghost use Rattle.numerals.specs.Writing.{Holds};
 ghost use Rattle.text.specs.Reading.{readAs};
 ghost use Rattle.text.specs.Writing as its;
 
@@ -39,7 +39,7 @@ pub fn read(kind: Kind, s: &[u8]) -> Outcome
 }
 
 pub fn text_of(v: Value) -> Text
-    ensures { λ r. ⌜ Holds r (its.textOf v) ⌝ }
+    ensures { λ r. ⌜ Holds (r .bytes) (r .len) (its.textOf v) ⌝ }
 {
     match v {
         Value::Date(d) => layouts::layout_text(Kind::Date, d),

@@ -1,7 +1,6 @@
 use Rattle.durations.specs.Forms.{dayTime}
 use Rattle.durations.proofs.Lengths.{holds-zero, holds-some, day-time-short}
 use Rattle.numerals.proofs.Texts.{then}
-use native.Mathlib.Omega.{arith}
 use borrow.Author.Needs.{needs}
 use Rattle.durations.proofs.day_time_text.Statement.{statement}
 use Rattle.durations.proofs.day_time_text.Tie as tie
@@ -22,7 +21,7 @@ push-requires-4 : tie.Need-push-requires-4
 push-requires-4 c κs = search needs
 
 returns : tie.Need-returns
-returns c = holds-zero dayTime (record { negative = c .before .before .before .before .before .before .args .d .negative; number = c .before .before .before .before .before .before .args .d .micros }) (c .before .before .before .before .before .if1 .taken) (c .before .before .before .before .new .ensures) (omega arith) (then (then (then (c .before .before .before .push .ensures) (c .before .before .push2 .ensures)) (c .before .push3 .ensures)) (c .push4 .ensures))
+returns c = holds-zero dayTime (record { negative = c .before .before .before .before .before .before .args .d .negative; number = c .before .before .before .before .before .before .args .d .micros }) (c .before .before .before .before .before .if1 .taken) (c .before .before .before .before .new .ensures) (then (then (then (c .before .before .before .push .ensures) (c .before .before .push2 .ensures)) (c .before .push3 .ensures)) (c .push4 .ensures))
 
 cast-parts : tie.Need-cast-parts
 cast-parts c = search needs
@@ -43,7 +42,7 @@ spelt-requires : tie.Need-spelt-requires
 spelt-requires c κs = (day-time-short (c .before .before .before .args .d .micros) (search needs), search needs)
 
 returns-2 : tie.Need-returns-2
-returns-2 c = holds-some dayTime (record { negative = c .before .before .before .before .args .d .negative; number = c .before .before .before .before .args .d .micros }) _ (c .before .before .before .if1 .left) (day-time-short (c .before .before .before .before .args .d .micros) (search needs)) (c .spelt .ensures)
+returns-2 c = holds-some dayTime (record { negative = c .before .before .before .before .args .d .negative; number = c .before .before .before .before .args .d .micros }) _ (c .before .before .before .if1 .left) (c .spelt .ensures)
 
 pub day-time-text-spec : {M : Type 1} → statement M
 day-time-text-spec =

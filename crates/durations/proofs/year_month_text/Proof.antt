@@ -1,7 +1,6 @@
 use Rattle.durations.specs.Forms.{yearMonth}
 use Rattle.durations.proofs.Lengths.{holds-zero, holds-some, year-month-short, whole-months}
 use Rattle.numerals.proofs.Texts.{then}
-use native.Mathlib.Omega.{arith}
 use borrow.Author.Needs.{needs}
 use Rattle.durations.proofs.year_month_text.Statement.{statement}
 use Rattle.durations.proofs.year_month_text.Tie as tie
@@ -22,7 +21,7 @@ push-requires-3 : tie.Need-push-requires-3
 push-requires-3 c κs = search needs
 
 returns : tie.Need-returns
-returns c = holds-zero yearMonth (record { negative = c .before .before .before .before .before .before .args .d .negative; number = c .before .before .before .before .before .before .args .d .months }) (c .before .before .before .before .if1 .taken) (c .before .before .before .new .ensures) (omega arith) (then (then (c .before .before .push .ensures) (c .before .push2 .ensures)) (c .push3 .ensures))
+returns c = holds-zero yearMonth (record { negative = c .before .before .before .before .before .before .args .d .negative; number = c .before .before .before .before .before .before .args .d .months }) (c .before .before .before .before .if1 .taken) (c .before .before .before .new .ensures) (then (then (c .before .before .push .ensures) (c .before .push2 .ensures)) (c .push3 .ensures))
 
 slice-aggregate-spelt : tie.Need-slice-aggregate-spelt
 slice-aggregate-spelt c = search needs
@@ -34,7 +33,7 @@ spelt-requires : tie.Need-spelt-requires
 spelt-requires c κs = (year-month-short (c .before .before .before .before .args .d .months) (search needs), search needs)
 
 returns-2 : tie.Need-returns-2
-returns-2 c = let e = whole-months (c .before .before .before .before .before .args .d .months) in holds-some yearMonth (record { negative = c .before .before .before .before .before .args .d .negative; number = c .before .before .before .before .before .args .d .months }) _ (c .before .before .before .if1 .left) (rw e at (year-month-short (c .before .before .before .before .before .args .d .months) (search needs))) (rw e at (c .spelt .ensures))
+returns-2 c = let e = whole-months (c .before .before .before .before .before .args .d .months) in holds-some yearMonth (record { negative = c .before .before .before .before .before .args .d .negative; number = c .before .before .before .before .before .args .d .months }) _ (c .before .before .before .if1 .left) (rw e at (c .spelt .ensures))
 
 pub year-month-text-spec : {M : Type 1} → statement M
 year-month-text-spec =

@@ -1,6 +1,6 @@
 use Rattle.value.specs.declared.Kind.the-variants as KV
 use Rattle.layouts.specs.Writing.{textBy}
-use Rattle.layouts.proofs.Pieces.{wide, kinded, empty}
+use Rattle.layouts.proofs.Pieces.{wide, kinded}
 use borrow.Author.Needs.{needs}
 use Rattle.layouts.proofs.layout_text.Statement.{statement}
 use Rattle.layouts.proofs.layout_text.Tie as tie
@@ -55,11 +55,11 @@ returns-3 c = kinded (c .before .before .before .before .args .d) (c .parts3 .re
 
 returns-4 : tie.Need-returns-4
 unfolding textBy
-returns-4 c = kinded (c .before .before .before .args .d) (c .new .result) (c .before .enum-told4 .given .1) (empty (c .new .ensures))
+returns-4 c = kinded (c .before .before .before .args .d) (c .new .result) (c .before .enum-told4 .given .1) (c .new .ensures)
 
 returns-5 : tie.Need-returns-5
 unfolding textBy
-returns-5 c = kinded (c .before .before .before .args .d) (c .new2 .result) (c .before .enum-told5 .given .1) (empty (c .new2 .ensures))
+returns-5 c = kinded (c .before .before .before .args .d) (c .new2 .result) (c .before .enum-told5 .given .1) (c .new2 .ensures)
 
 pub layout-text-spec : {M : Type 1} → statement M
 layout-text-spec =

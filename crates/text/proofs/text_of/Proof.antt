@@ -53,11 +53,11 @@ returns-3 c = holds-as _ _ _ (c .before .before .v3 .given .1) (c .layout-text3 
 
 returns-4 : tie.Need-returns-4
 unfolding textOf
-returns-4 c = holds-as _ _ _ (c .before .before .v4 .given .1) (record { text = c .day-time-text .ensures .0; own = c .day-time-text .ensures .1; fits = c .day-time-text .ensures .2 })
+returns-4 c = holds-as _ _ _ (c .before .before .v4 .given .1) (c .day-time-text .ensures)
 
 returns-5 : tie.Need-returns-5
 unfolding textOf
-returns-5 c = holds-as _ _ _ (c .before .before .v5 .given .1) (record { text = c .year-month-text .ensures .0; own = c .year-month-text .ensures .1; fits = c .year-month-text .ensures .2 })
+returns-5 c = holds-as _ _ _ (c .before .before .v5 .given .1) (c .year-month-text .ensures)
 
 pub text-of-spec : {M : Type 1} → statement M
 text-of-spec =

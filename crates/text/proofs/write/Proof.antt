@@ -20,7 +20,7 @@ text-of-requires : tie.Need-text-of-requires
 text-of-requires c κs = search needs
 
 returns-2 : tie.Need-returns-2
-returns-2 c = no-room-leaves (c .before .before .before .before .before .before .args .v) (c .before .before .before .before .before .before .args .room .now) (good (c .before .before .before .before .value-ok .ensures) (c .before .before .before .if1 .left)) _ (c .before .before .text-of .ensures .own) (c .if2 .taken)
+returns-2 c = no-room-leaves (c .before .before .before .before .before .before .args .v) (c .before .before .before .before .before .before .args .room .now) (good (c .before .before .before .before .value-ok .ensures) (c .before .before .before .if1 .left)) _ (c .before .before .text-of .ensures .size) (c .if2 .taken)
 
 array-share-prefix-bytes : tie.Need-array-share-prefix-bytes
 array-share-prefix-bytes c = own-length (c .before .before .text-of .result) _ (c .before .before .text-of .ensures) .1
@@ -35,7 +35,7 @@ same-length : tie.Need-same-length
 same-length c = search needs
 
 returns-3 : tie.Need-returns-3
-returns-3 c = copied (c .before .before .before .before .before .before .before .before .before .before .before .args .v) (c .before .before .before .before .before .before .before .before .before .before .before .args .room .now) (good (c .before .before .before .before .before .before .before .before .before .value-ok .ensures) (c .before .before .before .before .before .before .before .before .if1 .left)) _ (c .before .before .before .before .before .before .before .text-of .ensures .own) (c .before .before .before .before .before .if2 .left) _ _ (c .before .before .before .before .before .before .before .text-of .ensures .text) (c .before .before .copy .ensures .1)
+returns-3 c = copied (c .before .before .before .before .before .before .before .before .before .before .before .args .v) (c .before .before .before .before .before .before .before .before .before .before .before .args .room .now) (good (c .before .before .before .before .before .before .before .before .before .value-ok .ensures) (c .before .before .before .before .before .before .before .before .if1 .left)) _ (c .before .before .before .before .before .before .before .text-of .ensures .size) (c .before .before .before .before .before .if2 .left) _ _ (c .before .before .before .before .before .before .before .text-of .ensures .text) (c .before .before .copy .ensures .1)
 
 pub write-spec : {M : Type 1} → statement M
 write-spec =

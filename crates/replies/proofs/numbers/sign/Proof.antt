@@ -1,4 +1,4 @@
-use Rattle.replies.proofs.NumberTexts.{minus-sign}
+use Rattle.replies.proofs.NumberTexts.{minus-sign, no-sign}
 use borrow.Author.Needs.{needs}
 use Rattle.replies.proofs.numbers.sign.Statement.{statement}
 use Rattle.replies.proofs.numbers.sign.Tie as tie
@@ -16,7 +16,7 @@ new-requires-2 : tie.Need-new-requires-2
 new-requires-2 c κs = search needs
 
 returns-2 : tie.Need-returns-2
-returns-2 c = search needs
+returns-2 c = no-sign (c .before .before .args .negative) (c .before .if1 .left) (c .new2 .ensures)
 
 pub sign-spec : {M : Type 1} → statement M
 sign-spec = tie.close (tie.spec new-requires push-requires returns new-requires-2 returns-2)

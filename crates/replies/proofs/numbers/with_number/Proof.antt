@@ -1,5 +1,5 @@
 use native.Mathlib.Omega.{arith}
-use Rattle.replies.proofs.NumberTexts.{digits-fit, room-after, number-fits, number-grown}
+use Rattle.replies.proofs.NumberTexts.{sign-short, digits-fit, room-after, number-fits, number-grown}
 use borrow.Author.Needs.{needs}
 use Rattle.replies.proofs.numbers.with_number.Statement.{statement}
 use Rattle.replies.proofs.numbers.with_number.Tie as tie
@@ -8,7 +8,7 @@ sign-requires : tie.Need-sign-requires
 sign-requires c κs = search needs
 
 decimal-requires : tie.Need-decimal-requires
-decimal-requires c κs = omega (arith, c .sign .ensures .2, digits-fit (c .before .before .args .n) (c .before .before .fits .n .fits))
+decimal-requires c κs = omega (arith, c .sign .ensures .size, sign-short (c .before .before .args .negative), digits-fit (c .before .before .args .n) (c .before .before .fits .n .fits))
 
 with-fraction-requires : tie.Need-with-fraction-requires
 with-fraction-requires c κs = room-after (c .before .before .before .args .negative) (c .before .before .before .args .n) (c .before .before .before .args .ticks) (c .before .before .before .fits .n .fits) (c .before .sign .ensures) (c .decimal .ensures)
