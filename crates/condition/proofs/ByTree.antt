@@ -89,8 +89,7 @@ module _ (s : List ℕ) (k : length s ≤ maxLength) where
 pub grammar-decides : GrammarDecides
 grammar-decides s h k d =
     record {
-      seven-without-tree = seven-by s k h d (parse s) refl;
-      no-tree-with-seven = seven-no-tree s k h d;
+      seven-without-tree = record { only = seven-no-tree s k h d; always = seven-by s k h d (parse s) refl };
       checked-by-tree = tree-checked s k h d;
       result-by-tree = λ t x line. result-of s k line t (x .end) (stated-is-parsed s t x d);
     }

@@ -8,7 +8,8 @@ use lib.Dec.{eqb}
 use lib.ListN.{length}
 use Rattle.basis.specs.Choice.{pick}
 use Rattle.basis.specs.Answer.{gives, refuses}
-use Rattle.value.specs.Refusals.{badCondition}
+use Rattle.basis.specs.Exactly.{Exactly}
+use Rattle.value.specs.Refusals.{badCondition, tooDeep, wrongKind}
 use Rattle.depth.specs.Depth.{deep}
 use Rattle.sorts.specs.declared.Sort.the-variants as S
 use Rattle.grammar.specs.Trees.{Tree}
@@ -21,8 +22,7 @@ use Rattle.condition.specs.Condition.{minLength, maxLength, byKinds, che
 -- of a text of good length that is not too deep, the productions decide: 7 is given exactly where no tree is derived; else Open's checks
 -- and the result at every line are those of the tree that is (there is one at most); proved as `grammar-decides`
 pub record ByGrammar (s : List ℕ) : Type 0 where
-  pub seven-without-tree : ((t : Tree) → States s t → ⊥) → checkOf s ≡ refuses badCondition
-  pub no-tree-with-seven : checkOf s ≡ refuses badCondition → (t : Tree) → States s t → ⊥
+  pub seven-without-tree : Exactly (checkOf s ≡ refuses badCondition) ((t : Tree) → States s t → ⊥)
   pub checked-by-tree : (t : Tree) → States s t → checkOf s ≡ first (byKinds (sortOf t)) (firstBad s t)
   pub result-by-tree : (t : Tree) → States s t → (line : List ℕ) → resultAt s line ≡ shown (eval s line t)
 

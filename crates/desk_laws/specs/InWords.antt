@@ -7,6 +7,7 @@ use mathlib.Core.Bool.{true, false}
 use Prim.Native.Nat.{ℕ, _+_, _%_, _≤_, _<_}
 use lib.ListN.{length}
 use Rattle.basis.specs.Answer.{gives, refuses}
+use Rattle.basis.specs.Exactly.{Exactly}
 use Rattle.value.specs.Refusals.{noSeat, wrongTimetable, notSound, noTicket, noMoreTickets}
 use Rattle.seat.specs.Files.{Files}
 use Rattle.seat.specs.Request.{Request}
@@ -20,11 +21,6 @@ use Rattle.desk.specs.Seats.{seatAt}
 use Rattle.desk.specs.Soundness.{soundOf}
 use Rattle.desk.specs.Desk.{freshDesk, noDesk, freshOf, seated, openOf, freed, closeOf, afterStep, turnOf}
 use Rattle.desk.specs.declared.Desk.{Desk}
-
--- the one holds exactly where the other does
-pub record Exactly (A B : Type 0) : Type 0 where
-  pub only : A → B
-  pub always : B → A
 
 -- ---- the sixteen seats
 

@@ -5,6 +5,7 @@ use Prim.Native.Nat.{ℕ}
 use native.Mathlib.Omega.{arith}
 use Rattle.basis.specs.Choice.{pick, both}
 use Rattle.basis.specs.Answer.{Answer, gives, refuses}
+use Rattle.basis.specs.Exactly.{Exactly}
 use Rattle.value.specs.Kinds.{kindOf, okValue}
 use Rattle.value.specs.Refusals.{wrongKind}
 use Rattle.instants.specs.Ticks.{utc}
@@ -17,7 +18,7 @@ use Rattle.arithmetic.specs.Sums.{plusOf, minusIn}
 use Rattle.arithmetic.specs.Products.{timesOf}
 use Rattle.sorts.specs.Sorts.{comparedKinds, addedKinds, lessKinds, sortCast, sortTimes}
 use Rattle.results.specs.Evaluation.{joined, onto, ShortCircuit}
-use Rattle.results.specs.Fitting.{Exactly, ClashIs9}
+use Rattle.results.specs.Fitting.{ClashIs9}
 use Rattle.sorts.specs.declared.Sort.{Sort}
 use Rattle.sorts.specs.declared.Sort.the-variants as S
 use Rattle.results.proofs.Settled.{Fits, FitsSort, plus-settled, minus-settled, times-settled}
@@ -37,14 +38,14 @@ fits-no-9 k (refuses n) f e = let q : n ≡ 9 = cc in omega arith
 
 -- by the sort that the kinds settle, and by a test of the kinds
 by-sort : (x : Sort) (r : Answer Value) → FitsSort x r → Exactly (x ≡ S.Clash) (r ≡ refuses wrongKind)
-by-sort S.Clash r f = (λ e. f, λ e. refl)
+by-sort S.Clash r f = record { only = λ e. f; always = λ e. refl }
 by-sort S.Truth r f = absurd f
-by-sort (S.Of k) r f = (λ e. absurd (kind-no-clash k e), λ e. absurd (fits-no-9 k r f e))
+by-sort (S.Of k) r f = record { only = λ e. absurd (kind-no-clash k e); always = λ e. absurd (fits-no-9 k r f e) }
 
 by-test : {A : Type 0} (b : Bool) (x : Sort) (v : A) → (x ≡ S.Clash → ⊥) →
     Exactly (pick b x S.Clash ≡ S.Clash) (pick b (gives v) (refuses wrongKind) ≡ refuses wrongKind)
-by-test true x v n = (λ e. absurd (n e), λ e. absurd (no-refusal v e))
-by-test false x v n = (λ e. refl, λ e. refl)
+by-test true x v n = record { only = λ e. absurd (n e); always = λ e. absurd (no-refusal v e) }
+by-test false x v n = record { only = λ e. refl; always = λ e. refl }
 
 module _ (a : Value) (p : okValue a ≡ true) where
   order-clash : (b : Value) → okValue b ≡ true → Exactly (comparedKinds (kindOf a) (kindOf b) ≡ S.Clash) (orderIn utc a b ≡ refuses wrongKind)

@@ -6,6 +6,7 @@ use mathlib.Core.Path.{_≡_}
 use mathlib.Core.Bool.{Bool, true}
 use Prim.Native.Nat.{ℕ, _≤_}
 use Rattle.basis.specs.Answer.{refuses}
+use Rattle.basis.specs.Exactly.{Exactly}
 use Rattle.value.specs.Kinds.{kindOf, okValue}
 use Rattle.value.specs.Refusals.{wrongKind}
 use Rattle.instants.specs.Ticks.{utc}
@@ -17,9 +18,6 @@ use Rattle.arithmetic.specs.Sums.{plusOf, minusIn}
 use Rattle.arithmetic.specs.Products.{timesOf, maxFactor}
 use Rattle.sorts.specs.Sorts.{comparedKinds, addedKinds, lessKinds, sortCast, sortTimes}
 use Rattle.sorts.specs.declared.Sort.the-variants.{Clash, Of}
-
-abbrev pub Exactly : Type 0 → Type 0 → Type 0
-Exactly P Q = (P → Q) × (Q → P)
 
 pub record ClashIs9 : Type 0 where
   pub of-plus : (a b : Value) → okValue a ≡ true → okValue b ≡ true → Exactly (addedKinds (kindOf a) (kindOf b) ≡ Clash) (plusOf a b ≡ refuses wrongKind)

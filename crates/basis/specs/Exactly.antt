@@ -1,0 +1,6 @@
+-- "Exactly when", as the refusal table of document 01 has it: in both directions.
+
+-- the one holds exactly where the other does
+pub record Exactly (A B : Type 0) : Type 0 where
+  pub only : A → B
+  pub always : B → A
