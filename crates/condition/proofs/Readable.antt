@@ -7,6 +7,7 @@ use Prim.Native.Nat.{ℕ, _<_, _≤_}
 use native.Mathlib.Omega.{arith}
 use Rattle.basis.specs.Choice.{pick}
 use Rattle.basis.specs.Answer.{Answer, gives, refuses}
+use Rattle.value.specs.Refusals.{noField, wrongKind}
 use Rattle.value.specs.Kinds.{kindOf, okValue}
 use Rattle.instants.specs.Ticks.{utc}
 use Rattle.value.specs.declared.Kind.{Kind}
@@ -77,7 +78,7 @@ field-typed : (k : Kind) (line : List ℕ) (n : ℕ) → Typed (S.Of k) (valued 
 unfolding readField
 field-typed k line n = by (hasField line n)
   where
-    by : (b : Bool) → Typed (S.Of k) (valued (pick b (readAs k (fieldAt line n)) (refuses 6)))
+    by : (b : Bool) → Typed (S.Of k) (valued (pick b (readAs k (fieldAt line n)) (refuses noField)))
     by true = text-typed k (fieldAt line n)
     by false = refl
 
@@ -141,7 +142,7 @@ truth-left o (S.Of k) n = absurd (n refl)
 joined-truths : (o : Op) (z u : Bool) (y : Sort) → y ≡ S.Truth → (sortTwo o S.Truth y ≡ S.Clash → ⊥) → Typed (sortTwo o S.Truth y) (applied (roleOf o) (truth z) (truth u))
 joined-truths o z u y e n = subst (λ y. (sortTwo o S.Truth y ≡ S.Clash → ⊥) → Typed (sortTwo o S.Truth y) (applied (roleOf o) (truth z) (truth u))) (sym e) (λ m. by (joins (roleOf o)) m) n
   where
-    by : (b : Bool) → (pick b S.Truth S.Clash ≡ S.Clash → ⊥) → Typed (pick b S.Truth S.Clash) (pick b (gives (truth u)) (refuses 9))
+    by : (b : Bool) → (pick b S.Truth S.Clash ≡ S.Clash → ⊥) → Typed (pick b S.Truth S.Clash) (pick b (gives (truth u)) (refuses wrongKind))
     by true m = refl
     by false m = absurd (m refl)
 

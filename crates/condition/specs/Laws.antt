@@ -43,7 +43,7 @@ AcceptedByTree = (s : List ℕ) → accepted s ≡ true → AcceptedTree s
 
 -- a text that Open does not accept is refused with 7, 8, 9, or a literal's 1, 2 or 3; proved as `open-numbers`
 abbrev pub atOpen : ℕ → Bool
-atOpen n = pick (ofText n) true (pick (eqb n 7) true (pick (eqb n 8) true (eqb n 9)))
+atOpen n = pick (ofText n) true (pick (eqb n badCondition) true (pick (eqb n tooDeep) true (eqb n wrongKind)))
 
 abbrev pub OpenNumbers : Type 0
 OpenNumbers = (s : List ℕ) (n : ℕ) → checkOf s ≡ refuses n → atOpen n ≡ true

@@ -8,21 +8,22 @@ use borrow.Author.Tests.{eqb-true}
 use lib.Dec.{eqb}
 use Rattle.basis.specs.Choice.{pick}
 use Rattle.basis.specs.Answer.{refuses}
+use Rattle.value.specs.Refusals.{badText, beyondBounds, longFraction, badCondition, tooDeep, wrongKind}
 use Rattle.condition.specs.Condition.{checkOf}
 use Rattle.condition.specs.Laws.{atOpen}
 use Rattle.condition.proofs.OpenNumbers.{open-numbers}
 
-low : (n : ℕ) → atOpen n ≡ true → n ≤ 9
-low n h = by (eqb n 1) (eqb n 2) (eqb n 3) (eqb n 7) (eqb n 8) refl refl refl refl refl h
+low : (n : ℕ) → atOpen n ≡ true → n ≤ wrongKind
+low n h = by (eqb n badText) (eqb n beyondBounds) (eqb n longFraction) (eqb n badCondition) (eqb n tooDeep) refl refl refl refl refl h
   where
-    by : (a b c d f : Bool) → eqb n 1 ≡ a → eqb n 2 ≡ b → eqb n 3 ≡ c → eqb n 7 ≡ d → eqb n 8 ≡ f
-        → pick (pick a true (pick b true c)) true (pick d true (pick f true (eqb n 9))) ≡ true → n ≤ 9
-    by true b c d f p q r s u e = omega (arith, eqb-true n 1 p)
-    by false true c d f p q r s u e = omega (arith, eqb-true n 2 q)
-    by false false true d f p q r s u e = omega (arith, eqb-true n 3 r)
-    by false false false true f p q r s u e = omega (arith, eqb-true n 7 s)
-    by false false false false true p q r s u e = omega (arith, eqb-true n 8 u)
-    by false false false false false p q r s u e = omega (arith, eqb-true n 9 e)
+    by : (a b c d f : Bool) → eqb n badText ≡ a → eqb n beyondBounds ≡ b → eqb n longFraction ≡ c → eqb n badCondition ≡ d → eqb n tooDeep ≡ f
+        → pick (pick a true (pick b true c)) true (pick d true (pick f true (eqb n wrongKind))) ≡ true → n ≤ wrongKind
+    by true b c d f p q r s u e = omega (arith, eqb-true n badText p)
+    by false true c d f p q r s u e = omega (arith, eqb-true n beyondBounds q)
+    by false false true d f p q r s u e = omega (arith, eqb-true n longFraction r)
+    by false false false true f p q r s u e = omega (arith, eqb-true n badCondition s)
+    by false false false false true p q r s u e = omega (arith, eqb-true n tooDeep u)
+    by false false false false false p q r s u e = omega (arith, eqb-true n wrongKind e)
 
-pub own-low : (s : List ℕ) (n : ℕ) → checkOf s ≡ refuses n → n ≤ 9
+pub own-low : (s : List ℕ) (n : ℕ) → checkOf s ≡ refuses n → n ≤ wrongKind
 own-low s n e = low n (open-numbers s n e)

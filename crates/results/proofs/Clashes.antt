@@ -34,7 +34,7 @@ no-refusal v e = let z : _≡_ {A = ℕ} 0 1 = cc in omega arith
 
 fits-no-9 : (k : Kind) (r : Answer Value) → Fits k r → r ≡ refuses wrongKind → ⊥
 fits-no-9 k (gives v) f e = no-refusal v e
-fits-no-9 k (refuses n) f e = let q : n ≡ 9 = cc in omega arith
+fits-no-9 k (refuses n) f e = let q : n ≡ wrongKind = cc in omega arith
 
 -- by the sort that the kinds settle, and by a test of the kinds
 by-sort : (x : Sort) (r : Answer Value) → FitsSort x r → Exactly (x ≡ S.Clash) (r ≡ refuses wrongKind)

@@ -12,6 +12,7 @@ use Rattle.calendar.specs.declared.Date.{Date}
 use Rattle.calendar.specs.declared.Dated.{Dated}
 use Rattle.calendar.specs.declared.Dated.the-variants.{On, Later}
 use Rattle.calendar.specs.Calendar.{dayOf, datedOf}
+use Rattle.value.specs.Refusals.{badText, beyondBounds, longFraction, beyondResult, noField}
 use Rattle.value.specs.Bounds.{maxYear}
 use Rattle.value.specs.Kinds.{hasDate}
 use Rattle.value.specs.Values.{okDate}
@@ -33,9 +34,9 @@ pub use Rattle.results.specs.Numbers.{atLine}
 
 -- a number that a value's text can have is one that a line's result can have
 pub text-at-line : (n : ℕ) → ofText n ≡ true → atLine n ≡ true
-text-at-line n h = by (eqb n 1) (eqb n 2) (eqb n 3) h
+text-at-line n h = by (eqb n badText) (eqb n beyondBounds) (eqb n longFraction) h
   where
-    by : (a b c : Bool) → pick a true (pick b true c) ≡ true → pick a true (pick b true (pick c true (pick (eqb n 4) true (eqb n 6)))) ≡ true
+    by : (a b c : Bool) → pick a true (pick b true c) ≡ true → pick a true (pick b true (pick c true (pick (eqb n beyondResult) true (eqb n noField)))) ≡ true
     by true b c h = refl
     by false true c h = refl
     by false false true h = refl

@@ -3,11 +3,13 @@ use mathlib.Core.Bool.{Bool, true}
 use Prim.Native.Nat.{ℕ}
 use lib.Dec.{eqb}
 use Rattle.basis.specs.Choice.{pick}
+use Rattle.value.specs.Refusals.{badText, beyondBounds, longFraction, beyondResult, noField}
 
 -- 1 no shape, or bad calendar or clock; 2 beyond bounds; 3 over six fraction digits
 abbrev pub ofText : ℕ → Bool
-ofText n = pick (eqb n 1) true (pick (eqb n 2) true (eqb n 3))
+ofText n = pick (eqb n badText) true (pick (eqb n beyondBounds) true (eqb n longFraction))
 
 -- those of a field's text, 4 of arithmetic, and 6 where the line has too few fields
 abbrev pub atLine : ℕ → Bool
-atLine n = pick (eqb n 1) true (pick (eqb n 2) true (pick (eqb n 3) true (pick (eqb n 4) true (eqb n 6))))
+atLine n =
+    pick (eqb n badText) true (pick (eqb n beyondBounds) true (pick (eqb n longFraction) true (pick (eqb n beyondResult) true (eqb n noField))))
