@@ -9,8 +9,8 @@ use Rattle.value.specs.declared.Refusal.{Refusal}
 use Rattle.value.specs.declared.Outcome.{Outcome}
 use Rattle.value.specs.declared.Outcome.the-variants as OV
 use Rattle.replies.specs.declared.Reply.{Reply}
-use Rattle.replies.specs.Replies.{replyOf, refusedText}
-use Rattle.calls.specs.Answers.{said}
+use Rattle.replies.specs.Replies.{replyOf}
+use Rattle.calls.specs.Answers.{refusedText, said}
 
 -- the words of an answer that is known by another name
 pub renamed : {A : Type 0} (f : A → List ℕ) {a b : Answer A} {r : Reply} → a ≡ b → r ≡ replyOf (said f a) → r ≡ replyOf (said f b)

@@ -1,10 +1,11 @@
 -- docs/LINES.md, "The calculator": the answer to a line. What call it is stands first; "then each text is read, from the left;
 -- the first that does not read gives `refused` and its number. Then the call is made; a refusal gives `refused` and its number."
-use mathlib.Core.List.{List}
+use mathlib.Core.Bool.{false}
+use mathlib.Core.List.{List, _∷_, _++_}
 use Prim.Native.Nat.{ℕ}
 use Rattle.basis.specs.Answer.{Answer, gives, refuses}
 use Rattle.basis.specs.Letters.{bytes}
-use Rattle.timetable.specs.Fields.{fieldAt}
+use Rattle.timetable.specs.Fields.{tab, fieldAt}
 use Rattle.components.specs.Components.{componentsOf}
 use Rattle.value.specs.Refusals.{badCondition}
 use Rattle.instants.specs.Ticks.{utc}
@@ -16,7 +17,7 @@ use Rattle.arithmetic.specs.Sums.{plusOf, minusIn}
 use Rattle.arithmetic.specs.Products.{timesOf}
 use Rattle.casting.specs.Casts as casts
 use Rattle.adjusting.specs.Adjustment.{adjustOf, unzoneOf}
-use Rattle.replies.specs.Replies.{refusedText}
+use Rattle.replies.specs.Replies.{numberText}
 use Rattle.asking.specs.Asked.{hasMinus, magnitudeOf, formOf}
 use Rattle.replies.specs.Parts.{partsText}
 use Rattle.asking.specs.declared.One.{One}
@@ -25,6 +26,10 @@ use Rattle.asking.specs.declared.Two.{Two}
 use Rattle.asking.specs.declared.Two.the-variants as T
 use Rattle.asking.specs.declared.Form.{Form}
 use Rattle.asking.specs.declared.Form.the-variants as F
+
+-- `refused`, a tab and the number
+unfoldable pub refusedText : ℕ → List ℕ
+refusedText number = bytes "refused" ++ (tab ∷ numberText false number 0)
 
 -- what was answered, put into words by f; a refusal by its number
 abbrev pub said : {A : Type 0} → (A → List ℕ) → Answer A → List ℕ

@@ -17,12 +17,12 @@ ghost use Rattle.text.specs.Writing.{textOf};
 ghost use Rattle.components.specs.Components as components;
 ghost use Rattle.value.specs.Kinds as kinds;
 ghost use Rattle.ordering.specs.Order as order;
-ghost use Rattle.replies.specs.Replies.{replyOf, refusedText};
+ghost use Rattle.replies.specs.Replies.{replyOf};
 ghost use Rattle.replies.specs.Parts.{partsText};
 ghost use Rattle.calls.specs.Answers as the;
 
 pub fn refused(r: Refusal) -> Reply
-    ensures { λ s. ⌜ s ≡ replyOf (refusedText (r .number)) ⌝ }
+    ensures { λ s. ⌜ s ≡ replyOf (the.refusedText (r .number)) ⌝ }
 {
     with_number(nothing(), b"refused\t", false, r.number as u32, 0)
 }

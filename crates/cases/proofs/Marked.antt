@@ -18,7 +18,8 @@ use Rattle.value.specs.Values.{okDate, okOffset, okZone, okDateTime, okSigned}
 use Rattle.numerals.specs.Reading.{isDigit, number, fractionAt}
 use Rattle.numerals.specs.Writing.{digits, shortest, decimal, stripped, fractionText}
 use Rattle.scan.specs.Scanning.{pairAt, isPair, placed, fractionPart, zoneSigned, zonePart, fourZeros, yearAt, yearPart, partAt, scanned}
-use Rattle.judging.specs.Reading.{nextDay, okClock, isDayEnd, ticksOf, clocked, okParts, zoneIs, onCalendar, bounded, judge, readLayout}
+use Rattle.judging.specs.Reading.{nextDay, okClock, isDayEnd, ticksOf, clocked, okParts, zoneIs, onCalendar, bounded, judge}
+use Rattle.layouts.specs.Reading.{readLayout}
 use Rattle.layouts.specs.Writing.{pairOf, partText, textBy}
 use Rattle.durations.specs.Forms.{weight}
 use Rattle.durations.specs.Spelling.{shown, shownAll, left, body, textBy as textBy-of-durations}
@@ -32,9 +33,9 @@ use Rattle.ordering.specs.Order.{up, down, orderIn}
 use Rattle.arithmetic.specs.Sums.{sumOf, plusOf, lessMoment, differenceIn, minusIn}
 use Rattle.words.specs.Runs.{same}
 use Rattle.symbols.specs.Symbols.{named}
-use Rattle.calls.specs.Answers.{oneText, twoText, textBy as textBy-of-calls, answerOf}
+use Rattle.calls.specs.Answers.{refusedText, oneText, twoText, textBy as textBy-of-calls, answerOf}
 use Rattle.asking.specs.Asked.{exactly, oneOf, twoOf, pairBy, formBy, formOf}
-use Rattle.replies.specs.Replies.{numberText, refusedText}
+use Rattle.replies.specs.Replies.{numberText}
 use Rattle.cases.specs.Table.{Row, noRow, table, holds, tests, allHold}
 
 pub all-hold : allHold ≡ true

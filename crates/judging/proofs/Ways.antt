@@ -25,7 +25,7 @@ use Rattle.scan.specs.declared.Scan.{Scan}
 use Rattle.scan.specs.Scanning.{whole, partsOf}
 use Rattle.scan.specs.Carried.{capped}
 use Rattle.scan.proofs.Caps.{cut, parts-cut}
-use Rattle.judging.specs.Reading.{valued, placedOn, nextDay, okClock, isDayEnd, ticksOf, clocked, onCalendar, bounded, judge, readLayout}
+use Rattle.judging.specs.Reading.{valued, placedOn, nextDay, okClock, isDayEnd, ticksOf, clocked, onCalendar, bounded, judge}
 
 -- the day after
 module _ (k : Kind) (d : Date) (z : Zone) {b : Bool} (eb : b ≡ hasDate k) where
@@ -102,6 +102,5 @@ judged-cut k n t = λ i. pick (t .good) (pick (eqb (t .at) n) (bounded-cut (t .l
     bounded-cut : (long negative : Bool) (y : ℕ) → bounded long negative (capped y) (on (capped y)) ≡ bounded long negative y (on y)
     bounded-cut long negative y = years-cut long negative y on
 
-pub way : (k : Kind) (s : List ℕ) {t : Scan} → t ≡ partsOf capped k s → judge k (length s) t ≡ readLayout k s
-unfolding readLayout
+pub way : (k : Kind) (s : List ℕ) {t : Scan} → t ≡ partsOf capped k s → judge k (length s) t ≡ judge k (length s) (partsOf whole k s)
 way k s e = ap (judge k (length s)) (e ∙ parts-cut k s) ∙ judged-cut k (length s) (partsOf whole k s)

@@ -2,11 +2,10 @@
 -- `scan`); then the checks are made in document 01's order, across the whole text. Each check hands on to the next, so that
 -- they stand here from the last to the first; `judge` is where they begin.
 use mathlib.Core.Bool.{Bool}
-use mathlib.Core.List.{List, [], _∷_}
+use mathlib.Core.List.{[], _∷_}
 use Prim.Native.Nat.{ℕ, _+_, _*_}
 use Prim.Native.Char.{code}
 use lib.Dec.{eqb, leb}
-use lib.ListN.{length}
 use Rattle.basis.specs.Choice.{pick, every}
 use Rattle.basis.specs.Answer.{Answer, gives, refuses}
 use Rattle.calendar.specs.Calendar.{dayOf, datedOf}
@@ -27,7 +26,6 @@ use Rattle.value.specs.declared.Kind.the-variants as KV
 use Rattle.value.specs.declared.Value.{Value}
 use Rattle.value.specs.declared.Value.the-variants as VV
 use Rattle.scan.specs.declared.Scan.{Scan}
-use Rattle.scan.specs.Scanning.{whole, partsOf}
 
 -- A record as a value of a kind. The durations are no such records and have no layout: no text has their shape here.
 abbrev pub valued : Kind → DateTime → Answer Value
@@ -100,6 +98,3 @@ judge k n t =
     (onCalendar k (record { year = t .year; month = t .month; day = t .day }) (t .hour) (t .minute) (t .second) (t .part) (t .sign) (t .zh) (t .zm)))
     (refuses badText))
     (refuses badText)
-
-unfoldable pub readLayout : Kind → List ℕ → Answer Value
-readLayout k s = judge k (length s) (partsOf whole k s)

@@ -14,7 +14,8 @@ use Rattle.value.specs.declared.Value.the-variants as VV
 use Rattle.numerals.specs.Reading.{isDigit, number, fractionAt}
 use Rattle.numerals.specs.Writing.{digits, stripped, fractionText}
 use Rattle.scan.specs.Scanning.{whole, pairAt, fourZeros, yearAt, yearPart, fractionPart, zonePart, zoneSigned, isPair, placed, partAt, scanned, partsOf}
-use Rattle.judging.specs.Reading.{readLayout, judge, bounded, onCalendar, okParts, zoneIs, clocked, okClock, isDayEnd, ticksOf, nextDay}
+use Rattle.judging.specs.Reading.{judge, bounded, onCalendar, okParts, zoneIs, clocked, okClock, isDayEnd, ticksOf, nextDay}
+use Rattle.layouts.specs.Reading.{readLayout}
 use Rattle.layouts.specs.Writing.{textOf, textBy, partText, pairOf}
 
 -- A year is not 0, and has as many digits as it likes.

@@ -28,7 +28,8 @@ use Rattle.value.proofs.KindParts.{of-kind-kept}
 use Rattle.numerals.specs.Reading.{isDigit}
 use Rattle.scan.specs.declared.Scan.{Scan}
 use Rattle.scan.specs.Scanning.{isPair, placed, withFraction, layout, startOf, scanned}
-use Rattle.judging.specs.Reading.{valued, ticksOf, zoneIs, offsetIs, readLayout, judge, bounded, onCalendar, okParts, clocked, okClock}
+use Rattle.judging.specs.Reading.{valued, ticksOf, zoneIs, offsetIs, judge, bounded, onCalendar, okParts, clocked, okClock}
+use Rattle.layouts.specs.Reading.{readLayout}
 use Rattle.layouts.specs.Writing.{pairOf, partText, textOf}
 use Rattle.layouts.proofs.Keeping.{zoneKept, partKept, allKept, recordOf, sane, follows, quietHead, isNil, small}
 use Rattle.layouts.proofs.Trip.{Sound, round-from}

@@ -18,7 +18,8 @@ use Rattle.scan.specs.declared.Scan.{Scan}
 use Rattle.scan.specs.declared.Pair.{Pair}
 use Rattle.scan.specs.Scanning.{whole, isPair, placed, layout, startOf, partsOf}
 use Rattle.scan.proofs.Lasting.{Leaves, Everywhere, ended, letter, lasts}
-use Rattle.judging.specs.Reading.{ticksOf, bounded, judge, readLayout}
+use Rattle.judging.specs.Reading.{ticksOf, bounded, judge}
+use Rattle.layouts.specs.Reading.{readLayout}
 use Rattle.layouts.proofs.Valid.{Valid, Fine, Suits, fine-refusal, fine-pick, fine-on-calendar}
 
 never : false ≡ true → ⊥

@@ -5,8 +5,9 @@ use value::Kind;
 use value::Outcome;
 ghost use mathlib.Core.Path.{_≡_};
 ghost use Rattle.value.specs.Kinds.{meaning};
-ghost use Rattle.judging.specs.Reading.{readLayout};
-ghost use Rattle.layouts.specs.Writing.{textOf, Holds};
+ghost use Rattle.numerals.specs.Writing.{Holds};
+ghost use Rattle.layouts.specs.Reading.{readLayout};
+ghost use Rattle.layouts.specs.Writing.{textOf};
 
 mod writing; // writing.rt: the parts of a record as text
 

@@ -23,7 +23,8 @@ use Rattle.value.specs.declared.Kind.the-variants as K
 use Rattle.value.specs.declared.Value.{Value}
 use Rattle.scan.specs.declared.Scan.{Scan}
 use Rattle.scan.specs.Scanning.{whole, partsOf}
-use Rattle.judging.specs.Reading as layouts
+use Rattle.judging.specs.Reading as judging
+use Rattle.layouts.specs.Reading.{readLayout}
 use Rattle.durations.specs.Walks.{counted, readBy, shape, asValue}
 use Rattle.durations.specs.Forms.{Form, dayTime, yearMonth}
 use Rattle.durations.specs.declared.Shape.{Shape}
@@ -51,31 +52,31 @@ only-either : {A : Type 0} (b : Bool) (x y : Answer A) → Only x → Only y →
 only-either true x y p q = p
 only-either false x y p q = q
 
-valued-only : (k : Kind) (d : DateTime) → Only (layouts.valued k d)
+valued-only : (k : Kind) (d : DateTime) → Only (judging.valued k d)
 valued-only K.Date d = tt
 valued-only K.Time d = tt
 valued-only K.DateTime d = tt
 valued-only K.DayTimeDuration d = refl
 valued-only K.YearMonthDuration d = refl
 
-start-only : (k : Kind) (z : Zone) (d : Dated) → Only (layouts.startOfDay k z d)
-start-only k z (On d) = valued-only k (layouts.placedOn d 0 z)
+start-only : (k : Kind) (z : Zone) (d : Dated) → Only (judging.startOfDay k z d)
+start-only k z (On d) = valued-only k (judging.placedOn d 0 z)
 start-only k z Later = refl
 
-next-only : (k : Kind) (d : Date) (z : Zone) → Only (layouts.nextDay k d z)
-unfolding layouts.nextDay
-next-only k d z = only-either (hasDate k) _ _ (start-only k z (datedOf (dayOf d + 1) maxYear)) (valued-only k (layouts.placedOn d 0 z))
+next-only : (k : Kind) (d : Date) (z : Zone) → Only (judging.nextDay k d z)
+unfolding judging.nextDay
+next-only k d z = only-either (hasDate k) _ _ (start-only k z (datedOf (dayOf d + 1) maxYear)) (valued-only k (judging.placedOn d 0 z))
 
-clocked-only : (k : Kind) (d : Date) (h m s u : ℕ) (z : Zone) → Only (layouts.clocked k d h m s u z)
-unfolding layouts.clocked
-clocked-only k d h m s u z = only-either (layouts.okClock h m s) _ _ (valued-only k (layouts.placedOn d (layouts.ticksOf h m s u) z))
-    (only-either (layouts.isDayEnd h m s u) _ _ (next-only k d z) refl)
+clocked-only : (k : Kind) (d : Date) (h m s u : ℕ) (z : Zone) → Only (judging.clocked k d h m s u z)
+unfolding judging.clocked
+clocked-only k d h m s u z = only-either (judging.okClock h m s) _ _ (valued-only k (judging.placedOn d (judging.ticksOf h m s u) z))
+    (only-either (judging.isDayEnd h m s u) _ _ (next-only k d z) refl)
 
-judge-only : (k : Kind) (n : ℕ) (t : Scan) → Only (layouts.judge k n t)
-unfolding layouts.judge layouts.bounded layouts.onCalendar
+judge-only : (k : Kind) (n : ℕ) (t : Scan) → Only (judging.judge k n t)
+unfolding judging.judge judging.bounded judging.onCalendar
 judge-only k n t = only-either (t .good) _ _ (only-either (eqb (t .at) n) _ _
     (only-either (t .long) _ _ refl (only-either (t .negative) _ _ refl (only-either (leb (t .year) maxYear) _ _
-    (only-either (okDate (t .year) (t .month) (t .day)) _ _ (only-either (layouts.okParts (t .zh) (t .zm)) _ _ (clocked-only k (record { year = t .year; month = t .month; day = t .day }) (t .hour) (t .minute) (t .second) (t .part) (layouts.zoneIs (t .sign) (t .zh * 60 + t .zm))) refl) refl) refl))) refl) refl
+    (only-either (okDate (t .year) (t .month) (t .day)) _ _ (only-either (judging.okParts (t .zh) (t .zm)) _ _ (clocked-only k (record { year = t .year; month = t .month; day = t .day }) (t .hour) (t .minute) (t .second) (t .part) (judging.zoneIs (t .sign) (t .zh * 60 + t .zm))) refl) refl) refl))) refl) refl
 
 counted-only : (unit most : ℕ) (t : Shape) → Only (counted unit most t)
 unfolding counted
@@ -90,7 +91,7 @@ unfolding readBy
 read-by-only f s = counted-only (f .unit) (f .most) (shape (f .before) (f .after) s)
 
 pub read-only : (k : Kind) (s : List ℕ) → Only (readAs k s)
-unfolding readAs layouts.readLayout
+unfolding readAs readLayout
 read-only K.Date s = judge-only K.Date (length s) (partsOf whole K.Date s)
 read-only K.Time s = judge-only K.Time (length s) (partsOf whole K.Time s)
 read-only K.DateTime s = judge-only K.DateTime (length s) (partsOf whole K.DateTime s)

@@ -23,7 +23,8 @@ use Rattle.value.specs.declared.Value.{Value}
 use Rattle.value.proofs.Numbers.{among, only, only-either, only-refused}
 use Rattle.scan.specs.declared.Scan.{Scan}
 use Rattle.scan.specs.Scanning.{whole, partsOf}
-use Rattle.judging.specs.Reading as layouts
+use Rattle.judging.specs.Reading as judging
+use Rattle.layouts.specs.Reading.{readLayout}
 use Rattle.durations.specs.Walks.{counted, readBy, shape, asValue}
 use Rattle.durations.specs.Forms.{Form, dayTime, yearMonth}
 use Rattle.durations.specs.declared.Shape.{Shape}
@@ -44,39 +45,39 @@ either : {A : Type 0} (b : Bool) (x y : Answer A) → Reads x → Reads y → Re
 either b x y p q = only-either readingNumbers b x y p q
 
 -- dates, times and dateTimes
-valued-numbers : (k : Kind) (d : DateTime) → Reads (layouts.valued k d)
+valued-numbers : (k : Kind) (d : DateTime) → Reads (judging.valued k d)
 valued-numbers KV.Date d = refl
 valued-numbers KV.Time d = refl
 valued-numbers KV.DateTime d = refl
 valued-numbers KV.DayTimeDuration d = refl
 valued-numbers KV.YearMonthDuration d = refl
 
-start-numbers : (k : Kind) (z : Zone) (d : Dated) → Reads (layouts.startOfDay k z d)
-start-numbers k z (On d) = valued-numbers k (layouts.placedOn d 0 z)
+start-numbers : (k : Kind) (z : Zone) (d : Dated) → Reads (judging.startOfDay k z d)
+start-numbers k z (On d) = valued-numbers k (judging.placedOn d 0 z)
 start-numbers k z Later = refl
 
-next-numbers : (k : Kind) (d : Date) (z : Zone) → Reads (layouts.nextDay k d z)
-unfolding layouts.nextDay
-next-numbers k d z = either (hasDate k) _ _ (start-numbers k z (datedOf (dayOf d + 1) maxYear)) (valued-numbers k (layouts.placedOn d 0 z))
+next-numbers : (k : Kind) (d : Date) (z : Zone) → Reads (judging.nextDay k d z)
+unfolding judging.nextDay
+next-numbers k d z = either (hasDate k) _ _ (start-numbers k z (datedOf (dayOf d + 1) maxYear)) (valued-numbers k (judging.placedOn d 0 z))
 
-clocked-numbers : (k : Kind) (d : Date) (h m s u : ℕ) (z : Zone) → Reads (layouts.clocked k d h m s u z)
-unfolding layouts.clocked
+clocked-numbers : (k : Kind) (d : Date) (h m s u : ℕ) (z : Zone) → Reads (judging.clocked k d h m s u z)
+unfolding judging.clocked
 clocked-numbers k d h m s u z =
-    either (layouts.okClock h m s) _ _ (valued-numbers k (layouts.placedOn d (layouts.ticksOf h m s u) z))
-    (either (layouts.isDayEnd h m s u) _ _ (next-numbers k d z) refl)
+    either (judging.okClock h m s) _ _ (valued-numbers k (judging.placedOn d (judging.ticksOf h m s u) z))
+    (either (judging.isDayEnd h m s u) _ _ (next-numbers k d z) refl)
 
-calendar-numbers : (k : Kind) (d : Date) (h m s u sign zh zm : ℕ) → Reads (layouts.onCalendar k d h m s u sign zh zm)
-unfolding layouts.onCalendar
+calendar-numbers : (k : Kind) (d : Date) (h m s u sign zh zm : ℕ) → Reads (judging.onCalendar k d h m s u sign zh zm)
+unfolding judging.onCalendar
 calendar-numbers k d h m s u sign zh zm =
     either (okDate (d .year) (d .month) (d .day)) _ _
-    (either (layouts.okParts zh zm) _ _ (clocked-numbers k d h m s u (layouts.zoneIs sign (zh * 60 + zm))) refl) refl
+    (either (judging.okParts zh zm) _ _ (clocked-numbers k d h m s u (judging.zoneIs sign (zh * 60 + zm))) refl) refl
 
-bounded-numbers : (long negative : Bool) (year : ℕ) (rest : Answer Value) → Reads rest → Reads (layouts.bounded long negative year rest)
-unfolding layouts.bounded
+bounded-numbers : (long negative : Bool) (year : ℕ) (rest : Answer Value) → Reads rest → Reads (judging.bounded long negative year rest)
+unfolding judging.bounded
 bounded-numbers long negative year rest h = either long _ _ refl (either negative _ _ refl (either (leb year maxYear) _ _ h refl))
 
-judge-numbers : (k : Kind) (n : ℕ) (t : Scan) → Reads (layouts.judge k n t)
-unfolding layouts.judge
+judge-numbers : (k : Kind) (n : ℕ) (t : Scan) → Reads (judging.judge k n t)
+unfolding judging.judge
 judge-numbers k n t =
     either (t .good) _ _
     (either (eqb (t .at) n) _ _ (bounded-numbers (t .long) (t .negative) (t .year) _
@@ -96,7 +97,7 @@ unfolding readBy
 duration-numbers f s = counted-numbers (f .unit) (f .most) (shape (f .before) (f .after) s)
 
 read-numbers : (k : Kind) (s : List ℕ) → Reads (readAs k s)
-unfolding readAs layouts.readLayout
+unfolding readAs readLayout
 read-numbers KV.Date s = judge-numbers KV.Date (length s) (partsOf whole KV.Date s)
 read-numbers KV.Time s = judge-numbers KV.Time (length s) (partsOf whole KV.Time s)
 read-numbers KV.DateTime s = judge-numbers KV.DateTime (length s) (partsOf whole KV.DateTime s)

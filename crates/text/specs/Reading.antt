@@ -6,7 +6,7 @@ use Rattle.basis.specs.Answer.{Answer}
 use Rattle.value.specs.declared.Kind.{Kind}
 use Rattle.value.specs.declared.Kind.the-variants as KV
 use Rattle.value.specs.declared.Value.{Value}
-use Rattle.judging.specs.Reading.{readLayout}
+use Rattle.layouts.specs.Reading.{readLayout}
 use Rattle.durations.specs.Walks.{readDayTime, readYearMonth}
 
 unfoldable pub readAs : Kind → List ℕ → Answer Value

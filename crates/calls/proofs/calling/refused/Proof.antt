@@ -1,4 +1,4 @@
-use Rattle.replies.specs.Replies.{refusedText}
+use Rattle.calls.specs.Answers.{refusedText}
 use Rattle.replies.proofs.Growing.{of-nothing}
 use borrow.Author.Needs.{needs}
 use Rattle.calls.proofs.calling.refused.Statement.{statement}
