@@ -2,7 +2,8 @@
 use mathlib.Core.Path.{_≡_, refl, sym, ap, _∙_}
 use mathlib.Core.Bool.{Bool, true, false, not}
 use mathlib.Core.List.{List, [], _∷_}
-use Prim.Native.Nat.{ℕ, _+_, _-_, _<_, _≤_, _^_, min}
+use Prim.Native.Nat.{ℕ, _+_, _-_, _*_, _<_, _≤_, _^_, min}
+use Prim.Native.Char.{code}
 use native.Mathlib.Omega.{arith}
 use lib.Dec.{leb, ltb, eqb}
 use lib.ListN.{length, getD}
@@ -154,8 +155,8 @@ module _ (s : List ℕ) (from to : ℕ) (e : to ≡ runEnd Unquoted s from) wher
   unfolding the.textFrom
   text-not h = rw (← e, le-ltb _ _ h)
 
-module _ (s : List ℕ) (from : ℕ) (r : Run) (f : Found s (from + 1) 17 r) (x : ℕ) (q : x ≡ getD s (from + 1) 0) where
-  pub field-zero : x ≡ 48 → H.Bad ≡ the.fieldFrom s from
+module _ (s : List ℕ) (from : ℕ) (r : Run) (f : Found s (from + 1) (the.maxField + 1) r) (x : ℕ) (q : x ≡ getD s (from + 1) 0) where
+  pub field-zero : x ≡ code "0" → H.Bad ≡ the.fieldFrom s from
   unfolding the.fieldFrom the.fieldOf
   field-zero h = rw (eq-eqb _ _ (sym q ∙ h))
 
@@ -164,20 +165,20 @@ module _ (s : List ℕ) (from : ℕ) (r : Run) (f : Found s (from + 1) 17 r) (x 
     unfolding the.fieldFrom the.fieldOf
     field-none h = let k : run s (from + 1) .value < 1 = omega (arith, f .capped) in rw (ne-eqb _ _ (λ k. n (q ∙ k)), lt-leb _ _ k)
 
-    pub field-beyond : 1 ≤ r .value → 16 < r .value → H.Bad ≡ the.fieldFrom s from
+    pub field-beyond : 1 ≤ r .value → the.maxField < r .value → H.Bad ≡ the.fieldFrom s from
     unfolding the.fieldFrom the.fieldOf
-    field-beyond g h = let k : 16 < run s (from + 1) .value = omega (arith, f .capped) in
+    field-beyond g h = let k : the.maxField < run s (from + 1) .value = omega (arith, f .capped) in
         let j : 1 ≤ run s (from + 1) .value = omega arith in
         rw (ne-eqb _ _ (λ k. n (q ∙ k)), le-leb _ _ j, lt-leb _ _ k)
 
-    pub field-is : 1 ≤ r .value → r .value ≤ 16 → H.Field (r .value) from (r .end) ≡ the.fieldFrom s from
+    pub field-is : 1 ≤ r .value → r .value ≤ the.maxField → H.Field (r .value) from (r .end) ≡ the.fieldFrom s from
     unfolding the.fieldFrom the.fieldOf
     field-is g h = let k : r .value ≡ run s (from + 1) .value = omega (arith, f .capped) in
-        let i : run s (from + 1) .value ≤ 16 = omega arith in
+        let i : run s (from + 1) .value ≤ the.maxField = omega arith in
         let j : 1 ≤ run s (from + 1) .value = omega arith in
         rw (ne-eqb _ _ (λ k. n (q ∙ k)), le-leb _ _ j, le-leb _ _ i, k, f .ends)
 
-module _ (s : List ℕ) (negative : Bool) (from at : ℕ) (r : Run) (f : Found s at 1000000 r) where
+module _ (s : List ℕ) (negative : Bool) (from at cap : ℕ) (e : cap ≡ 1 * 10 ^ the.maxDigits) (r : Run) (f : Found s at cap r) where
   pub whole-from : at ≤ r .end
   whole-from = omega (arith, f .ends)
 
@@ -185,19 +186,19 @@ module _ (s : List ℕ) (negative : Bool) (from at : ℕ) (r : Run) (f : Found s
   unfolding the.wholeOf
   whole-none h = let k : run s at .count < 1 = omega (arith, f .ends) in rw (lt-leb _ _ k)
 
-  pub whole-long : 1 ≤ r .end - at → 6 < r .end - at → T.Bad ≡ the.wholeOf negative from at (run s at)
+  pub whole-long : 1 ≤ r .end - at → the.maxDigits < r .end - at → T.Bad ≡ the.wholeOf negative from at (run s at)
   unfolding the.wholeOf
-  whole-long g h = let k : 6 < run s at .count = omega (arith, f .ends) in let j : 1 ≤ run s at .count = omega arith in
+  whole-long g h = let k : the.maxDigits < run s at .count = omega (arith, f .ends) in let j : 1 ≤ run s at .count = omega arith in
       rw (le-leb _ _ j, lt-leb _ _ k)
 
-  whole-small : r .end - at ≤ 6 → run s at .value < 1000000
-  whole-small h = widened (run s at .value) (run s at .count) 6 (omega (arith, f .ends)) (run-lt s at)
+  whole-small : r .end - at ≤ the.maxDigits → run s at .value < 10 ^ the.maxDigits
+  whole-small h = widened (run s at .value) (run s at .count) the.maxDigits (omega (arith, f .ends)) (run-lt s at)
 
-  pub whole-fits : r .end - at ≤ 6 → r .value < 4294967296
+  pub whole-fits : r .end - at ≤ the.maxDigits → r .value < 2 ^ 32
   whole-fits h = omega (arith, f .capped)
 
-  pub whole-is : 1 ≤ r .end - at → r .end - at ≤ 6 → T.At negative (r .value) from (r .end) ≡ the.wholeOf negative from at (run s at)
+  pub whole-is : 1 ≤ r .end - at → r .end - at ≤ the.maxDigits → T.At negative (r .value) from (r .end) ≡ the.wholeOf negative from at (run s at)
   unfolding the.wholeOf
-  whole-is g h = let k : run s at .count ≤ 6 = omega (arith, f .ends) in let j : 1 ≤ run s at .count = omega (arith, f .ends) in
+  whole-is g h = let k : run s at .count ≤ the.maxDigits = omega (arith, f .ends) in let j : 1 ≤ run s at .count = omega (arith, f .ends) in
       let v : r .value ≡ run s at .value = omega (arith, f .capped, whole-small h) in
       rw (le-leb _ _ j, le-leb _ _ k, v, f .ends)

@@ -1,6 +1,7 @@
 // The symbols of a condition's text: which one stands at a place, after any spaces (document 01, "Conditions").
 use numerals::byte;
 use numerals::digits;
+use numerals::raised;
 use value::Kind;
 use words::Class;
 use words::run_end;
@@ -75,10 +76,8 @@ pub enum Multiplier {
 // The last field that a condition may name.
 const MAX_FIELD: u64 = 16;
 
-// A whole number has at most so many digits, and so is below the power of ten.
+// A whole number has at most so many digits.
 const MAX_DIGITS: usize = 6;
-
-const BEYOND_DIGITS: u64 = 1_000_000;
 
 // The place after one byte other than 0.
 fn after_byte(s: &[u8], at: usize, b: u8) -> Mark
@@ -271,7 +270,7 @@ fn whole(s: &[u8], negative: bool, from: usize, at: usize) -> Multiplier
     requires { ⌜ at ≤ length (now s) ⌝ }
     ensures { λ r. ⌜ r ≡ the.wholeOf negative from at (run (now (s .entry)) at) ⌝ }
 {
-    let n = digits(s, at, BEYOND_DIGITS);
+    let n = digits(s, at, raised(1, MAX_DIGITS));
     let end = n.end;
     if end - at < 1 {
         return Multiplier::Bad;

@@ -5,6 +5,10 @@ use Rattle.symbols.proofs.whole.Tie as tie
 use Rattle.symbols.proofs.whole.Reads as reads
 use Rattle.symbols.proofs.whole.Lts as lts
 use Rattle.numerals.proofs.digits.Reads as digits-reads
+use Rattle.numerals.proofs.raised.Reads as raised-reads
+
+raised-requires : tie.Need-raised-requires
+raised-requires c κs = search needs
 
 digits-requires : tie.Need-digits-requires
 digits-requires c κs = search needs
@@ -21,12 +25,12 @@ sub-if2 c = search whole-from
 returns-2 : tie.Need-returns-2
 returns-2 c = search whole-long
 
-cast-t9 : tie.Need-cast-t9
-cast-t9 c = search whole-fits
+cast-t10 : tie.Need-cast-t10
+cast-t10 c = search whole-fits
 
 returns-3 : tie.Need-returns-3
 returns-3 c = search whole-is
 
 pub whole-spec : {M : Type 1} → statement M
 whole-spec =
-    tie.close (tie.spec digits-requires sub-if1 returns sub-if2 returns-2 cast-t9 returns-3)
+    tie.close (tie.spec raised-requires digits-requires sub-if1 returns sub-if2 returns-2 cast-t10 returns-3)
