@@ -4,6 +4,7 @@ use mathlib.Core.Path.{_≡_, refl, ap, sym, _∙_}
 use mathlib.Core.Bool.{Bool, true, false}
 use mathlib.Core.List.{List}
 use Prim.Native.Nat.{ℕ, _≤_, _<_, min}
+use Prim.Native.Char.{code}
 use native.Mathlib.Omega.{arith}
 use lib.Dec.{eqb, leb}
 use lib.ListN.{length}
@@ -37,22 +38,22 @@ module _ (s : List ℕ) (i : ℕ) (r : Run) (f : Found s i beyond r) where
 
 -- what stands after the sign
 module _ (s : List ℕ) {b : ℕ} (e : b ≡ at s 0) where
-  pub after-minus : b ≡ 45 → 1 ≤ length s
-  after-minus h = within s 0 45 (sym e ∙ h) (omega arith)
+  pub after-minus : b ≡ code "-" → 1 ≤ length s
+  after-minus h = within s 0 (code "-") (sym e ∙ h) (omega arith)
 
   module _ {good negative : Bool} {magnitude : ℕ} where
-    pub with-minus : b ≡ 45 → (good ≡ digitsFrom s 1) × (negative ≡ true) × (magnitude ≡ min beyond (run s 1 .value))
+    pub with-minus : b ≡ code "-" → (good ≡ digitsFrom s 1) × (negative ≡ true) × (magnitude ≡ min beyond (run s 1 .value))
         → (good ≡ isWhole s) × (negative ≡ hasMinus s) × (magnitude ≡ min beyond (magnitudeOf s))
     unfolding isWhole magnitudeOf
     with-minus h r =
-        let m : hasMinus s ≡ true = eq-eqb (at s 0) 45 (sym e ∙ h) in
+        let m : hasMinus s ≡ true = eq-eqb (at s 0) (code "-") (sym e ∙ h) in
         (r .0 ∙ sym (λ i. digitsFrom s (pick (m i) 1 0)), r .1 ∙ sym m, r .2 ∙ sym (λ i. min beyond (run s (pick (m i) 1 0) .value)))
 
-    pub without : (b ≡ 45 → ⊥) → (good ≡ digitsFrom s 0) × (negative ≡ false) × (magnitude ≡ min beyond (run s 0 .value))
+    pub without : (b ≡ code "-" → ⊥) → (good ≡ digitsFrom s 0) × (negative ≡ false) × (magnitude ≡ min beyond (run s 0 .value))
         → (good ≡ isWhole s) × (negative ≡ hasMinus s) × (magnitude ≡ min beyond (magnitudeOf s))
     unfolding isWhole magnitudeOf
     without h r =
-        let m : hasMinus s ≡ false = ne-eqb (at s 0) 45 (λ q. h (e ∙ q)) in
+        let m : hasMinus s ≡ false = ne-eqb (at s 0) (code "-") (λ q. h (e ∙ q)) in
         (r .0 ∙ sym (λ i. digitsFrom s (pick (m i) 1 0)), r .1 ∙ sym m, r .2 ∙ sym (λ i. min beyond (run s (pick (m i) 1 0) .value)))
 
 -- a number that is kept short is refused where the number is

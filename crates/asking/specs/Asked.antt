@@ -3,6 +3,7 @@
 use mathlib.Core.Bool.{Bool, false}
 use mathlib.Core.List.{List}
 use Prim.Native.Nat.{ℕ, _+_}
+use Prim.Native.Char.{code}
 use lib.Dec.{eqb}
 use lib.ListN.{length}
 use Rattle.basis.specs.Choice.{pick}
@@ -26,7 +27,7 @@ exactly line n = eqb (length (fieldsOf line)) n
 
 -- N: "an optional minus and one or more digits, any number of them (leading zeros are good)"
 abbrev pub hasMinus : List ℕ → Bool
-hasMinus s = eqb (at s 0) 45
+hasMinus s = eqb (at s 0) (code "-")
 
 -- where the digits begin
 abbrev pub digitsAt : List ℕ → ℕ

@@ -3,15 +3,16 @@
 use mathlib.Core.Bool.{Bool, true, false, not}
 use mathlib.Core.List.{List, [], _∷_}
 use Prim.Native.Nat.{ℕ, _+_, _-_}
+use Prim.Native.Char.{code}
 use lib.Dec.{ltb, eqb}
 use Rattle.basis.specs.Choice.{pick}
 use Rattle.words.specs.Runs.{quote}
 
 abbrev pub opening : ℕ
-opening = 40
+opening = code "("
 
 abbrev pub closing : ℕ
-closing = 41
+closing = code ")"
 
 abbrev pub maxDepth : ℕ
 maxDepth = 16

@@ -19,7 +19,7 @@ use Rattle.numerals.specs.Writing.{Holds, Added, decimal, fractionText, longest
 use Rattle.numerals.proofs.Decimals.{decimal-le}
 use Rattle.numerals.proofs.Fractions.{fraction-short, no-fraction}
 use Rattle.durations.specs.declared.Amount.{Amount}
-use Rattle.durations.specs.Forms.{Form, weight, seconds, dayTime, yearMonth, timeMark}
+use Rattle.durations.specs.Forms.{Form, years, days, hours, minutes, seconds, weight, dayTime, yearMonth, timeMark}
 use Rattle.durations.specs.Spelling.{fractionIn, shown, shownAll, left, afterMark, body, spelt, textBy, dayTimeText, yearMonthText}
 use Rattle.durations.proofs.Written.{body-length}
 
@@ -51,12 +51,12 @@ after-short after n ticks k h = go (eqb (n + ticks) 0)
 time-short : (n ticks : ℕ) → n < 86400 → length (shownAll true (dayTime .after) n ticks) ≤ 16
 unfolding shownAll weight both
 time-short n ticks h =
-    let a = plain-short 2 72 (n / 3600) ticks (omega arith) (omega arith) (λ e. omega arith) in
-    let b = plain-short 2 77 (n % 3600 / 60) ticks (omega arith) (omega arith) (λ e. omega arith) in
+    let a = plain-short 2 hours (n / 3600) ticks (omega arith) (omega arith) (λ e. omega arith) in
+    let b = plain-short 2 minutes (n % 3600 / 60) ticks (omega arith) (omega arith) (λ e. omega arith) in
     let c = seconds-short 2 (n % 3600 % 60 / 1) ticks (omega arith) (omega arith) in
-    let x : List ℕ = shown 83 (n % 3600 % 60 / 1) ticks ++ [] in
-    let e : shownAll true (dayTime .after) n ticks ≡ shown 72 (n / 3600) ticks ++ (shown 77 (n % 3600 / 60) ticks ++ x) = refl in
-    omega (arith, ap length e, length-append (shown 72 (n / 3600) ticks) (shown 77 (n % 3600 / 60) ticks ++ x), length-append (shown 77 (n % 3600 / 60) ticks) x, length-append (shown 83 (n % 3600 % 60 / 1) ticks) [])
+    let x : List ℕ = shown seconds (n % 3600 % 60 / 1) ticks ++ [] in
+    let e : shownAll true (dayTime .after) n ticks ≡ shown hours (n / 3600) ticks ++ (shown minutes (n % 3600 / 60) ticks ++ x) = refl in
+    omega (arith, ap length e, length-append (shown hours (n / 3600) ticks) (shown minutes (n % 3600 / 60) ticks ++ x), length-append (shown minutes (n % 3600 / 60) ticks) x, length-append (shown seconds (n % 3600 % 60 / 1) ticks) [])
 
 -- of any number that a machine holds
 pub day-time-short : (n : ℕ) → n < 2 ^ 64 → 1 + length (body (dayTime .before) (dayTime .after) (n / secondTicks) (n % secondTicks)) ≤ longest
@@ -64,20 +64,20 @@ unfolding shownAll left weight
 day-time-short n h =
     let s : ℕ = n / 1000000 in
     let u : ℕ = n % 1000000 in
-    let a = plain-short 9 68 (s / 86400) u (omega arith) (omega arith) (λ e. omega arith) in
+    let a = plain-short 9 days (s / 86400) u (omega arith) (omega arith) (λ e. omega arith) in
     let b = after-short (dayTime .after) (s % 86400) u 16 (time-short (s % 86400) u (omega arith)) in
-    let e : shownAll false (dayTime .before) s u ≡ shown 68 (s / 86400) u ++ [] = refl in
+    let e : shownAll false (dayTime .before) s u ≡ shown days (s / 86400) u ++ [] = refl in
     let f : left false (dayTime .before) s ≡ s % 86400 = refl in
-    omega (arith, ap length e, f, body-length (dayTime .before) (dayTime .after) s u, length-append (shown 68 (s / 86400) u) [])
+    omega (arith, ap length e, f, body-length (dayTime .before) (dayTime .after) s u, length-append (shown days (s / 86400) u) [])
 
 pub year-month-short : (n : ℕ) → n < 2 ^ 32 → 1 + length (body (yearMonth .before) (yearMonth .after) n 0) ≤ longest
 unfolding shownAll left weight both
 year-month-short n h =
-    let a = plain-short 9 89 (n / 12) 0 (omega arith) (omega arith) (λ e. omega arith) in
-    let b = plain-short 2 77 (n % 12 / 1) 0 (omega arith) (omega arith) (λ e. omega arith) in
+    let a = plain-short 9 years (n / 12) 0 (omega arith) (omega arith) (λ e. omega arith) in
+    let b = plain-short 2 minutes (n % 12 / 1) 0 (omega arith) (omega arith) (λ e. omega arith) in
     let c = after-short (yearMonth .after) (n % 12 % 1) 0 0 (omega arith) in
-    let e : shownAll false (yearMonth .before) n 0 ≡ shown 89 (n / 12) 0 ++ (shown 77 (n % 12 / 1) 0 ++ []) = refl in
-    omega (arith, ap length e, body-length (yearMonth .before) (yearMonth .after) n 0, length-append (shown 89 (n / 12) 0) (shown 77 (n % 12 / 1) 0 ++ []), length-append (shown 77 (n % 12 / 1) 0) [])
+    let e : shownAll false (yearMonth .before) n 0 ≡ shown years (n / 12) 0 ++ (shown minutes (n % 12 / 1) 0 ++ []) = refl in
+    omega (arith, ap length e, body-length (yearMonth .before) (yearMonth .after) n 0, length-append (shown years (n / 12) 0) (shown minutes (n % 12 / 1) 0 ++ []), length-append (shown minutes (n % 12 / 1) 0) [])
 
 -- the whole text
 module _ (f : Form) (a : Amount) where

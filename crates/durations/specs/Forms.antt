@@ -3,6 +3,7 @@
 use mathlib.Core.Bool.{Bool}
 use mathlib.Core.List.{List, []}
 use Prim.Native.Nat.{ℕ, _/_}
+use Prim.Native.Char.{code}
 use lib.Dec.{eqb}
 use Rattle.basis.specs.Choice.{pick, both}
 use Rattle.basis.specs.Letters.{bytes}
@@ -12,31 +13,31 @@ use Rattle.value.specs.Bounds.{maxDayTime, maxYearMonth, secondTicks, minuteTic
 -- The bytes that stand in a duration's text: Y, D, H, M, S of the components (M is minutes after T, and months before it,
 -- which count for themselves), and the punctuation.
 abbrev pub years : ℕ
-years = 89
+years = code "Y"
 
 abbrev pub days : ℕ
-days = 68
+days = code "D"
 
 abbrev pub hours : ℕ
-hours = 72
+hours = code "H"
 
 abbrev pub minutes : ℕ
-minutes = 77
+minutes = code "M"
 
 abbrev pub seconds : ℕ
-seconds = 83
+seconds = code "S"
 
 abbrev pub minusSign : ℕ
-minusSign = 45
+minusSign = code "-"
 
 abbrev pub point : ℕ
-point = 46
+point = code "."
 
 abbrev pub startMark : ℕ
-startMark = 80
+startMark = code "P"
 
 abbrev pub timeMark : ℕ
-timeMark = 84
+timeMark = code "T"
 
 -- what one of a component counts: of years and months in months, of the others in seconds
 unfoldable pub weight : Bool → ℕ → ℕ

@@ -3,6 +3,7 @@ use mathlib.Core.Path.{_≡_, refl}
 use mathlib.Core.Bool.{Bool, true, false, not}
 use mathlib.Core.List.{List, [], _∷_}
 use Prim.Native.Nat.{ℕ, suc, _+_, _-_, _<_, _≤_}
+use Prim.Native.Char.{code}
 use native.Mathlib.Omega.{arith}
 use lib.Dec.{leb, ltb, eqb}
 use borrow.Author.Tests.{leb-true, ltb-true}
@@ -36,26 +37,26 @@ texts-state = (parsed-is-stated _ _ 39 refl, parsed-is-stated _ _ 58 refl, parse
 -- a text with at most sixteen opening parentheses is not too deep
 unfoldable openings : List ℕ → ℕ
 openings [] = 0
-openings (x ∷ xs) = pick (eqb x 40) (suc (openings xs)) (openings xs)
+openings (x ∷ xs) = pick (eqb x (code "(")) (suc (openings xs)) (openings xs)
 
 few-from : (o c : ℕ) (q : Bool) (xs : List ℕ) → o + openings xs ≤ maxDepth → deepFrom o c q xs ≡ false
 unfolding deepFrom openings
 few-from o c q [] h = refl
-few-from o c q (x ∷ xs) h = by (eqb x 40) refl h (λ a b r g. few-from a b r xs g)
+few-from o c q (x ∷ xs) h = by (eqb x (code "(")) refl h (λ a b r g. few-from a b r xs g)
   where
     Falls : Bool → Type 0
     Falls d = d ≡ false
 
-    by : (t : Bool) → eqb x 40 ≡ t → o + pick t (suc (openings xs)) (openings xs) ≤ maxDepth →
+    by : (t : Bool) → eqb x (code "(") ≡ t → o + pick t (suc (openings xs)) (openings xs) ≤ maxDepth →
         ((a b : ℕ) (r : Bool) → a + openings xs ≤ maxDepth → deepFrom a b r xs ≡ false) →
-        pick (eqb x 34) (deepFrom o c (not q) xs)
+        pick (eqb x (code "\"")) (deepFrom o c (not q) xs)
         (pick q (deepFrom o c q xs)
         (pick t (pick (ltb maxDepth (o + 1 - c)) true (deepFrom (o + 1) c q xs))
-        (pick (eqb x 41) (deepFrom o (c + 1) q xs) (deepFrom o c q xs)))) ≡ false
-    by true e g f = picked Falls (eqb x 34) _ _ (λ i. f o c (not q) (omega arith)) (λ i. picked Falls q _ _ (λ j. f o c q (omega arith))
+        (pick (eqb x (code ")")) (deepFrom o (c + 1) q xs) (deepFrom o c q xs)))) ≡ false
+    by true e g f = picked Falls (eqb x (code "\"")) _ _ (λ i. f o c (not q) (omega arith)) (λ i. picked Falls q _ _ (λ j. f o c q (omega arith))
         (λ j. picked Falls (ltb maxDepth (o + 1 - c)) _ _ (λ k. let l : maxDepth < o + 1 - c = ltb-true _ _ k in absurd (omega arith)) (λ k. f (o + 1) c q (omega arith))))
-    by false e g f = picked Falls (eqb x 34) _ _ (λ i. f o c (not q) g) (λ i. picked Falls q _ _ (λ j. f o c q g)
-        (λ j. picked Falls (eqb x 41) _ _ (λ k. f o (c + 1) q g) (λ k. f o c q g)))
+    by false e g f = picked Falls (eqb x (code "\"")) _ _ (λ i. f o c (not q) g) (λ i. picked Falls q _ _ (λ j. f o c q g)
+        (λ j. picked Falls (eqb x (code ")")) _ _ (λ k. f o (c + 1) q g) (λ k. f o c q g)))
 
 few-not-deep : (s : List ℕ) → leb (openings s) maxDepth ≡ true → deep s ≡ false
 unfolding deep

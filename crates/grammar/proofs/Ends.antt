@@ -4,6 +4,7 @@ use mathlib.Core.Path.{_≡_, refl, sym, ap, _∙_}
 use mathlib.Core.Bool.{Bool, true, false}
 use mathlib.Core.List.{List, [], _∷_}
 use Prim.Native.Nat.{ℕ, _+_, _-_, _<_, _≤_}
+use Prim.Native.Char.{code}
 use native.Mathlib.Omega.{arith}
 use lib.Dec.{leb, ltb, eqb}
 use lib.ListN.{length, getD}
@@ -105,7 +106,7 @@ module _ (s : List ℕ) (at : ℕ) where
       (omega (arith, skips-from s at), run-in Letter s (skipped s at) k)
 
   pub closing-past : PastMark (length s) at (the.closingAt s at)
-  closing-past = mark-past s at 41 refl
+  closing-past = mark-past s at (code ")") refl
 
   operator-past : (v : List ℕ) (o : Op) → leb 1 (length v) ≡ true → PastJoint (length s) at (the.operatorAt s at v o)
   unfolding the.operatorAt
@@ -129,8 +130,8 @@ module _ (s : List ℕ) (at : ℕ) where
 
   pub sign-past : PastJoint (length s) at (the.signAt s at)
   unfolding the.signAt
-  sign-past = picked (PastJoint (length s) at) (eqb (getD s (skipped s at) 0) 43) _ _ (λ e. next-past s at 43 e refl)
-      (λ f. picked (PastJoint (length s) at) (eqb (getD s (skipped s at) 0) 45) _ _ (λ e. next-past s at 45 e refl) (λ e. tt))
+  sign-past = picked (PastJoint (length s) at) (eqb (getD s (skipped s at) 0) (code "+")) _ _ (λ e. next-past s at (code "+") e refl)
+      (λ f. picked (PastJoint (length s) at) (eqb (getD s (skipped s at) 0) (code "-")) _ _ (λ e. next-past s at (code "-") e refl) (λ e. tt))
 
   made-past : (k : Kind) (p e : ℕ) (m : Mark) → at ≤ e → PastMark (length s) e m → PastStart (length s) at (the.made k p m)
   made-past k p e M.No h g = tt
@@ -139,11 +140,11 @@ module _ (s : List ℕ) (at : ℕ) where
   makes-past : (p : ℕ) (n : Named) → at ≤ p → PastStart (length s) at (the.makes s p n)
   makes-past p N.No h = tt
   makes-past p (N.Is k) h = made-past k p (runEnd Letter s p) (the.openingAt s (runEnd Letter s p)) (omega (arith, run-from Letter s p))
-      (mark-past s (runEnd Letter s p) 40 refl)
+      (mark-past s (runEnd Letter s p) (code "(") refl)
 
   pub start-past : PastStart (length s) at (the.startAt s at)
   unfolding the.startAt
-  start-past = picked (PastStart (length s) at) (eqb (getD s (skipped s at) 0) 40) _ _ (λ e. next-past s at 40 e refl)
+  start-past = picked (PastStart (length s) at) (eqb (getD s (skipped s at) 0) (code "(")) _ _ (λ e. next-past s at (code "(") e refl)
       (λ f. makes-past (skipped s at) (the.named (wordAt s (skipped s at))) (skips-from s at))
 
   text-past : (from : ℕ) → at < from → PastHeld (length s) at (the.textFrom s from)
@@ -153,17 +154,17 @@ module _ (s : List ℕ) (at : ℕ) where
 
   field-past : (p : ℕ) → at ≤ p → p < length s → PastHeld (length s) at (the.fieldFrom s p)
   unfolding the.fieldFrom the.fieldOf
-  field-past p h k = picked (PastHeld (length s) at) (eqb (getD s (p + 1) 0) 48) _ _ (λ e. tt)
+  field-past p h k = picked (PastHeld (length s) at) (eqb (getD s (p + 1) 0) (code "0")) _ _ (λ e. tt)
       (λ e. picked (PastHeld (length s) at) (leb 1 (run s (p + 1) .value)) _ _
       (λ f. picked (PastHeld (length s) at) (leb (run s (p + 1) .value) 16) _ _
       (λ g. (omega arith, run-le s (p + 1) (omega arith))) (λ g. tt)) (λ f. tt))
 
   pub held-past : PastHeld (length s) at (the.heldAt s at)
   unfolding the.heldAt
-  held-past = picked (PastHeld (length s) at) (eqb (getD s (skipped s at) 0) 34) _ _
+  held-past = picked (PastHeld (length s) at) (eqb (getD s (skipped s at) 0) (code "\"")) _ _
       (λ e. text-past (skipped s at + 1) (omega (arith, skips-from s at)))
-      (λ e. picked (PastHeld (length s) at) (eqb (getD s (skipped s at) 0) 36) _ _
-      (λ f. field-past (skipped s at) (skips-from s at) (stands-at s (skipped s at) 36 f refl)) (λ f. tt))
+      (λ e. picked (PastHeld (length s) at) (eqb (getD s (skipped s at) 0) (code "$")) _ _
+      (λ f. field-past (skipped s at) (skips-from s at) (stands-at s (skipped s at) (code "$") f refl)) (λ f. tt))
 
   whole-past : (b : Bool) (p d : ℕ) → at < d → d ≤ length s → PastMultiplier (length s) at (the.wholeOf b p d (run s d))
   unfolding the.wholeOf
@@ -172,22 +173,22 @@ module _ (s : List ℕ) (at : ℕ) where
 
   from-past : (p : ℕ) → at < p → p ≤ length s → PastMultiplier (length s) at (the.wholeFrom s p)
   unfolding the.wholeFrom
-  from-past p h k = picked (PastMultiplier (length s) at) (eqb (getD s p 0) 45) _ _
-      (λ e. let j : p < length s = stands-at s p 45 e refl in whole-past true p (p + 1) (omega arith) (omega arith))
+  from-past p h k = picked (PastMultiplier (length s) at) (eqb (getD s p 0) (code "-")) _ _
+      (λ e. let j : p < length s = stands-at s p (code "-") e refl in whole-past true p (p + 1) (omega arith) (omega arith))
       (λ e. whole-past false p p h k)
 
   pub multiplier-past : PastMultiplier (length s) at (the.multiplierAt s at)
   unfolding the.multiplierAt
-  multiplier-past = picked (PastMultiplier (length s) at) (eqb (getD s (skipped s at) 0) 42) _ _
-      (λ e. let j : skipped s at < length s = stands-at s (skipped s at) 42 e refl in
+  multiplier-past = picked (PastMultiplier (length s) at) (eqb (getD s (skipped s at) 0) (code "*")) _ _
+      (λ e. let j : skipped s at < length s = stands-at s (skipped s at) (code "*") e refl in
       from-past (skipped s (skipped s at + 1)) (omega (arith, skips-from s at, skips-from s (skipped s at + 1)))
       (run-within Space s (skipped s at + 1) (omega arith))) (λ e. tt)
 
 -- at the end of a text no `*` stands, so none without its whole number
 pub star-at-end : (s : List ℕ) (at : ℕ) → length s ≤ at → the.multiplierAt s at ≡ T.Bad → ⊥
 unfolding the.multiplierAt
-star-at-end s at h = picked (λ x. x ≡ T.Bad → ⊥) (eqb (getD s (skipped s at) 0) 42) _ _
-    (λ e f. let k : skipped s at < length s = stands-at s (skipped s at) 42 e refl in omega (arith, skips-from s at))
+star-at-end s at h = picked (λ x. x ≡ T.Bad → ⊥) (eqb (getD s (skipped s at) 0) (code "*")) _ _
+    (λ e f. let k : skipped s at < length s = stands-at s (skipped s at) (code "*") e refl in omega (arith, skips-from s at))
     (λ e f. let z : _≡_ {A = ℕ} 0 1 = cc in omega arith)
 
 -- a whole number of at most six digits is below 1,000,000
@@ -203,5 +204,5 @@ whole-small s b p d = picked Small (leb 1 (run s d .count)) _ _
 
 pub multiplier-small : (s : List ℕ) (at : ℕ) → Small (the.multiplierAt s at)
 unfolding the.multiplierAt the.wholeFrom
-multiplier-small s at = picked Small (eqb (getD s (skipped s at) 0) 42) _ _
-    (λ e. picked Small (eqb (getD s (skipped s (skipped s at + 1)) 0) 45) _ _ (λ f. whole-small s true _ _) (λ f. whole-small s false _ _)) (λ e. tt)
+multiplier-small s at = picked Small (eqb (getD s (skipped s at) 0) (code "*")) _ _
+    (λ e. picked Small (eqb (getD s (skipped s (skipped s at + 1)) 0) (code "-")) _ _ (λ f. whole-small s true _ _) (λ f. whole-small s false _ _)) (λ e. tt)

@@ -29,8 +29,8 @@ use Rattle.grammar.proofs.Found.{operator-stands}
 -- the first byte of `*`; of `+` and `-`; of `eq ne lt le gt ge`; of `and`; of `or`; any other
 unfoldable pub rankOf : ℕ → ℕ
 rankOf b =
-    pick (eqb b 42) 1 (pick (eqb b 43) 2 (pick (eqb b 45) 2
-    (pick (eqb b 101) 3 (pick (eqb b 110) 3 (pick (eqb b 108) 3 (pick (eqb b 103) 3 (pick (eqb b 97) 4 (pick (eqb b 111) 5 6))))))))
+    pick (eqb b (code "*")) 1 (pick (eqb b (code "+")) 2 (pick (eqb b (code "-")) 2
+    (pick (eqb b (code "e")) 3 (pick (eqb b (code "n")) 3 (pick (eqb b (code "l")) 3 (pick (eqb b (code "g")) 3 (pick (eqb b (code "a")) 4 (pick (eqb b (code "o")) 5 6))))))))
 
 unfoldable pub rank : List ℕ → ℕ → ℕ
 rank s a = rankOf (getD s (skipped s a) 0)
@@ -82,7 +82,7 @@ module _ (s : List ℕ) (a : ℕ) where
 
   pub times-none : (rank s a ≡ 1 → ⊥) → the.multiplierAt s a ≡ T.No
   unfolding the.multiplierAt rankOf rank
-  times-none n = picked (λ x. x ≡ T.No) (eqb (getD s (skipped s a) 0) 42) _ _ (λ e. absurd (n (ap rankOf (eqb-true (getD s (skipped s a) 0) 42 e)))) (λ e. refl)
+  times-none n = picked (λ x. x ≡ T.No) (eqb (getD s (skipped s a) 0) (code "*")) _ _ (λ e. absurd (n (ap rankOf (eqb-true (getD s (skipped s a) 0) (code "*") e)))) (λ e. refl)
 
   pub closing-rank : {p n : ℕ} → Mark s ")" a p n → rank s a ≡ 6
   unfolding rankOf
@@ -97,12 +97,12 @@ module _ (s : List ℕ) (a : ℕ) where
     pub spaces : Spaces s a (skipped s a)
     pub held : the.heldAt s a ≡ H.Sum
 
-  begins-at : (p c : ℕ) → Spaces s a p → getD s p 0 ≡ c → eqb c 34 ≡ false → eqb c 36 ≡ false → Begins
+  begins-at : (p c : ℕ) → Spaces s a p → getD s p 0 ≡ c → eqb c (code "\"") ≡ false → eqb c (code "$") ≡ false → Begins
   unfolding the.heldAt
   begins-at p c g e f h = record { spaces = rw (spaces-end g) g; held = rw (spaces-end g, e, f, h) }
 
   opening-begins : {p n : ℕ} → Mark s "(" a p n → Begins
-  opening-begins {p} m = begins-at p 40 (m .spaces) (m .stands) refl refl
+  opening-begins {p} m = begins-at p (code "(") (m .spaces) (m .stands) refl refl
 
   name-begins : {p n : ℕ} (k : Kind) → Word s (nameOf k) a p n → Begins
   name-begins {p} {n} k w = begins-at p 120 (w .spaces) (name-first s k p n (w .letters)) refl refl

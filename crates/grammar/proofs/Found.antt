@@ -75,8 +75,8 @@ module _ (s : List ℕ) (a : ℕ) where
       picked (JointStands Test) (same word (bytes "le")) _ _ (λ e. comparison (le (word-stands s a "le" _ _ refl e refl))) (λ f.
       picked (JointStands Test) (same word (bytes "gt")) _ _ (λ e. comparison (gt (word-stands s a "gt" _ _ refl e refl))) (λ f.
       picked (JointStands Test) (same word (bytes "ge")) _ _ (λ e. comparison (ge (word-stands s a "ge" _ _ refl e refl))) (λ f. tt))))))
-  joint-stands Sum = picked (JointStands Sum) (eqb (getD s (skipped s a) 0) 43) _ _ (λ e. sign (plus (mark-stands s a "+" e refl)))
-      (λ f. picked (JointStands Sum) (eqb (getD s (skipped s a) 0) 45) _ _ (λ e. sign (minus (mark-stands s a "-" e refl))) (λ e. tt))
+  joint-stands Sum = picked (JointStands Sum) (eqb (getD s (skipped s a) 0) (code "+")) _ _ (λ e. sign (plus (mark-stands s a "+" e refl)))
+      (λ f. picked (JointStands Sum) (eqb (getD s (skipped s a) 0) (code "-")) _ _ (λ e. sign (minus (mark-stands s a "-" e refl))) (λ e. tt))
   joint-stands Term = tt
   joint-stands Factor = tt
   joint-stands (Argument k w) = tt
@@ -95,7 +95,7 @@ module _ (s : List ℕ) (a : ℕ) where
 
   pub closing-stands : {n : ℕ} → the.closingAt s a ≡ M.At n → Closing n
   unfolding the.markAt
-  closing-stands e = subst ClosingStands e (picked ClosingStands (eqb (getD s (skipped s a) 0) 41) _ _
+  closing-stands e = subst ClosingStands e (picked ClosingStands (eqb (getD s (skipped s a) 0) (code ")")) _ _
       (λ f. record { q = skipped s a; mark = mark-stands s a ")" f refl }) (λ f. tt))
 
   abbrev TimesStand : Multiplier → Type 0
@@ -103,12 +103,12 @@ module _ (s : List ℕ) (a : ℕ) where
   TimesStand T.Bad = Unit {0}
   TimesStand (T.At b v p n) = Times s b v a p n
 
-  module _ (e : eqb (getD s (skipped s a) 0) 42 ≡ true) where
+  module _ (e : eqb (getD s (skipped s a) 0) (code "*") ≡ true) where
     abbrev w : ℕ
     w = skipped s (skipped s a + 1)
 
     star-within : skipped s a < length s
-    star-within = stands-at s (skipped s a) 42 e refl
+    star-within = stands-at s (skipped s a) (code "*") e refl
 
     times-by : {b : Bool} {v p n : ℕ} → Whole s v b (skipped s a + 1) p n → Times s b v a p n
     times-by x = record { q = skipped s a; c = skipped s a + 1; star = mark-stands s a "*" e refl; whole = x }
@@ -117,7 +117,7 @@ module _ (s : List ℕ) (a : ℕ) where
     unfolding the.wholeFrom the.wholeOf
     whole-stands =
         let k : skipped s a < length s = star-within in
-        picked TimesStand (eqb (getD s w 0) 45) _ _
+        picked TimesStand (eqb (getD s w 0) (code "-")) _ _
         (λ f. picked TimesStand (leb 1 (run s (w + 1) .count)) _ _
         (λ g. picked TimesStand (leb (run s (w + 1) .count) 6) _ _
         (λ h. times-by (signed (mark-stands s (skipped s a + 1) "-" f refl) (numeral-stands s (w + 1))
@@ -129,7 +129,7 @@ module _ (s : List ℕ) (a : ℕ) where
 
   pub times-stand : {b : Bool} {v p n : ℕ} → the.multiplierAt s a ≡ T.At b v p n → Times s b v a p n
   unfolding the.multiplierAt
-  times-stand e = subst TimesStand e (picked TimesStand (eqb (getD s (skipped s a) 0) 42) _ _ (λ f. whole-stands f) (λ f. tt))
+  times-stand e = subst TimesStand e (picked TimesStand (eqb (getD s (skipped s a) 0) (code "*")) _ _ (λ f. whole-stands f) (λ f. tt))
 
   -- an opening parenthesis
   pub record Opening (n : ℕ) : Type 0 where
@@ -143,7 +143,7 @@ module _ (s : List ℕ) (a : ℕ) where
 
   made-stands : (k : Kind) (p m : ℕ) → Word s (nameOf k) a p m → StartStands (the.made k p (the.openingAt s m))
   unfolding the.markAt
-  made-stands k p m w = picked (λ x. StartStands (the.made k p x)) (eqb (getD s (skipped s m) 0) 40) _ _
+  made-stands k p m w = picked (λ x. StartStands (the.made k p x)) (eqb (getD s (skipped s m) 0) (code "(")) _ _
       (λ e. record { m = m; q = skipped s m; name = w; opening = mark-stands s m "(" e refl }) (λ e. tt)
 
   abbrev MakesStand : Named → Type 0
@@ -161,7 +161,7 @@ module _ (s : List ℕ) (a : ℕ) where
 
   start-stands : StartStands (the.startAt s a)
   unfolding the.startAt
-  start-stands = picked StartStands (eqb (getD s (skipped s a) 0) 40) _ _ (λ e. record { q = skipped s a; mark = mark-stands s a "(" e refl }) (λ e. named-stands)
+  start-stands = picked StartStands (eqb (getD s (skipped s a) 0) (code "(")) _ _ (λ e. record { q = skipped s a; mark = mark-stands s a "(" e refl }) (λ e. named-stands)
 
   pub opening-stands : {n : ℕ} → the.startAt s a ≡ S.Open n → Opening n
   opening-stands e = subst StartStands e start-stands
@@ -180,29 +180,29 @@ module _ (s : List ℕ) (a : ℕ) where
       Quoted s from (runEnd C.Unquoted s from) a (runEnd C.Unquoted s from + 1)
   quote-ends from m h k =
       let l = run-before C.Unquoted s from h k in
-      quoted m (l .forward) (l .all) (by (eqb (getD s (runEnd C.Unquoted s from) 0) 34) refl) refl
+      quoted m (l .forward) (l .all) (by (eqb (getD s (runEnd C.Unquoted s from) 0) (code "\"")) refl) refl
     where
-      by : (b : Bool) → eqb (getD s (runEnd C.Unquoted s from) 0) 34 ≡ b → getD s (runEnd C.Unquoted s from) 0 ≡ 34
+      by : (b : Bool) → eqb (getD s (runEnd C.Unquoted s from) 0) (code "\"") ≡ b → getD s (runEnd C.Unquoted s from) 0 ≡ code "\""
       by true e = eqb-true _ _ e
       by false e = absurd (run-before C.Unquoted s from h k .ends (eqb-false _ _ e))
 
-  text-stands : eqb (getD s (skipped s a) 0) 34 ≡ true → HeldStands (the.textFrom s (skipped s a + 1))
+  text-stands : eqb (getD s (skipped s a) 0) (code "\"") ≡ true → HeldStands (the.textFrom s (skipped s a + 1))
   unfolding the.textFrom
   text-stands e = picked HeldStands (ltb (runEnd C.Unquoted s (skipped s a + 1)) (length s)) _ _
-      (λ f. let k : skipped s a < length s = stands-at s (skipped s a) 34 e refl in
+      (λ f. let k : skipped s a < length s = stands-at s (skipped s a) (code "\"") e refl in
       quote-ends (skipped s a + 1) (mark-stands s a "\"" e refl) (omega arith) (ltb-true _ _ f)) (λ f. tt)
 
-  numeral-field : eqb (getD s (skipped s a) 0) 36 ≡ true → HeldStands (the.fieldFrom s (skipped s a))
+  numeral-field : eqb (getD s (skipped s a) 0) (code "$") ≡ true → HeldStands (the.fieldFrom s (skipped s a))
   unfolding the.fieldFrom the.fieldOf
-  numeral-field e = picked HeldStands (eqb (getD s (skipped s a + 1) 0) 48) _ _ (λ f. tt)
+  numeral-field e = picked HeldStands (eqb (getD s (skipped s a + 1) 0) (code "0")) _ _ (λ f. tt)
       (λ f. picked HeldStands (leb 1 (run s (skipped s a + 1) .value)) _ _
       (λ g. picked HeldStands (leb (run s (skipped s a + 1) .value) 16) _ _
       (λ h. numbered (mark-stands s a "$" e refl) (numeral-stands s (skipped s a + 1)) (eqb-false _ _ f) (leb-true _ _ g) (leb-true _ _ h)) (λ h. tt)) (λ g. tt))
 
   held-stands : HeldStands (the.heldAt s a)
   unfolding the.heldAt
-  held-stands = picked HeldStands (eqb (getD s (skipped s a) 0) 34) _ _ (λ e. text-stands e)
-      (λ e. picked HeldStands (eqb (getD s (skipped s a) 0) 36) _ _ (λ f. numeral-field f) (λ f. tt))
+  held-stands = picked HeldStands (eqb (getD s (skipped s a) 0) (code "\"")) _ _ (λ e. text-stands e)
+      (λ e. picked HeldStands (eqb (getD s (skipped s a) 0) (code "$")) _ _ (λ f. numeral-field f) (λ f. tt))
 
   pub quoted-stands : {from to n : ℕ} → the.heldAt s a ≡ H.Text from to n → Quoted s from to a n
   quoted-stands e = subst HeldStands e held-stands

@@ -4,6 +4,7 @@ use mathlib.Core.Path.{_≡_, refl, sym, ap, subst, _∙_}
 use mathlib.Core.Bool.{Bool, true, false, not}
 use mathlib.Core.List.{List, [], _∷_}
 use Prim.Native.Nat.{ℕ, zero, suc, _+_, _-_, _*_, _<_, _≤_}
+use Prim.Native.Char.{code}
 use native.Mathlib.Omega.{arith}
 use lib.Dec.{leb, ltb, eqb}
 use lib.ListN.{length, getD, drop}
@@ -44,7 +45,7 @@ pub record Level (s : List ℕ) (quoted : Bool) (k at : ℕ) : Type 0 where
 
 -- no quote and no parenthesis
 abbrev Plain : ℕ → Type 0
-Plain b = (b ≡ 34 → ⊥) × (b ≡ 40 → ⊥) × (b ≡ 41 → ⊥)
+Plain b = (b ≡ code "\"" → ⊥) × (b ≡ code "(" → ⊥) × (b ≡ code ")" → ⊥)
 
 -- one byte
 module _ (s : List ℕ) (k at : ℕ) (h : at < length s) where
@@ -57,7 +58,7 @@ module _ (s : List ℕ) (k at : ℕ) (h : at < length s) where
         counts = at-other s (l .opened) (l .closed) false at (l .counts) h (p .0) refl (p .1) (p .2);
       }
 
-  past-closing : getD s at 0 ≡ 41 → Level s false (k + 1) at → Level s false k (at + 1)
+  past-closing : getD s at 0 ≡ code ")" → Level s false (k + 1) at → Level s false k (at + 1)
   past-closing e l =
       record {
         opened = l .opened;
@@ -66,7 +67,7 @@ module _ (s : List ℕ) (k at : ℕ) (h : at < length s) where
         counts = at-closing s (l .opened) (l .closed) false at (l .counts) h (λ n. omega arith) refl (λ n. omega arith) e;
       }
 
-  past-opening : deep s ≡ false → getD s at 0 ≡ 40 → Level s false k at → (k + 1 ≤ maxDepth) × Level s false (k + 1) (at + 1)
+  past-opening : deep s ≡ false → getD s at 0 ≡ code "(" → Level s false k at → (k + 1 ≤ maxDepth) × Level s false (k + 1) (at + 1)
   past-opening d e l = by (ltb maxDepth (l .opened + 1 - l .closed)) refl
     where
       by : (t : Bool) → ltb maxDepth (l .opened + 1 - l .closed) ≡ t → (k + 1 ≤ maxDepth) × Level s false (k + 1) (at + 1)
@@ -86,15 +87,15 @@ module _ (s : List ℕ) (k at : ℕ) (h : at < length s) where
             },
           )
 
-  into-quotes : getD s at 0 ≡ 34 → Level s false k at → Level s true k (at + 1)
+  into-quotes : getD s at 0 ≡ code "\"" → Level s false k at → Level s true k (at + 1)
   into-quotes e l =
       record { opened = l .opened; closed = l .closed; apart = l .apart; counts = at-quote s (l .opened) (l .closed) false at (l .counts) h e }
 
-  out-of-quotes : getD s at 0 ≡ 34 → Level s true k at → Level s false k (at + 1)
+  out-of-quotes : getD s at 0 ≡ code "\"" → Level s true k at → Level s false k (at + 1)
   out-of-quotes e l =
       record { opened = l .opened; closed = l .closed; apart = l .apart; counts = at-quote s (l .opened) (l .closed) true at (l .counts) h e }
 
-  within-quotes : (getD s at 0 ≡ 34 → ⊥) → Level s true k at → Level s true k (at + 1)
+  within-quotes : (getD s at 0 ≡ code "\"" → ⊥) → Level s true k at → Level s true k (at + 1)
   within-quotes n l =
       record { opened = l .opened; closed = l .closed; apart = l .apart; counts = inside s (l .opened) (l .closed) true at (l .counts) h n refl }
 
@@ -115,17 +116,17 @@ module _ (s : List ℕ) (k : ℕ) (c : Class) (p : (b : ℕ) → belongs c b ≡
 
 space-plain : (b : ℕ) → belongs Space b ≡ true → Plain b
 unfolding belongs
-space-plain b e = (of-no-other Space b 34 refl e, of-no-other Space b 40 refl e, of-no-other Space b 41 refl e)
+space-plain b e = (of-no-other Space b (code "\"") refl e, of-no-other Space b (code "(") refl e, of-no-other Space b (code ")") refl e)
 
 letter-plain : (b : ℕ) → belongs Letter b ≡ true → Plain b
 unfolding belongs letter both
-letter-plain b e = (of-no-other Letter b 34 refl e, of-no-other Letter b 40 refl e, of-no-other Letter b 41 refl e)
+letter-plain b e = (of-no-other Letter b (code "\"") refl e, of-no-other Letter b (code "(") refl e, of-no-other Letter b (code ")") refl e)
 
 -- runs of digits
 count-from : (v k : ℕ) (xs : List ℕ) → k ≤ number v k xs .count
 unfolding number
 count-from v k [] = omega arith
-count-from v k (x ∷ xs) = picked (λ (r : Number). k ≤ r .count) (isDigit x) _ _ (λ e. omega (arith, count-from (v * 10 + (x - 48)) (suc k) xs)) (λ e. omega arith)
+count-from v k (x ∷ xs) = picked (λ (r : Number). k ≤ r .count) (isDigit x) _ _ (λ e. omega (arith, count-from (v * 10 + (x - code "0")) (suc k) xs)) (λ e. omega arith)
 
 passes : (o c x : ℕ) (xs : List ℕ) → Plain x → deepFrom o c false (x ∷ xs) ≡ deepFrom o c false xs
 unfolding deepFrom
@@ -135,12 +136,12 @@ digits-pass : (o c v k n : ℕ) (xs : List ℕ) → number v k xs .count ≡ k +
 unfolding number
 digits-pass o c v k zero [] e = refl
 digits-pass o c v k (suc n) [] e = refl
-digits-pass o c v k n (x ∷ xs) e = by (isDigit x) refl n e (λ m f. digits-pass o c (v * 10 + (x - 48)) (suc k) m xs f)
+digits-pass o c v k n (x ∷ xs) e = by (isDigit x) refl n e (λ m f. digits-pass o c (v * 10 + (x - code "0")) (suc k) m xs f)
   where
-    by : (b : Bool) → isDigit x ≡ b → (n : ℕ) → pick b (number (v * 10 + (x - 48)) (suc k) xs) (record { value = v; count = k }) .count ≡ k + n →
-        ((m : ℕ) → number (v * 10 + (x - 48)) (suc k) xs .count ≡ suc k + m → deepFrom o c false xs ≡ deepFrom o c false (drop m xs)) →
+    by : (b : Bool) → isDigit x ≡ b → (n : ℕ) → pick b (number (v * 10 + (x - code "0")) (suc k) xs) (record { value = v; count = k }) .count ≡ k + n →
+        ((m : ℕ) → number (v * 10 + (x - code "0")) (suc k) xs .count ≡ suc k + m → deepFrom o c false xs ≡ deepFrom o c false (drop m xs)) →
         deepFrom o c false (x ∷ xs) ≡ deepFrom o c false (drop n (x ∷ xs))
-    by true d zero f r = absurd (omega (arith, count-from (v * 10 + (x - 48)) (suc k) xs))
+    by true d zero f r = absurd (omega (arith, count-from (v * 10 + (x - code "0")) (suc k) xs))
     by true d (suc n) f r =
         let g = a-digit x d in
         passes o c x xs (λ q. omega (arith, g), λ q. omega (arith, g), λ q. omega (arith, g)) ∙ r n (omega arith)
@@ -166,19 +167,19 @@ module _ (s : List ℕ) (k : ℕ) where
   byte-level at c e h p l = past-plain s k at (stands-at s at c e h) (subst Plain (sym (eqb-true _ _ e)) p) l
 
 -- a text in quotes: from a place inside to the quote that ends it
-no-quote : (b : ℕ) → belongs Unquoted b ≡ true → b ≡ 34 → ⊥
+no-quote : (b : ℕ) → belongs Unquoted b ≡ true → b ≡ code "\"" → ⊥
 unfolding belongs
-no-quote b e = of-no-other Unquoted b 34 refl e
+no-quote b e = of-no-other Unquoted b (code "\"") refl e
 
-is-quote : (b : ℕ) → belongs Unquoted b ≡ false → b ≡ 34
+is-quote : (b : ℕ) → belongs Unquoted b ≡ false → b ≡ code "\""
 unfolding belongs
 is-quote b e = eqb-true _ _ (not-false _ e)
 
 module _ (s : List ℕ) where
-  quote-ends : (n at : ℕ) → n ≡ length s - at → runOf n Unquoted s at < length s → getD s (runOf n Unquoted s at) 0 ≡ 34
+  quote-ends : (n at : ℕ) → n ≡ length s - at → runOf n Unquoted s at < length s → getD s (runOf n Unquoted s at) 0 ≡ code "\""
   unfolding runOf
   quote-ends zero at e h = absurd (omega arith)
-  quote-ends (suc n) at e h = picked (λ x. x < length s → getD s x 0 ≡ 34) (belongs Unquoted (getD s at 0)) _ _
+  quote-ends (suc n) at e h = picked (λ x. x < length s → getD s x 0 ≡ code "\"") (belongs Unquoted (getD s at 0)) _ _
       (λ b. quote-ends n (at + 1) (omega arith)) (λ b i. is-quote (getD s at 0) b) h
 
   quoted-run : (k n at : ℕ) → n ≤ length s - at → Level s true k at → Level s true k (runOf n Unquoted s at)
@@ -224,8 +225,8 @@ module _ (s : List ℕ) (k : ℕ) where
 
   pub closing-level : (at : ℕ) → Level s false (k + 1) at → LevelMark (the.closingAt s at)
   unfolding the.markAt
-  closing-level at l = picked LevelMark (eqb (getD s (skipped s at) 0) 41) _ _
-      (λ e. past-closing s k (skipped s at) (stands-at s (skipped s at) 41 e refl) (eqb-true _ _ e) (skip-level s (k + 1) at l)) (λ e. tt)
+  closing-level at l = picked LevelMark (eqb (getD s (skipped s at) 0) (code ")")) _ _
+      (λ e. past-closing s k (skipped s at) (stands-at s (skipped s at) (code ")") e refl) (eqb-true _ _ e) (skip-level s (k + 1) at l)) (λ e. tt)
 
   module _ (at : ℕ) (l : Level s false k at) where
     word-level : Level s false k (runEnd Letter s (skipped s at))
@@ -253,10 +254,10 @@ module _ (s : List ℕ) (k : ℕ) where
 
     pub sign-level : LevelJoint (the.signAt s at)
     unfolding the.signAt
-    sign-level = picked LevelJoint (eqb (getD s (skipped s at) 0) 43) _ _
-        (λ e. byte-level s k (skipped s at) 43 e refl (λ q. omega arith, λ q. omega arith, λ q. omega arith) (skip-level s k at l))
-        (λ f. picked LevelJoint (eqb (getD s (skipped s at) 0) 45) _ _
-        (λ e. byte-level s k (skipped s at) 45 e refl (λ q. omega arith, λ q. omega arith, λ q. omega arith) (skip-level s k at l)) (λ e. tt))
+    sign-level = picked LevelJoint (eqb (getD s (skipped s at) 0) (code "+")) _ _
+        (λ e. byte-level s k (skipped s at) (code "+") e refl (λ q. omega arith, λ q. omega arith, λ q. omega arith) (skip-level s k at l))
+        (λ f. picked LevelJoint (eqb (getD s (skipped s at) 0) (code "-")) _ _
+        (λ e. byte-level s k (skipped s at) (code "-") e refl (λ q. omega arith, λ q. omega arith, λ q. omega arith) (skip-level s k at l)) (λ e. tt))
 
     whole-level : (b : Bool) (p d : ℕ) → Level s false k d → LevelMultiplier (the.wholeOf b p d (run s d))
     unfolding the.wholeOf
@@ -265,18 +266,18 @@ module _ (s : List ℕ) (k : ℕ) where
 
     from-level : (p : ℕ) → Level s false k p → LevelMultiplier (the.wholeFrom s p)
     unfolding the.wholeFrom
-    from-level p m = picked LevelMultiplier (eqb (getD s p 0) 45) _ _
-        (λ e. whole-level true p (p + 1) (byte-level s k p 45 e refl (λ q. omega arith, λ q. omega arith, λ q. omega arith) m)) (λ e. whole-level false p p m)
+    from-level p m = picked LevelMultiplier (eqb (getD s p 0) (code "-")) _ _
+        (λ e. whole-level true p (p + 1) (byte-level s k p (code "-") e refl (λ q. omega arith, λ q. omega arith, λ q. omega arith) m)) (λ e. whole-level false p p m)
 
     pub multiplier-level : LevelMultiplier (the.multiplierAt s at)
     unfolding the.multiplierAt
-    multiplier-level = picked LevelMultiplier (eqb (getD s (skipped s at) 0) 42) _ _
+    multiplier-level = picked LevelMultiplier (eqb (getD s (skipped s at) 0) (code "*")) _ _
         (λ e. from-level (skipped s (skipped s at + 1)) (skip-level s k (skipped s at + 1)
-        (byte-level s k (skipped s at) 42 e refl (λ q. omega arith, λ q. omega arith, λ q. omega arith) (skip-level s k at l)))) (λ e. tt)
+        (byte-level s k (skipped s at) (code "*") e refl (λ q. omega arith, λ q. omega arith, λ q. omega arith) (skip-level s k at l)))) (λ e. tt)
 
     field-level : (p : ℕ) → Level s false k (p + 1) → LevelHeld (the.fieldFrom s p)
     unfolding the.fieldFrom the.fieldOf
-    field-level p m = picked LevelHeld (eqb (getD s (p + 1) 0) 48) _ _ (λ e. tt)
+    field-level p m = picked LevelHeld (eqb (getD s (p + 1) 0) (code "0")) _ _ (λ e. tt)
         (λ e. picked LevelHeld (leb 1 (run s (p + 1) .value)) _ _
         (λ f. picked LevelHeld (leb (run s (p + 1) .value) 16) _ _ (λ g. digits-level s k (p + 1) m) (λ g. tt)) (λ f. tt))
 
@@ -286,27 +287,27 @@ module _ (s : List ℕ) (k : ℕ) where
 
     pub held-level : LevelHeld (the.heldAt s at)
     unfolding the.heldAt
-    held-level = picked LevelHeld (eqb (getD s (skipped s at) 0) 34) _ _
-        (λ e. quoted-level (skipped s at + 1) (into-quotes s k (skipped s at) (stands-at s (skipped s at) 34 e refl) (eqb-true _ _ e) (skip-level s k at l)))
-        (λ e. picked LevelHeld (eqb (getD s (skipped s at) 0) 36) _ _
-        (λ f. field-level (skipped s at) (byte-level s k (skipped s at) 36 f refl (λ q. omega arith, λ q. omega arith, λ q. omega arith) (skip-level s k at l))) (λ f. tt))
+    held-level = picked LevelHeld (eqb (getD s (skipped s at) 0) (code "\"")) _ _
+        (λ e. quoted-level (skipped s at + 1) (into-quotes s k (skipped s at) (stands-at s (skipped s at) (code "\"") e refl) (eqb-true _ _ e) (skip-level s k at l)))
+        (λ e. picked LevelHeld (eqb (getD s (skipped s at) 0) (code "$")) _ _
+        (λ f. field-level (skipped s at) (byte-level s k (skipped s at) (code "$") f refl (λ q. omega arith, λ q. omega arith, λ q. omega arith) (skip-level s k at l))) (λ f. tt))
 
     module _ (d : deep s ≡ false) where
-      opens : (p : ℕ) → Level s false k p → eqb (getD s p 0) 40 ≡ true → Opened (p + 1)
-      opens p m e = past-opening s k p (stands-at s p 40 e refl) d (eqb-true _ _ e) m
+      opens : (p : ℕ) → Level s false k p → eqb (getD s p 0) (code "(") ≡ true → Opened (p + 1)
+      opens p m e = past-opening s k p (stands-at s p (code "(") e refl) d (eqb-true _ _ e) m
 
       makes-level : (p : ℕ) → Level s false k p → (n : Named) → LevelStart (the.makes s p n)
       unfolding the.markAt
       makes-level p m N.No = tt
-      makes-level p m (N.Is j) = by (eqb (getD s (skipped s (runEnd Letter s p)) 0) 40) refl
+      makes-level p m (N.Is j) = by (eqb (getD s (skipped s (runEnd Letter s p)) 0) (code "(")) refl
         where
-          by : (b : Bool) → eqb (getD s (skipped s (runEnd Letter s p)) 0) 40 ≡ b → LevelStart (the.made j p (pick b (M.At (skipped s (runEnd Letter s p) + 1)) M.No))
+          by : (b : Bool) → eqb (getD s (skipped s (runEnd Letter s p)) 0) (code "(") ≡ b → LevelStart (the.made j p (pick b (M.At (skipped s (runEnd Letter s p) + 1)) M.No))
           by true e = opens (skipped s (runEnd Letter s p)) (skip-level s k (runEnd Letter s p) (run-level s k Letter letter-plain p m)) e
           by false e = tt
 
       pub start-level : LevelStart (the.startAt s at)
       unfolding the.startAt
-      start-level = picked LevelStart (eqb (getD s (skipped s at) 0) 40) _ _
+      start-level = picked LevelStart (eqb (getD s (skipped s at) 0) (code "(")) _ _
           (λ e. opens (skipped s at) (skip-level s k at l) e) (λ f. makes-level (skipped s at) (skip-level s k at l) (the.named (wordAt s (skipped s at))))
 
 -- nothing is open where a text begins

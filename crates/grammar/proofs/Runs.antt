@@ -4,6 +4,7 @@ use mathlib.Core.Path.{_≡_, refl, sym, ap, subst, _∙_}
 use mathlib.Core.Bool.{Bool, true, false}
 use mathlib.Core.List.{List, [], _∷_}
 use Prim.Native.Nat.{ℕ, zero, suc, _+_, _-_, _*_, _<_, _≤_}
+use Prim.Native.Char.{code}
 use native.Mathlib.Nat.{add-zero}
 use native.Mathlib.Omega.{arith}
 use native.Mathlib.Numerals.{add-one}
@@ -26,42 +27,42 @@ use Rattle.grammar.specs.Productions.{Longest, Space, Spaces, Letter, sm
 abbrev pub Of : Class → ℕ → Type 0
 Of C.Space = Space
 Of C.Letter = Letter
-Of C.Unquoted = λ b. b ≡ 34 → ⊥
+Of C.Unquoted = λ b. b ≡ code "\"" → ⊥
 
 no-both : {A : Type 0} {b : Bool} → b ≡ true → b ≡ false → A
 no-both e f = let z : _≡_ {A = ℕ} 0 1 = cc in absurd (omega arith)
 
 of-letter : (b : ℕ) → Letter b → letter b ≡ true
 unfolding letter both
-of-letter b (small h k) = rw (ne-eqb b 58 (λ e. omega arith), le-leb 97 b h, le-leb b 122 k)
-of-letter b (capital h k) = by (eqb b 58) refl
+of-letter b (small h k) = rw (ne-eqb b (code ":") (λ e. omega arith), le-leb (code "a") b h, le-leb b (code "z") k)
+of-letter b (capital h k) = by (eqb b (code ":")) refl
   where
-    by : (t : Bool) → eqb b 58 ≡ t → pick t true (pick (leb 97 b) (leb b 122) (both (leb 65 b) (leb b 90))) ≡ true
+    by : (t : Bool) → eqb b (code ":") ≡ t → pick t true (pick (leb (code "a") b) (leb b (code "z")) (both (leb (code "A") b) (leb b (code "Z")))) ≡ true
     by true e = refl
-    by false e = let l : b < 97 = omega arith in rw (lt-leb 97 b l, le-leb 65 b h, le-leb b 90 k)
-of-letter b (colon e) = rw (eq-eqb b 58 e)
+    by false e = let l : b < code "a" = omega arith in rw (lt-leb (code "a") b l, le-leb (code "A") b h, le-leb b (code "Z") k)
+of-letter b (colon e) = rw (eq-eqb b (code ":") e)
 
 letter-of : (b : ℕ) → letter b ≡ true → Letter b
 unfolding letter
-letter-of b = picked (λ t. t ≡ true → Letter b) (eqb b 58) _ _ (λ e h. colon (eqb-true b 58 e))
-    (λ f. picked (λ t. t ≡ true → Letter b) (leb 97 b) _ _ (λ e h. small (leb-true 97 b e) (leb-true b 122 h))
-    (λ e h. capital (leb-true 65 b (both-left _ _ h)) (leb-true b 90 (both-right (leb 65 b) _ h))))
+letter-of b = picked (λ t. t ≡ true → Letter b) (eqb b (code ":")) _ _ (λ e h. colon (eqb-true b (code ":") e))
+    (λ f. picked (λ t. t ≡ true → Letter b) (leb (code "a") b) _ _ (λ e h. small (leb-true (code "a") b e) (leb-true b (code "z") h))
+    (λ e h. capital (leb-true (code "A") b (both-left _ _ h)) (leb-true b (code "Z") (both-right (leb (code "A") b) _ h))))
 
 of-belongs : (c : Class) (b : ℕ) → Of c b → belongs c b ≡ true
 unfolding belongs
-of-belongs C.Space b x = eq-eqb b 32 x
+of-belongs C.Space b x = eq-eqb b (code " ") x
 of-belongs C.Letter b x = of-letter b x
-of-belongs C.Unquoted b x = rw (ne-eqb b 34 x)
+of-belongs C.Unquoted b x = rw (ne-eqb b (code "\"") x)
 
 belongs-of : (c : Class) (b : ℕ) → belongs c b ≡ true → Of c b
 unfolding belongs
-belongs-of C.Space b e = eqb-true b 32 e
+belongs-of C.Space b e = eqb-true b (code " ") e
 belongs-of C.Letter b e = letter-of b e
-belongs-of C.Unquoted b e = λ q. let f : eqb b 34 ≡ true = eq-eqb b 34 q in no-both {b = true} refl (sym e ∙ rw f)
+belongs-of C.Unquoted b e = λ q. let f : eqb b (code "\"") ≡ true = eq-eqb b (code "\"") q in no-both {b = true} refl (sym e ∙ rw f)
 
 of-digit : (b : ℕ) → Digit b → isDigit b ≡ true
 unfolding isDigit
-of-digit b x = both-true _ _ (le-leb 48 b (x .from)) (le-leb b 57 (x .to))
+of-digit b x = both-true _ _ (le-leb (code "0") b (x .from)) (le-leb b (code "9") (x .to))
 
 digit-of : (b : ℕ) → isDigit b ≡ true → Digit b
 digit-of b e = let d = a-digit b e in record { from = d .from; to = d .to }
@@ -194,7 +195,7 @@ module _ (s : List ℕ) where
       by true f r = let g : to ≤ p = leb-true _ _ f in let q : to ≡ p = omega (arith, digits-from d) in subst (λ i. Digit (at s i)) q e
       by false f r = r (leb-false _ _ f)
 
-  number-on : (v k q : ℕ) → isDigit (at s q) ≡ true → number v k (drop q s) ≡ number (v * 10 + (at s q - 48)) (suc k) (drop (q + 1) s)
+  number-on : (v k q : ℕ) → isDigit (at s q) ≡ true → number v k (drop q s) ≡ number (v * 10 + (at s q - code "0")) (suc k) (drop (q + 1) s)
   unfolding number
   number-on v k q e = rw (add-one q, drop-cons s q 0 (digit-within s q e), e)
 
@@ -202,13 +203,13 @@ module _ (s : List ℕ) where
   digits-number {p} no-digit = let e : p - p ≡ 0 = omega arith in rw e
   digits-number {p} (digit {to = to} {v = v} d e) =
       let g : suc (to - p) ≡ to + 1 - p = omega (arith, digits-from d) in
-      digits-number d ∙ number-on v (to - p) to (of-digit _ e) ∙ ap (λ k. number (v * 10 + (at s to - 48)) k (drop (to + 1) s)) g
+      digits-number d ∙ number-on v (to - p) to (of-digit _ e) ∙ ap (λ k. number (v * 10 + (at s to - code "0")) k (drop (to + 1) s)) g
 
   pub numeral-run : {p n v : ℕ} → Numeral s v p n → run s p ≡ record { value = v; count = n - p }
   numeral-run {p} {n} {v} x = digits-number (x .digits) ∙ stop v (n - p) (drop n s) (ap isDigit (head-of n) ∙ no-digit-of _ (x .ends))
 
   no-digit-0 : Digit 0 → ⊥
-  no-digit-0 x = let h : 48 ≤ 0 = x .from in omega arith
+  no-digit-0 x = let h : code "0" ≤ 0 = x .from in omega arith
 
   ends-at : (q : ℕ) (b : ℕ) → at s q ≡ b → (Digit b → ⊥) → Digit (at s q) → ⊥
   ends-at q b e n x = n (subst Digit e x)
@@ -216,19 +217,19 @@ module _ (s : List ℕ) where
   from-digits : (p v k : ℕ) (xs : List ℕ) → drop (p + k) s ≡ xs → Digits s p (p + k) v → Numeral s (number v k xs .value) p (p + number v k xs .count)
   unfolding number
   from-digits p v k [] e d = record { digits = d; ends = ends-at (p + k) 0 (sym (head-of (p + k)) ∙ ap (λ l. getD l 0 0) e) no-digit-0 }
-  from-digits p v k (x ∷ xs) e d = by (isDigit x) refl (λ g h. from-digits p (v * 10 + (x - 48)) (suc k) xs g h)
+  from-digits p v k (x ∷ xs) e d = by (isDigit x) refl (λ g h. from-digits p (v * 10 + (x - code "0")) (suc k) xs g h)
     where
       here : at s (p + k) ≡ x
       here = sym (head-of (p + k)) ∙ ap (λ l. getD l 0 0) e
 
-      by : (b : Bool) → isDigit x ≡ b → (drop (p + suc k) s ≡ xs → Digits s p (p + suc k) (v * 10 + (x - 48)) →
-          Numeral s (number (v * 10 + (x - 48)) (suc k) xs .value) p (p + number (v * 10 + (x - 48)) (suc k) xs .count)) →
-          Numeral s (pick b (number (v * 10 + (x - 48)) (suc k) xs) (record { value = v; count = k }) .value) p (p + pick b (number (v * 10 + (x - 48)) (suc k) xs) (record { value = v; count = k }) .count)
+      by : (b : Bool) → isDigit x ≡ b → (drop (p + suc k) s ≡ xs → Digits s p (p + suc k) (v * 10 + (x - code "0")) →
+          Numeral s (number (v * 10 + (x - code "0")) (suc k) xs .value) p (p + number (v * 10 + (x - code "0")) (suc k) xs .count)) →
+          Numeral s (pick b (number (v * 10 + (x - code "0")) (suc k) xs) (record { value = v; count = k }) .value) p (p + pick b (number (v * 10 + (x - code "0")) (suc k) xs) (record { value = v; count = k }) .count)
       by true f r =
           let q : p + k + 1 ≡ p + suc k = omega arith in
           r (ap (λ i. drop i s) (sym q) ∙ sym (drop-drop 1 (p + k) s) ∙ ap (drop 1) e)
-          (subst (λ i. Digits s p i (v * 10 + (x - 48))) q
-          (subst (λ y. Digits s p (p + k + 1) (v * 10 + (y - 48))) here (digit d (digit-of (at s (p + k)) (ap isDigit here ∙ f)))))
+          (subst (λ i. Digits s p i (v * 10 + (x - code "0"))) q
+          (subst (λ y. Digits s p (p + k + 1) (v * 10 + (y - code "0"))) here (digit d (digit-of (at s (p + k)) (ap isDigit here ∙ f)))))
       by false f r = record { digits = d; ends = ends-at (p + k) x here (λ y. no-both (of-digit x y) f) }
 
   pub numeral-stands : (p : ℕ) → Numeral s (run s p .value) p (p + run s p .count)

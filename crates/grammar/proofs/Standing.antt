@@ -61,8 +61,8 @@ pub record Naming (s : List ℕ) (k : Kind) (a p n : ℕ) : Type 0 where
   pub name : Word s (nameOf k) a p m
   pub opening : Mark s "(" m q n
 
-digit-no-minus : (b : ℕ) → Digit b → eqb b 45 ≡ false
-digit-no-minus b x = let h : 48 ≤ b = x .from in ne-eqb b 45 (λ q. omega arith)
+digit-no-minus : (b : ℕ) → Digit b → eqb b (code "-") ≡ false
+digit-no-minus b x = let h : code "0" ≤ b = x .from in ne-eqb b (code "-") (λ q. omega arith)
 
 named-is : (k : Kind) → the.named (bytes (nameOf k)) ≡ N.Is k
 unfolding the.named same both
@@ -143,8 +143,8 @@ module _ {s : List ℕ} where
   pub quoted-found : {a from to n : ℕ} → Quoted s from to a n → the.heldAt s a ≡ H.Text from to n
   unfolding the.heldAt the.textFrom
   quoted-found {to = to} (quoted m h i e f) =
-      let k : to < length s = within s to 34 e (omega arith) in
-      let l : Longest (λ b. b ≡ 34 → ⊥) s _ to = record { forward = h; within = omega arith; all = i; ends = λ n. n e } in
+      let k : to < length s = within s to (code "\"") e (omega arith) in
+      let l : Longest (λ b. b ≡ code "\"" → ⊥) s _ to = record { forward = h; within = omega arith; all = i; ends = λ n. n e } in
       rw (spaces-end (m .spaces), m .stands, ← m .next, longest-is C.Unquoted s l, lt-ltb _ _ k, f)
 
   pub field-found : {a i p n : ℕ} → Field s i a p n → the.heldAt s a ≡ H.Field i p n

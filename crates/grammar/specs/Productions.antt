@@ -30,7 +30,7 @@ pub record Longest (Such : ℕ → Type 0) (s : List ℕ) (from to : ℕ) : Type
 
 -- "Any number of spaces (byte 32) may stand around symbols": before each symbol, and at the end of the text
 abbrev pub Space : ℕ → Type 0
-Space b = b ≡ 32
+Space b = b ≡ code " "
 
 abbrev pub Spaces : List ℕ → ℕ → ℕ → Type 0
 Spaces s a p = Longest Space s a p

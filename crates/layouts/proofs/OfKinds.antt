@@ -2,12 +2,14 @@
 -- a time on 1972-12-31, a dateTime whole, the zone always; and a record of a kind is kept whole.
 use mathlib.Core.Path.{_≡_, refl, ap, sym, _∙_}
 use mathlib.Core.Bool.{Bool, true, false}
-use mathlib.Core.List.{List, [], _∷_}
+use mathlib.Core.List.{List, [], _∷_, _++_}
 use Prim.Native.Nat.{ℕ, _+_, _*_, _/_, _%_, _≤_, _<_}
+use Prim.Native.Char.{code}
 use native.Mathlib.Omega.{arith}
 use lib.Dec.{eqb}
 use lib.ListN.{length}
 use borrow.Author.Tests.{eq-eqb, ne-eqb, eqb-true, leb-true}
+use Rattle.basis.specs.Letters.{bytes}
 use Rattle.basis.specs.Choice.{pick, both, every}
 use Rattle.basis.specs.Answer.{Answer, refuses}
 use Rattle.basis.proofs.Tests.{both-left}
@@ -82,10 +84,10 @@ fields-of-ticks u h = omega arith
 
 -- the parts before the fraction and the zone
 abbrev time : List ℕ
-time = 104 ∷ 58 ∷ 109 ∷ 58 ∷ 115 ∷ []
+time = bytes "h:m:s"
 
 abbrev date : List ℕ → List ℕ
-date rest = 89 ∷ 45 ∷ 77 ∷ 45 ∷ 68 ∷ rest
+date rest = bytes "Y-M-D" ++ rest
 
 module _ (v : DateTime) (o : okDateTime v ≡ true) where
   -- a layout that ends with a fraction and a zone, after the time
@@ -113,15 +115,15 @@ pub cast-is : {k : Kind} → Laid k → (v : DateTime) → okDateTime v ≡ true
 unfolding allKept partKept isPair placed pairOf ticksOf
 cast-is laid-date v o =
     let t : Scan = allKept (date []) v (startOf (template KV.Date)) in
-    zone-ends (v .zone) t (t .at + length (partText 122 v)) (small v o .zone) refl
+    zone-ends (v .zone) t (t .at + length (partText (code "z") v)) (small v o .zone) refl
 cast-is laid-time v o =
     let t : Scan = allKept time v (startOf (template KV.Time)) in
-    let f : Scan = allKept (104 ∷ 58 ∷ 109 ∷ 58 ∷ 115 ∷ 102 ∷ []) v (startOf (template KV.Time)) in
-    clocked-ends v o t (t .at + length (partText 102 v)) (f .at + length (partText 122 v)) refl refl refl refl refl
+    let f : Scan = allKept (bytes "h:m:sf") v (startOf (template KV.Time)) in
+    clocked-ends v o t (t .at + length (partText (code "f") v)) (f .at + length (partText (code "z") v)) refl refl refl refl refl
 cast-is laid-both v o =
-    let t : Scan = allKept (date (84 ∷ time)) v (startOf (template KV.DateTime)) in
-    let f : Scan = allKept (date (84 ∷ 104 ∷ 58 ∷ 109 ∷ 58 ∷ 115 ∷ 102 ∷ [])) v (startOf (template KV.DateTime)) in
-    clocked-ends v o t (t .at + length (partText 102 v)) (f .at + length (partText 122 v)) refl refl refl refl refl
+    let t : Scan = allKept (date (code "T" ∷ time)) v (startOf (template KV.DateTime)) in
+    let f : Scan = allKept (date (bytes "Th:m:sf")) v (startOf (template KV.DateTime)) in
+    clocked-ends v o t (t .at + length (partText (code "f") v)) (f .at + length (partText (code "z") v)) refl refl refl refl refl
 
 pub cast-whole : {k : Kind} → Laid k → (v : DateTime) → okDateTime v ≡ true → ofKind k v ≡ true → castTo k v ≡ v
 cast-whole {k} l v o e = cast-is l v o ∙ of-kind-kept k v e

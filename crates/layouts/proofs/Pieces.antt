@@ -3,6 +3,7 @@ use mathlib.Core.Path.{_≡_, refl, ap, sym, _∙_, subst}
 use mathlib.Core.Bool.{Bool, true, false}
 use mathlib.Core.List.{List, [], _∷_, _++_, append-assoc, append-nil}
 use Prim.Native.Nat.{ℕ, suc, _+_, _/_, _%_, _≤_, _<_}
+use Prim.Native.Char.{code}
 use native.Mathlib.Omega.{arith}
 use native.Mathlib.Numerals.{add-one}
 use lib.Dec.{eqb, lit≤}
@@ -29,24 +30,24 @@ use Rattle.layouts.specs.Writing.{hhmm, offsetText, zoneText, pairOf, pa
 
 -- the text of an offset, by its cases
 hhmm-length : (n : ℕ) → length (hhmm n) ≡ 5
-hhmm-length n = length-append (digits 2 (n / 60)) (58 ∷ digits 2 (n % 60)) ∙ omega (arith, length-digits 2 (n / 60), length-digits 2 (n % 60))
+hhmm-length n = length-append (digits 2 (n / 60)) (code ":" ∷ digits 2 (n % 60)) ∙ omega (arith, length-digits 2 (n / 60), length-digits 2 (n % 60))
 
-pub wrote-utc : {t r : Text} {o : Offset} (n : ℕ) → o ≡ East n → n ≡ 0 → Added t r (90 ∷ []) 1 → Added t r (offsetText o) (length (offsetText o))
+pub wrote-utc : {t r : Text} {o : Offset} (n : ℕ) → o ≡ East n → n ≡ 0 → Added t r (code "Z" ∷ []) 1 → Added t r (offsetText o) (length (offsetText o))
 wrote-utc {t} {r} {o} n e z a =
-    let x : offsetText o ≡ 90 ∷ [] = ap offsetText e ∙ rw z in
+    let x : offsetText o ≡ code "Z" ∷ [] = ap offsetText e ∙ rw z in
     named x refl a
 
-module _ {t a b c r : Text} {z : ℕ} (n : ℕ) (s : Added t a (z ∷ []) 1) (h : Added a b (digits 2 (n / 60)) 2) (k : Added b c (58 ∷ []) 1) (m : Added c r (digits 2 (n % 60)) 2) where
+module _ {t a b c r : Text} {z : ℕ} (n : ℕ) (s : Added t a (z ∷ []) 1) (h : Added a b (digits 2 (n / 60)) 2) (k : Added b c (code ":" ∷ []) 1) (m : Added c r (digits 2 (n % 60)) 2) where
   wrote-signed : (o : Offset) → offsetText o ≡ z ∷ hhmm n → Added t r (offsetText o) (length (offsetText o))
   wrote-signed o x =
       let g : Added a r (hhmm n) 5 = (let q = then h (then k m) in record { text = q .text; more = omega (arith, q .more) }) in
       named x (omega (arith, hhmm-length n)) (then s g)
 
-pub wrote-east : {t a b c r : Text} {o : Offset} (n : ℕ) → o ≡ East n → (n ≡ 0 → ⊥) → Added t a (43 ∷ []) 1 → Added a b (digits 2 (n / 60)) 2 → Added b c (58 ∷ []) 1 → Added c r (digits 2 (n % 60)) 2
+pub wrote-east : {t a b c r : Text} {o : Offset} (n : ℕ) → o ≡ East n → (n ≡ 0 → ⊥) → Added t a (code "+" ∷ []) 1 → Added a b (digits 2 (n / 60)) 2 → Added b c (code ":" ∷ []) 1 → Added c r (digits 2 (n % 60)) 2
     → Added t r (offsetText o) (length (offsetText o))
 wrote-east {o = o} n e z s h k m = wrote-signed n s h k m o (ap offsetText e ∙ rw (ne-eqb n 0 z))
 
-pub wrote-west : {t a b c r : Text} {o : Offset} (n : ℕ) → o ≡ West n → Added t a (45 ∷ []) 1 → Added a b (digits 2 (n / 60)) 2 → Added b c (58 ∷ []) 1 → Added c r (digits 2 (n % 60)) 2
+pub wrote-west : {t a b c r : Text} {o : Offset} (n : ℕ) → o ≡ West n → Added t a (code "-" ∷ []) 1 → Added a b (digits 2 (n / 60)) 2 → Added b c (code ":" ∷ []) 1 → Added c r (digits 2 (n % 60)) 2
     → Added t r (offsetText o) (length (offsetText o))
 wrote-west {o = o} n e s h k m = wrote-signed n s h k m o (ap offsetText e)
 
@@ -58,41 +59,41 @@ pub zone-short : (z : Zone) → length (zoneText z) ≤ 6
 zone-short Absent = lit≤ tt
 zone-short (At (East n)) = go (eqb n 0)
   where
-    go : (b : Bool) → length (pick b (90 ∷ []) (43 ∷ hhmm n)) ≤ 6
+    go : (b : Bool) → length (pick b (code "Z" ∷ []) (code "+" ∷ hhmm n)) ≤ 6
     go true = lit≤ tt
     go false = omega (arith, hhmm-length n)
 zone-short (At (West n)) = omega (arith, hhmm-length n)
 
 -- a part's text, by its letter
 module _ (p : ℕ) (d : DateTime) where
-  pub text-year : p ≡ 89 → (partText p d ≡ digits 4 (d .year)) × (width p ≡ 4)
+  pub text-year : p ≡ code "Y" → (partText p d ≡ digits 4 (d .year)) × (width p ≡ 4)
   unfolding partText width
-  text-year e = (rw (eq-eqb p 89 e), rw (eq-eqb p 89 e))
+  text-year e = (rw (eq-eqb p (code "Y") e), rw (eq-eqb p (code "Y") e))
 
-  module _ (a : p ≡ 89 → ⊥) where
-    pub text-fraction : p ≡ 102 → (partText p d ≡ fractionText (d .micros % secondTicks)) × (width p ≡ 1 + fractionDigits)
+  module _ (a : p ≡ code "Y" → ⊥) where
+    pub text-fraction : p ≡ code "f" → (partText p d ≡ fractionText (d .micros % secondTicks)) × (width p ≡ 1 + fractionDigits)
     unfolding partText width
-    text-fraction e = (rw (ne-eqb p 89 a, eq-eqb p 102 e), rw (ne-eqb p 89 a, eq-eqb p 102 e))
+    text-fraction e = (rw (ne-eqb p (code "Y") a, eq-eqb p (code "f") e), rw (ne-eqb p (code "Y") a, eq-eqb p (code "f") e))
 
-    module _ (b : p ≡ 102 → ⊥) where
-      pub text-zone : p ≡ 122 → (partText p d ≡ zoneText (d .zone)) × (width p ≡ 6)
+    module _ (b : p ≡ code "f" → ⊥) where
+      pub text-zone : p ≡ code "z" → (partText p d ≡ zoneText (d .zone)) × (width p ≡ 6)
       unfolding partText width
-      text-zone e = (rw (ne-eqb p 89 a, ne-eqb p 102 b, eq-eqb p 122 e), rw (ne-eqb p 89 a, ne-eqb p 102 b, eq-eqb p 122 e))
+      text-zone e = (rw (ne-eqb p (code "Y") a, ne-eqb p (code "f") b, eq-eqb p (code "z") e), rw (ne-eqb p (code "Y") a, ne-eqb p (code "f") b, eq-eqb p (code "z") e))
 
-      module _ (f : p ≡ 122 → ⊥) {r : Bool} (er : r ≡ isPair p) where
+      module _ (f : p ≡ code "z" → ⊥) {r : Bool} (er : r ≡ isPair p) where
         pub text-pair : r ≡ true → (partText p d ≡ digits 2 (pairOf p d)) × (width p ≡ 2)
         unfolding partText width
-        text-pair e = (rw (ne-eqb p 89 a, ne-eqb p 102 b, ne-eqb p 122 f, sym er ∙ e), rw (ne-eqb p 89 a, ne-eqb p 102 b, ne-eqb p 122 f, sym er ∙ e))
+        text-pair e = (rw (ne-eqb p (code "Y") a, ne-eqb p (code "f") b, ne-eqb p (code "z") f, sym er ∙ e), rw (ne-eqb p (code "Y") a, ne-eqb p (code "f") b, ne-eqb p (code "z") f, sym er ∙ e))
 
         pub text-mark : r ≡ false → (partText p d ≡ p ∷ []) × (width p ≡ 1)
         unfolding partText width
-        text-mark e = (rw (ne-eqb p 89 a, ne-eqb p 102 b, ne-eqb p 122 f, sym er ∙ e), rw (ne-eqb p 89 a, ne-eqb p 102 b, ne-eqb p 122 f, sym er ∙ e))
+        text-mark e = (rw (ne-eqb p (code "Y") a, ne-eqb p (code "f") b, ne-eqb p (code "z") f, sym er ∙ e), rw (ne-eqb p (code "Y") a, ne-eqb p (code "f") b, ne-eqb p (code "z") f, sym er ∙ e))
 
 pub text-short : (p : ℕ) (d : DateTime) → length (partText p d) ≤ width p
 unfolding partText width
-text-short p d = go (eqb p 89) (eqb p 102) (eqb p 122) (isPair p) refl refl refl refl
+text-short p d = go (eqb p (code "Y")) (eqb p (code "f")) (eqb p (code "z")) (isPair p) refl refl refl refl
   where
-    go : (a b c f : Bool) → eqb p 89 ≡ a → eqb p 102 ≡ b → eqb p 122 ≡ c → isPair p ≡ f → length (partText p d) ≤ width p
+    go : (a b c f : Bool) → eqb p (code "Y") ≡ a → eqb p (code "f") ≡ b → eqb p (code "z") ≡ c → isPair p ≡ f → length (partText p d) ≤ width p
     go true b c f e g h i = rw e (omega (arith, length-digits 4 (d .year)))
     go false true c f e g h i = rw (e, g) (fraction-short (d .micros % secondTicks))
     go false false true f e g h i = rw (e, g, h) (zone-short (d .zone))

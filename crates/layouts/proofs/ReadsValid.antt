@@ -4,6 +4,7 @@ use mathlib.Core.Path.{_≡_, refl, sym, _∙_}
 use mathlib.Core.Bool.{Bool, true, false}
 use mathlib.Core.List.{List, [], _∷_}
 use Prim.Native.Nat.{ℕ, _<_}
+use Prim.Native.Char.{code}
 use native.Mathlib.Omega.{arith}
 use lib.Dec.{eqb, leb}
 use lib.ListN.{length}
@@ -28,11 +29,11 @@ never q =
     omega arith
 
 -- a letter that is none of a part's leaves every fact
-mark-leaves : (P : Scan → Type 0) (p : ℕ) → (p ≡ 89 → ⊥) → (p ≡ 102 → ⊥) → isPair p ≡ false → Leaves P p
+mark-leaves : (P : Scan → Type 0) (p : ℕ) → (p ≡ code "Y" → ⊥) → (p ≡ code "f" → ⊥) → isPair p ≡ false → Leaves P p
 mark-leaves P p a b c =
     record { year = λ q. absurd (a q); fraction = λ q. absurd (b q); pair = λ q. absurd (never (sym c ∙ q)) }
 
-pair-leaves : (P : Scan → Type 0) (p : ℕ) → (p ≡ 89 → ⊥) → (p ≡ 102 → ⊥) → ((t : Scan) (g : Pair) → P t → P (placed p t g)) → Leaves P p
+pair-leaves : (P : Scan → Type 0) (p : ℕ) → (p ≡ code "Y" → ⊥) → (p ≡ code "f" → ⊥) → ((t : Scan) (g : Pair) → P t → P (placed p t g)) → Leaves P p
 pair-leaves P p a b f = record { year = λ q. absurd (a q); fraction = λ q. absurd (b q); pair = λ q. f }
 
 -- a fraction is less than a second
@@ -41,9 +42,9 @@ Short t = t .part < secondTicks
 
 placed-short : (p : ℕ) (t : Scan) (g : Pair) → Short t → Short (placed p t g)
 unfolding placed
-placed-short p t g a = go (eqb p 77) (eqb p 68) (eqb p 104) (eqb p 109) refl refl refl refl
+placed-short p t g a = go (eqb p (code "M")) (eqb p (code "D")) (eqb p (code "h")) (eqb p (code "m")) refl refl refl refl
   where
-    go : (b c d e : Bool) → eqb p 77 ≡ b → eqb p 68 ≡ c → eqb p 104 ≡ d → eqb p 109 ≡ e → Short (placed p t g)
+    go : (b c d e : Bool) → eqb p (code "M") ≡ b → eqb p (code "D") ≡ c → eqb p (code "h") ≡ d → eqb p (code "m") ≡ e → Short (placed p t g)
     go true c d e w x y z = rw w a
     go false true d e w x y z = rw (w, x) a
     go false false true e w x y z = rw (w, x, y) a
@@ -66,13 +67,13 @@ date-letters : Everywhere AtMidnight (layout KV.Date)
 unfolding isPair placed
 date-letters =
     letter (record { year = λ q t n y a. a; fraction = λ q. absurd (odd q); pair = λ q. absurd (never q) })
-    (letter (mark-leaves AtMidnight 45 (λ q. omega arith) (λ q. omega arith) refl)
-    (letter (pair-leaves AtMidnight 77 (λ q. omega arith) (λ q. omega arith) (λ t g a. a))
-    (letter (mark-leaves AtMidnight 45 (λ q. omega arith) (λ q. omega arith) refl)
-    (letter (pair-leaves AtMidnight 68 (λ q. omega arith) (λ q. omega arith) (λ t g a. a))
-    (letter (mark-leaves AtMidnight 122 (λ q. omega arith) (λ q. omega arith) refl) ended)))))
+    (letter (mark-leaves AtMidnight (code "-") (λ q. omega arith) (λ q. omega arith) refl)
+    (letter (pair-leaves AtMidnight (code "M") (λ q. omega arith) (λ q. omega arith) (λ t g a. a))
+    (letter (mark-leaves AtMidnight (code "-") (λ q. omega arith) (λ q. omega arith) refl)
+    (letter (pair-leaves AtMidnight (code "D") (λ q. omega arith) (λ q. omega arith) (λ t g a. a))
+    (letter (mark-leaves AtMidnight (code "z") (λ q. omega arith) (λ q. omega arith) refl) ended)))))
   where
-    odd : _≡_ {A = ℕ} 89 102 → ⊥
+    odd : _≡_ {A = ℕ} (code "Y") (code "f") → ⊥
     odd q = omega arith
 
 -- a time's day is the template's
@@ -82,15 +83,15 @@ OnReferenceDay t = (t .year ≡ 1972) × (t .month ≡ 12) × (t .day ≡ 31)
 time-letters : Everywhere OnReferenceDay (layout KV.Time)
 unfolding isPair placed
 time-letters =
-    letter (pair-leaves OnReferenceDay 104 (λ q. omega arith) (λ q. omega arith) (λ t g a. a))
-    (letter (mark-leaves OnReferenceDay 58 (λ q. omega arith) (λ q. omega arith) refl)
-    (letter (pair-leaves OnReferenceDay 109 (λ q. omega arith) (λ q. omega arith) (λ t g a. a))
-    (letter (mark-leaves OnReferenceDay 58 (λ q. omega arith) (λ q. omega arith) refl)
-    (letter (pair-leaves OnReferenceDay 115 (λ q. omega arith) (λ q. omega arith) (λ t g a. a))
+    letter (pair-leaves OnReferenceDay (code "h") (λ q. omega arith) (λ q. omega arith) (λ t g a. a))
+    (letter (mark-leaves OnReferenceDay (code ":") (λ q. omega arith) (λ q. omega arith) refl)
+    (letter (pair-leaves OnReferenceDay (code "m") (λ q. omega arith) (λ q. omega arith) (λ t g a. a))
+    (letter (mark-leaves OnReferenceDay (code ":") (λ q. omega arith) (λ q. omega arith) refl)
+    (letter (pair-leaves OnReferenceDay (code "s") (λ q. omega arith) (λ q. omega arith) (λ t g a. a))
     (letter (record { year = λ q. absurd (odd q); fraction = λ q t s i a. a; pair = λ q. absurd (never q) })
-    (letter (mark-leaves OnReferenceDay 122 (λ q. omega arith) (λ q. omega arith) refl) ended))))))
+    (letter (mark-leaves OnReferenceDay (code "z") (λ q. omega arith) (λ q. omega arith) refl) ended))))))
   where
-    odd : _≡_ {A = ℕ} 102 89 → ⊥
+    odd : _≡_ {A = ℕ} (code "f") (code "Y") → ⊥
     odd q = omega arith
 
 suits : (k : Kind) (s : List ℕ) → (t : Scan) → t ≡ partsOf whole k s → Suits k (record { year = t .year; month = t .month; day = t .day }) (ticksOf (t .hour) (t .minute) (t .second) (t .part))

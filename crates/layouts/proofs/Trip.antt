@@ -4,6 +4,7 @@ use mathlib.Core.Path.{_≡_, refl, ap, sym, _∙_}
 use mathlib.Core.Bool.{Bool, true, false}
 use mathlib.Core.List.{List, [], _∷_}
 use Prim.Native.Nat.{ℕ, _+_, _*_, _%_, _≤_}
+use Prim.Native.Char.{code}
 use native.Mathlib.Omega.{arith}
 use lib.Dec.{eqb}
 use lib.ListN.{length, drop}
@@ -50,9 +51,9 @@ module _ (p : ℕ) (v : DateTime) (m : Small v) (t : Scan) (b : Sound t) where
 
   placed-sound : (i : ℕ) → Sound (placed p t (record { value = pairOf p v; at = i; good = true }))
   unfolding placed pairOf
-  placed-sound i = go (eqb p 77) (eqb p 68) (eqb p 104) (eqb p 109) refl refl refl refl
+  placed-sound i = go (eqb p (code "M")) (eqb p (code "D")) (eqb p (code "h")) (eqb p (code "m")) refl refl refl refl
     where
-      go : (x y z w : Bool) → eqb p 77 ≡ x → eqb p 68 ≡ y → eqb p 104 ≡ z → eqb p 109 ≡ w → Sound (placed p t (record { value = pairOf p v; at = i; good = true }))
+      go : (x y z w : Bool) → eqb p (code "M") ≡ x → eqb p (code "D") ≡ y → eqb p (code "h") ≡ z → eqb p (code "m") ≡ w → Sound (placed p t (record { value = pairOf p v; at = i; good = true }))
       go true y z w e f h j = rw e (record { plus = b .plus; short = b .short; year = b .year; hour = b .hour; minute = b .minute; second = b .second; zm = b .zm; offset = b .offset })
       go false true z w e f h j = rw (e, f) (record { plus = b .plus; short = b .short; year = b .year; hour = b .hour; minute = b .minute; second = b .second; zm = b .zm; offset = b .offset })
       go false false true w e f h j = rw (e, f, h) (record { plus = b .plus; short = b .short; year = b .year; hour = omega (arith, m .micros); minute = b .minute; second = b .second; zm = b .zm; offset = b .offset })
@@ -61,9 +62,9 @@ module _ (p : ℕ) (v : DateTime) (m : Small v) (t : Scan) (b : Sound t) where
 
   sound : Sound (partKept p v t)
   unfolding partKept
-  sound = go (eqb p 89) (eqb p 102) (eqb p 122) (isPair p) (eqb (v .micros % secondTicks) 0) refl refl refl refl refl
+  sound = go (eqb p (code "Y")) (eqb p (code "f")) (eqb p (code "z")) (isPair p) (eqb (v .micros % secondTicks) 0) refl refl refl refl refl
     where
-      go : (x y z w u : Bool) → eqb p 89 ≡ x → eqb p 102 ≡ y → eqb p 122 ≡ z → isPair p ≡ w → eqb (v .micros % secondTicks) 0 ≡ u → Sound (partKept p v t)
+      go : (x y z w u : Bool) → eqb p (code "Y") ≡ x → eqb p (code "f") ≡ y → eqb p (code "z") ≡ z → isPair p ≡ w → eqb (v .micros % secondTicks) 0 ≡ u → Sound (partKept p v t)
       go true y z w u e f h j k = rw e (record { plus = refl; short = b .short; year = m .year; hour = b .hour; minute = b .minute; second = b .second; zm = b .zm; offset = b .offset })
       go false true z w true e f h j k = rw (e, f, k) b
       go false true z w false e f h j k = rw (e, f, k) (record { plus = b .plus; short = refl; year = b .year; hour = b .hour; minute = b .minute; second = b .second; zm = b .zm; offset = b .offset })

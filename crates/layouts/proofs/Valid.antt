@@ -3,6 +3,7 @@
 use mathlib.Core.Path.{_≡_, refl, sym}
 use mathlib.Core.Bool.{Bool, true, false}
 use Prim.Native.Nat.{ℕ, zero, suc, _+_, _*_, _≤_, _<_}
+use Prim.Native.Char.{code}
 use native.Mathlib.Omega.{arith}
 use lib.Dec.{eqb, leb}
 use borrow.Author.Tests.{leb-true, leb-false, le-leb, eqb-false}
@@ -81,7 +82,7 @@ record-good d u z e h g = both-true _ _ e (both-true _ _ (le-leb u maxMicros h) 
 
 zone-good : (sign n : ℕ) → n ≤ maxZone → okZone (zoneIs sign n) ≡ true
 unfolding zoneIs okZone okOffset every
-zone-good sign n h = go (eqb sign 0) (eqb sign 45) (eqb n 0) refl
+zone-good sign n h = go (eqb sign 0) (eqb sign (code "-")) (eqb n 0) refl
   where
     go : (a b c : Bool) → eqb n 0 ≡ c → okZone (pick a Absent (At (pick b (pick c (East 0) (West n)) (East n)))) ≡ true
     go true b c e = refl

@@ -12,7 +12,6 @@ use Rattle.value.specs.declared.Zone.{Zone}
 use Rattle.value.specs.declared.Zone.the-variants.{Absent, At}
 use Rattle.value.specs.declared.DateTime.{DateTime}
 use Rattle.value.specs.declared.Kind.{Kind}
-use Rattle.numerals.specs.Reading.{fractionDigits}
 use Rattle.numerals.specs.Writing.{digits, fractionText}
 use Rattle.scan.specs.Scanning.{layout, isPair, yearDigits}
 

@@ -3,6 +3,7 @@ use mathlib.Core.Path.{_≡_, refl, ap, sym, _∙_}
 use mathlib.Core.Bool.{Bool, true, false}
 use mathlib.Core.List.{List, [], _∷_, _++_, append-assoc}
 use Prim.Native.Nat.{ℕ, zero, suc, _+_, _*_, _/_, _%_, _^_, _≤_, _<_}
+use Prim.Native.Char.{code}
 use native.Mathlib.Nat.{pow-suc, mul-assoc}
 use native.Mathlib.Omega.{arith}
 use lib.Dec.{ltb}
@@ -20,14 +21,14 @@ use Rattle.numerals.proofs.Texts.{named}
 pub length-digits : (k n : ℕ) → length (digits k n) ≡ k
 unfolding digits
 length-digits zero n = refl
-length-digits (suc k) n = length-append (digits k (n / 10)) ((48 + n % 10) ∷ []) ∙ omega (arith, length-digits k (n / 10))
+length-digits (suc k) n = length-append (digits k (n / 10)) ((code "0" + n % 10) ∷ []) ∙ omega (arith, length-digits k (n / 10))
 
 -- two digits, and four, cell by cell
-pub two-cells : (n : ℕ) → n < 100 → digits 2 n ≡ (48 + n / 10) ∷ (48 + n % 10) ∷ []
+pub two-cells : (n : ℕ) → n < 100 → digits 2 n ≡ (code "0" + n / 10) ∷ (code "0" + n % 10) ∷ []
 unfolding digits
 two-cells n h =
     let e : n / 10 % 10 ≡ n / 10 = omega arith in
-    ap (λ (x : ℕ). (48 + x) ∷ (48 + n % 10) ∷ []) e
+    ap (λ (x : ℕ). (code "0" + x) ∷ (code "0" + n % 10) ∷ []) e
 
 pub four-pairs : (n : ℕ) → digits 4 n ≡ digits 2 (n / 100) ++ digits 2 (n % 100)
 unfolding digits
@@ -36,7 +37,7 @@ four-pairs n =
     let b : n / 10 / 10 % 10 ≡ n / 100 % 10 = omega arith in
     let c : n / 10 % 10 ≡ n % 100 / 10 % 10 = omega arith in
     let d : n % 10 ≡ n % 100 % 10 = omega arith in
-    λ i. (48 + a i) ∷ (48 + b i) ∷ (48 + c i) ∷ (48 + d i) ∷ []
+    λ i. (code "0" + a i) ∷ (code "0" + b i) ∷ (code "0" + c i) ∷ (code "0" + d i) ∷ []
 
 -- k digits of a number below 10 ^ k are read as that number
 pub read-digits : (k n v j : ℕ) (rest : List ℕ) → n < 10 ^ k → number v j (digits k n ++ rest) ≡ number (v * 10 ^ k + n) (j + k) rest
@@ -50,8 +51,8 @@ read-digits (suc k) n v j rest h =
     let q : v * 10 ^ suc k ≡ v * 10 ^ k * 10 = ap (λ (x : ℕ). v * x) p ∙ sym (mul-assoc v (10 ^ k) 10) in
     let e : (v * 10 ^ k + n / 10) * 10 + n % 10 ≡ v * 10 ^ suc k + n = omega arith in
     let f : suc (j + k) ≡ j + suc k = omega arith in
-    ap (number v j) (append-assoc (digits k (n / 10)) ((48 + n % 10) ∷ []) rest)
-    ∙ read-digits k (n / 10) v j ((48 + n % 10) ∷ rest) (omega arith)
+    ap (number v j) (append-assoc (digits k (n / 10)) ((code "0" + n % 10) ∷ []) rest)
+    ∙ read-digits k (n / 10) v j ((code "0" + n % 10) ∷ rest) (omega arith)
     ∙ pass (v * 10 ^ k + n / 10) (j + k) (n % 10) rest (omega arith)
     ∙ ap (λ (w : ℕ). number w (suc (j + k)) rest) e
     ∙ ap (λ (w : ℕ). number (v * 10 ^ suc k + n) w rest) f
@@ -72,17 +73,17 @@ enough (suc j) (suc k) n hj hk =
     go (ltb n 10) (enough j k (n / 10) (omega (arith, pow-suc 10 (suc j))) (omega (arith, pow-suc 10 (suc k))))
   where
     go : (b : Bool) → shortest (suc j) (n / 10) ≡ shortest (suc k) (n / 10)
-        → pick b ((48 + n) ∷ []) (shortest (suc j) (n / 10) ++ (48 + n % 10) ∷ []) ≡ pick b ((48 + n) ∷ []) (shortest (suc k) (n / 10) ++ (48 + n % 10) ∷ [])
+        → pick b ((code "0" + n) ∷ []) (shortest (suc j) (n / 10) ++ (code "0" + n % 10) ∷ []) ≡ pick b ((code "0" + n) ∷ []) (shortest (suc k) (n / 10) ++ (code "0" + n % 10) ∷ [])
     go true e = refl
-    go false e = ap (λ (x : List ℕ). x ++ (48 + n % 10) ∷ []) e
+    go false e = ap (λ (x : List ℕ). x ++ (code "0" + n % 10) ∷ []) e
 
-pub decimal-one : (n : ℕ) → n < 10 → decimal n ≡ (48 + n) ∷ []
+pub decimal-one : (n : ℕ) → n < 10 → decimal n ≡ (code "0" + n) ∷ []
 unfolding decimal shortest
 decimal-one n h = rw (lt-ltb n 10 h)
 
-pub decimal-more : (n : ℕ) → 10 ≤ n → decimal n ≡ decimal (n / 10) ++ (48 + n % 10) ∷ []
+pub decimal-more : (n : ℕ) → 10 ≤ n → decimal n ≡ decimal (n / 10) ++ (code "0" + n % 10) ∷ []
 unfolding decimal shortest
-decimal-more n h = rw (le-ltb n 10 h) (ap (λ (x : List ℕ). x ++ (48 + n % 10) ∷ []) (less n h))
+decimal-more n h = rw (le-ltb n 10 h) (ap (λ (x : List ℕ). x ++ (code "0" + n % 10) ∷ []) (less n h))
   where
     less : (n : ℕ) → 10 ≤ n → shortest n (n / 10) ≡ shortest (suc (n / 10)) (n / 10)
     less zero h = absurd (bad h)
@@ -101,9 +102,9 @@ unfolding shortest
 shortest-le zero n = omega arith
 shortest-le (suc k) n = go (ltb n 10) (shortest-le k (n / 10))
   where
-    go : (b : Bool) → length (shortest k (n / 10)) ≤ k → length (pick b ((48 + n) ∷ []) (shortest k (n / 10) ++ (48 + n % 10) ∷ [])) ≤ suc k
+    go : (b : Bool) → length (shortest k (n / 10)) ≤ k → length (pick b ((code "0" + n) ∷ []) (shortest k (n / 10) ++ (code "0" + n % 10) ∷ [])) ≤ suc k
     go true h = omega arith
-    go false h = omega (arith, length-append (shortest k (n / 10)) ((48 + n % 10) ∷ []))
+    go false h = omega (arith, length-append (shortest k (n / 10)) ((code "0" + n % 10) ∷ []))
 
 pub decimal-le : (k n : ℕ) → 1 ≤ k → n < 10 ^ k → length (decimal n) ≤ k
 decimal-le zero n p h = absurd (bad p)
@@ -116,9 +117,9 @@ pub decimal-some : (n : ℕ) → 1 ≤ length (decimal n)
 unfolding decimal shortest
 decimal-some n = go (ltb n 10)
   where
-    go : (b : Bool) → 1 ≤ length (pick b ((48 + n) ∷ []) (shortest n (n / 10) ++ (48 + n % 10) ∷ []))
+    go : (b : Bool) → 1 ≤ length (pick b ((code "0" + n) ∷ []) (shortest n (n / 10) ++ (code "0" + n % 10) ∷ []))
     go true = omega arith
-    go false = omega (arith, length-append (shortest n (n / 10)) ((48 + n % 10) ∷ []))
+    go false = omega (arith, length-append (shortest n (n / 10)) ((code "0" + n % 10) ∷ []))
 
 -- a number without leading zeros is read as itself
 read-shortest : (k n : ℕ) (rest : List ℕ) → n < 10 ^ k → number 0 0 (shortest k n ++ rest) ≡ number n (length (shortest k n)) rest
@@ -126,20 +127,20 @@ unfolding shortest
 read-shortest zero n rest h =
     let e : n ≡ 0 = omega arith in
     ap (λ (v : ℕ). number v 0 rest) (sym e)
-read-shortest (suc k) n rest h = go (ltb n 10) refl (read-shortest k (n / 10) ((48 + n % 10) ∷ rest) (omega (arith, pow-suc 10 k)))
+read-shortest (suc k) n rest h = go (ltb n 10) refl (read-shortest k (n / 10) ((code "0" + n % 10) ∷ rest) (omega (arith, pow-suc 10 k)))
   where
     go : (b : Bool) → ltb n 10 ≡ b
-        → number 0 0 (shortest k (n / 10) ++ (48 + n % 10) ∷ rest) ≡ number (n / 10) (length (shortest k (n / 10))) ((48 + n % 10) ∷ rest)
-        → number 0 0 (pick b ((48 + n) ∷ []) (shortest k (n / 10) ++ (48 + n % 10) ∷ []) ++ rest)
-        ≡ number n (length (pick b ((48 + n) ∷ []) (shortest k (n / 10) ++ (48 + n % 10) ∷ []))) rest
+        → number 0 0 (shortest k (n / 10) ++ (code "0" + n % 10) ∷ rest) ≡ number (n / 10) (length (shortest k (n / 10))) ((code "0" + n % 10) ∷ rest)
+        → number 0 0 (pick b ((code "0" + n) ∷ []) (shortest k (n / 10) ++ (code "0" + n % 10) ∷ []) ++ rest)
+        ≡ number n (length (pick b ((code "0" + n) ∷ []) (shortest k (n / 10) ++ (code "0" + n % 10) ∷ []))) rest
     go true e r =
         let l : n < 10 = ltb-true n 10 e in
         let z : 0 * 10 + n ≡ n = omega arith in
         pass 0 0 n rest (omega arith) ∙ ap (λ (x : ℕ). number x 1 rest) z
     go false e r =
         let v : n / 10 * 10 + n % 10 ≡ n = omega arith in
-        let w : suc (length (shortest k (n / 10))) ≡ length (shortest k (n / 10) ++ (48 + n % 10) ∷ []) = sym (length-append (shortest k (n / 10)) ((48 + n % 10) ∷ []) ∙ omega arith) in
-        ap (number 0 0) (append-assoc (shortest k (n / 10)) ((48 + n % 10) ∷ []) rest)
+        let w : suc (length (shortest k (n / 10))) ≡ length (shortest k (n / 10) ++ (code "0" + n % 10) ∷ []) = sym (length-append (shortest k (n / 10)) ((code "0" + n % 10) ∷ []) ∙ omega arith) in
+        ap (number 0 0) (append-assoc (shortest k (n / 10)) ((code "0" + n % 10) ∷ []) rest)
         ∙ r
         ∙ pass (n / 10) (length (shortest k (n / 10))) (n % 10) rest (omega arith)
         ∙ ap (λ (x : ℕ). number x (suc (length (shortest k (n / 10)))) rest) v
@@ -156,14 +157,14 @@ shortest-digits zero n = refl
 shortest-digits (suc k) n = go (ltb n 10) refl (shortest-digits k (n / 10))
   where
     go : (b : Bool) → ltb n 10 ≡ b → digits (length (shortest k (n / 10))) (n / 10) ≡ shortest k (n / 10)
-        → digits (length (pick b ((48 + n) ∷ []) (shortest k (n / 10) ++ (48 + n % 10) ∷ []))) n ≡ pick b ((48 + n) ∷ []) (shortest k (n / 10) ++ (48 + n % 10) ∷ [])
+        → digits (length (pick b ((code "0" + n) ∷ []) (shortest k (n / 10) ++ (code "0" + n % 10) ∷ []))) n ≡ pick b ((code "0" + n) ∷ []) (shortest k (n / 10) ++ (code "0" + n % 10) ∷ [])
     go true e r =
         let l : n < 10 = ltb-true n 10 e in
         let d : n % 10 ≡ n = omega arith in
-        ap (λ (x : ℕ). (48 + x) ∷ []) d
+        ap (λ (x : ℕ). (code "0" + x) ∷ []) d
     go false e r =
-        let l : length (shortest k (n / 10) ++ (48 + n % 10) ∷ []) ≡ suc (length (shortest k (n / 10))) = length-append (shortest k (n / 10)) ((48 + n % 10) ∷ []) ∙ omega arith in
-        ap (λ (m : ℕ). digits m n) l ∙ ap (λ (w : List ℕ). w ++ (48 + n % 10) ∷ []) r
+        let l : length (shortest k (n / 10) ++ (code "0" + n % 10) ∷ []) ≡ suc (length (shortest k (n / 10))) = length-append (shortest k (n / 10)) ((code "0" + n % 10) ∷ []) ∙ omega arith in
+        ap (λ (m : ℕ). digits m n) l ∙ ap (λ (w : List ℕ). w ++ (code "0" + n % 10) ∷ []) r
 
 pub decimal-digits : (n : ℕ) → digits (length (decimal n)) n ≡ decimal n
 unfolding decimal
@@ -174,4 +175,4 @@ pub wrote-all : {t r : Text} (n k : ℕ) → k ≡ length (decimal n) → Added 
 wrote-all n k e a = named (sym (decimal-digits n) ∙ ap (λ (m : ℕ). digits m n) (sym e)) (sym (length-digits k n)) a
 
 pub decimal-longer : (n : ℕ) → 10 ≤ n → length (decimal n) ≡ length (decimal (n / 10)) + 1
-decimal-longer n h = ap length (decimal-more n h) ∙ length-append (decimal (n / 10)) ((48 + n % 10) ∷ [])
+decimal-longer n h = ap length (decimal-more n h) ∙ length-append (decimal (n / 10)) ((code "0" + n % 10) ∷ [])

@@ -2,6 +2,7 @@
 use mathlib.Core.Path.{_≡_, ap, sym, _∙_}
 use mathlib.Core.List.{List, [], _∷_, _++_, append-assoc, append-nil}
 use Prim.Native.Nat.{ℕ, zero, suc, _+_, _-_, _/_, _%_, _≤_, _<_}
+use Prim.Native.Char.{code}
 use native.Mathlib.Omega.{arith}
 use lib.ListN.{length, set, take, drop, length-set}
 use lib.Seq.{set-split, drop-at, take-add, take-set-le, length-take-le}
@@ -23,14 +24,14 @@ none-yet l from k n e =
 drop-set : (b : List ℕ) (j d : ℕ) → j < length b → drop j (set b j d) ≡ d ∷ drop (suc j) b
 drop-set b j d h = ap (drop j) (set-split b j d h) ∙ drop-at (take j b) (d ∷ drop (suc j) b) j (length-take-le j b (omega arith))
 
-pub one-put : {room : ℕ} {l b : List ℕ} {from k n : ℕ} (i left : ℕ) → 0 < i → from + k ≤ room → Filled room l b from k n i left → Filled room l (set b (from + (i - 1)) (48 + left % 10)) from k n (i - 1) (left / 10)
+pub one-put : {room : ℕ} {l b : List ℕ} {from k n : ℕ} (i left : ℕ) → 0 < i → from + k ≤ room → Filled room l b from k n i left → Filled room l (set b (from + (i - 1)) (code "0" + left % 10)) from k n (i - 1) (left / 10)
 unfolding digits
 one-put zero left p h f = absurd (bad p)
   where
     bad : 0 < 0 → ⊥
     bad q = omega arith
 one-put {room} {l} {b} {from} {k} {n} (suc i) left p h f =
-    let d = 48 + left % 10 in
+    let d = code "0" + left % 10 in
     let e : suc i - 1 ≡ i = omega arith in
     let m : k - i ≡ suc (k - suc i) = omega (arith, f .within) in
     let g : from + suc i ≡ suc (from + i) = omega arith in

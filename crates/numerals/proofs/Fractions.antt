@@ -3,6 +3,7 @@ use mathlib.Core.Path.{_≡_, refl, ap, sym, _∙_}
 use mathlib.Core.Bool.{Bool, true, false}
 use mathlib.Core.List.{List, [], _∷_, _++_}
 use Prim.Native.Nat.{ℕ, _+_, _-_, _*_, _^_, _≤_, _<_}
+use Prim.Native.Char.{code}
 use native.Mathlib.Omega.{arith}
 use lib.Dec.{eqb, leb, lit≤}
 use lib.ListN.{length, getD, drop}
@@ -71,7 +72,7 @@ pub no-fraction : (u : ℕ) → u ≡ 0 → fractionText u ≡ []
 unfolding fractionText
 no-fraction u e = rw e
 
-pub a-fraction : (u : ℕ) → (u ≡ 0 → ⊥) → fractionText u ≡ 46 ∷ kept u
+pub a-fraction : (u : ℕ) → (u ≡ 0 → ⊥) → fractionText u ≡ code "." ∷ kept u
 unfolding fractionText
 a-fraction u e = rw (ne-eqb u 0 e)
 
@@ -92,10 +93,10 @@ fraction-back s i u rest h q e =
 pub wrote-none : {t : Text} (u : ℕ) → u ≡ 0 → Added t t (fractionText u) (length (fractionText u))
 wrote-none {t} u e = named (no-fraction u e) refl (unchanged t)
 
-pub wrote-some : {t q r : Text} {k : Kept} (u : ℕ) → (u ≡ 0 → ⊥) → k ≡ stripped fractionDigits u → Added t q (46 ∷ []) 1 → Added q r (digits (k .count) (k .value)) (k .count)
+pub wrote-some : {t q r : Text} {k : Kept} (u : ℕ) → (u ≡ 0 → ⊥) → k ≡ stripped fractionDigits u → Added t q (code "." ∷ []) 1 → Added q r (digits (k .count) (k .value)) (k .count)
     → Added t r (fractionText u) (length (fractionText u))
 wrote-some {t} {q} {r} {k} u e ek a b =
-    let x : fractionText u ≡ 46 ∷ digits (k .count) (k .value) = a-fraction u e ∙ ap (λ (y : Kept). 46 ∷ digits (y .count) (y .value)) (sym ek) in
+    let x : fractionText u ≡ code "." ∷ digits (k .count) (k .value) = a-fraction u e ∙ ap (λ (y : Kept). (code ".") ∷ digits (y .count) (y .value)) (sym ek) in
     named x (omega (arith, length-digits (k .count) (k .value))) (then a b)
 
 pub strip-length : {k : Kept} (u : ℕ) → (u ≡ 0 → ⊥) → k ≡ stripped fractionDigits u → length (fractionText u) ≡ 1 + k .count
@@ -105,6 +106,6 @@ pub fraction-short : (u : ℕ) → length (fractionText u) ≤ 1 + fractionDigit
 unfolding fractionText
 fraction-short u = go (eqb u 0)
   where
-    go : (b : Bool) → length (pick b [] (46 ∷ kept u)) ≤ 1 + fractionDigits
+    go : (b : Bool) → length (pick b [] (code "." ∷ kept u)) ≤ 1 + fractionDigits
     go true = lit≤ tt
     go false = omega (arith, kept-length u, stripped-le fractionDigits u)

@@ -3,6 +3,7 @@ use mathlib.Core.Path.{_≡_, ap, sym, _∙_}
 use mathlib.Core.Bool.{true, false}
 use mathlib.Core.List.{List, _∷_}
 use Prim.Native.Nat.{ℕ, suc, _+_, _-_, _*_, _≤_, _<_, min}
+use Prim.Native.Char.{code}
 use native.Mathlib.Numerals.{add-one}
 use native.Mathlib.Omega.{arith}
 use lib.ListN.{length, getD, drop, drop-of-length-le}
@@ -24,16 +25,16 @@ start s at cap h =
     record { from = omega arith; to = h; whole = 0; capped = omega arith; rest = rw e }
 
 module _ (s : List ℕ) (at cap i v : ℕ) (p : Passed s at cap i v) where
-  pub next : i < length s → isDigit (getD s i 0) ≡ true → {w : ℕ} → w ≡ min cap (v * 10 + (getD s i 0 - 48)) → Passed s at cap (i + 1) w
+  pub next : i < length s → isDigit (getD s i 0) ≡ true → {w : ℕ} → w ≡ min cap (v * 10 + (getD s i 0 - code "0")) → Passed s at cap (i + 1) w
   unfolding number
   next h e {w} ew =
       let r : number (p .whole) (i - at) (getD s i 0 ∷ drop (suc i) s) ≡ number 0 0 (drop at s) = rw (drop-cons s i 0 h) at (p .rest) in
-      let r2 : number (p .whole * 10 + (getD s i 0 - 48)) (suc (i - at)) (drop (suc i) s) ≡ number 0 0 (drop at s) = rw (e, number) at r in
+      let r2 : number (p .whole * 10 + (getD s i 0 - code "0")) (suc (i - at)) (drop (suc i) s) ≡ number 0 0 (drop at s) = rw (e, number) at r in
       let k : i + 1 - at ≡ suc (i - at) = omega (arith, p .from) in
       record {
         from = omega (arith, p .from);
         to = omega arith;
-        whole = p .whole * 10 + (getD s i 0 - 48);
+        whole = p .whole * 10 + (getD s i 0 - code "0");
         capped = omega (arith, p .capped);
         rest = rw (k, add-one) r2;
       }

@@ -3,6 +3,7 @@
 use mathlib.Core.Bool.{Bool, true, false}
 use mathlib.Core.List.{List, [], _∷_}
 use Prim.Native.Nat.{ℕ, suc, _+_, _-_, _*_, _^_}
+use Prim.Native.Char.{code}
 use lib.Dec.{leb}
 use lib.ListN.{getD, drop}
 use Rattle.basis.specs.Choice.{pick, both}
@@ -14,7 +15,7 @@ at s i = getD s i 0
 
 -- 0 to 9
 unfoldable pub isDigit : ℕ → Bool
-isDigit b = both (leb 48 b) (leb b 57)
+isDigit b = both (leb (code "0") b) (leb b (code "9"))
 
 -- a run of digits: their number, and how many they are
 pub record Number : Type 0 where
@@ -24,7 +25,7 @@ pub record Number : Type 0 where
 -- the longest run of digits at the head of a list, after k digits of the number v
 unfoldable pub number : ℕ → ℕ → List ℕ → Number
 number v k [] = record { value = v; count = k }
-number v k (x ∷ xs) = pick (isDigit x) (number (v * 10 + (x - 48)) (suc k) xs) (record { value = v; count = k })
+number v k (x ∷ xs) = pick (isDigit x) (number (v * 10 + (x - code "0")) (suc k) xs) (record { value = v; count = k })
 
 -- the longest run of digits of a text from a place on
 abbrev pub run : List ℕ → ℕ → Number

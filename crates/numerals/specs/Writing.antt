@@ -1,6 +1,7 @@
 -- Document 01, "Writing text": numbers and fractions as digits.
 use mathlib.Core.List.{List, [], _∷_, _++_}
 use Prim.Native.Nat.{ℕ, zero, suc, _+_, _/_, _%_}
+use Prim.Native.Char.{code}
 use lib.Dec.{eqb, ltb}
 use Rattle.basis.specs.Choice.{pick}
 use Rattle.numerals.specs.Reading.{fractionDigits}
@@ -13,12 +14,12 @@ longest = 32
 -- the last k decimal digits of n, with leading zeros
 unfoldable pub digits : ℕ → ℕ → List ℕ
 digits zero n = []
-digits (suc k) n = digits k (n / 10) ++ (48 + n % 10) ∷ []
+digits (suc k) n = digits k (n / 10) ++ (code "0" + n % 10) ∷ []
 
 -- n in decimal without leading zeros, in at most k digits
 unfoldable pub shortest : ℕ → ℕ → List ℕ
 shortest zero n = []
-shortest (suc k) n = pick (ltb n 10) ((48 + n) ∷ []) (shortest k (n / 10) ++ (48 + n % 10) ∷ [])
+shortest (suc k) n = pick (ltb n 10) ((code "0" + n) ∷ []) (shortest k (n / 10) ++ (code "0" + n % 10) ∷ [])
 
 -- n in decimal without leading zeros: n is below 10 ^ (n + 1)
 unfoldable pub decimal : ℕ → List ℕ
@@ -31,4 +32,4 @@ stripped (suc k) n = pick (eqb (n % 10) 0) (stripped k (n / 10)) (record { value
 
 -- a fraction loses its final zeros and vanishes if zero
 unfoldable pub fractionText : ℕ → List ℕ
-fractionText u = pick (eqb u 0) [] (46 ∷ digits (stripped fractionDigits u .count) (stripped fractionDigits u .value))
+fractionText u = pick (eqb u 0) [] (code "." ∷ digits (stripped fractionDigits u .count) (stripped fractionDigits u .value))

@@ -146,7 +146,7 @@ pub fn fixed(t: Text, n: u64, k: usize) -> Text
     let mut i = k;
     while 0 < i {
         i -= 1;
-        u.bytes[from + i] = (48 + left % 10) as u8;
+        u.bytes[from + i] = b'0' + (left % 10) as u8;
         left = left / 10;
     }
     u.len = from + k;

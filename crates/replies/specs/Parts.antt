@@ -2,7 +2,8 @@
 -- the order `year month day hours minutes seconds zone`; of either duration kind all six.
 use mathlib.Core.Bool.{Bool, true, false}
 use mathlib.Core.List.{List, _∷_, _++_}
-use Prim.Native.Nat.{ℕ}
+use Prim.Native.Nat.{ℕ, _+_}
+use Prim.Native.Char.{code}
 use Prim.Native.String.{String}
 use lib.IntN.{ℤ, pos, negsuc, natAbs}
 use Rattle.basis.specs.Choice.{pick}
@@ -17,7 +18,7 @@ use Rattle.components.specs.declared.Lasting.{Lasting}
 use Rattle.replies.specs.Replies.{numberText}
 
 abbrev pub space : ℕ
-space = 32
+space = code " "
 
 abbrev pub plain : String → ℕ → List ℕ
 plain name n = bytes name ++ numberText false n 0

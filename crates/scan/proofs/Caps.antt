@@ -4,6 +4,7 @@ use mathlib.Core.Path.{_≡_, refl, ap, _∙_}
 use mathlib.Core.Bool.{Bool, true, false}
 use mathlib.Core.List.{List, [], _∷_}
 use Prim.Native.Nat.{ℕ, _+_}
+use Prim.Native.Char.{code}
 use lib.Dec.{eqb, ltb}
 use lib.ListN.{length}
 use Rattle.basis.specs.Choice.{both, pick}
@@ -24,10 +25,10 @@ cutYear y = record { value = capped (y .value); at = y .at; good = y .good }
 
 year-cut : (s : List ℕ) (i : ℕ) → yearAt capped s i ≡ cutYear (yearAt whole s i)
 unfolding yearAt
-year-cut s i = go (ltb (run s i .count) 4) (fourZeros s i) (both (ltb 4 (run s i .count)) (eqb (at s i) 48)) refl refl refl
+year-cut s i = go (ltb (run s i .count) 4) (fourZeros s i) (both (ltb 4 (run s i .count)) (eqb (at s i) (code "0"))) refl refl refl
   where
     go : (a b c : Bool) → ltb (run s i .count) 4 ≡ a → fourZeros s i ≡ b
-        → both (ltb 4 (run s i .count)) (eqb (at s i) 48) ≡ c → yearAt capped s i ≡ cutYear (yearAt whole s i)
+        → both (ltb 4 (run s i .count)) (eqb (at s i) (code "0")) ≡ c → yearAt capped s i ≡ cutYear (yearAt whole s i)
     go true b c e f g = rw e
     go false true c e f g = rw (e, f)
     go false false true e f g = rw (e, f, g)
@@ -36,17 +37,17 @@ year-cut s i = go (ltb (run s i .count) 4) (fourZeros s i) (both (ltb 4 (run s i
 module _ (s : List ℕ) (t : Scan) where
   year-part-cut : yearPart capped s (cut t) ≡ cut (yearPart whole s t)
   unfolding yearPart
-  year-part-cut = go (eqb (at s (t .at)) 45) refl
+  year-part-cut = go (eqb (at s (t .at)) (code "-")) refl
     where
-      go : (b : Bool) → eqb (at s (t .at)) 45 ≡ b → yearPart capped s (cut t) ≡ cut (yearPart whole s t)
+      go : (b : Bool) → eqb (at s (t .at)) (code "-") ≡ b → yearPart capped s (cut t) ≡ cut (yearPart whole s t)
       go true e = rw e (ap (withYear t true) (year-cut s (t .at + 1)))
       go false e = rw e (ap (withYear t false) (year-cut s (t .at)))
 
   fraction-cut : fractionPart s (cut t) ≡ cut (fractionPart s t)
   unfolding fractionPart
-  fraction-cut = go (eqb (at s (t .at)) 46) (eqb (fractionAt s (t .at + 1) .end) (t .at + 1)) refl refl
+  fraction-cut = go (eqb (at s (t .at)) (code ".")) (eqb (fractionAt s (t .at + 1) .end) (t .at + 1)) refl refl
     where
-      go : (a b : Bool) → eqb (at s (t .at)) 46 ≡ a → eqb (fractionAt s (t .at + 1) .end) (t .at + 1) ≡ b → fractionPart s (cut t) ≡ cut (fractionPart s t)
+      go : (a b : Bool) → eqb (at s (t .at)) (code ".") ≡ a → eqb (fractionAt s (t .at + 1) .end) (t .at + 1) ≡ b → fractionPart s (cut t) ≡ cut (fractionPart s t)
       go false b e f = rw e
       go true true e f = rw (e, f)
       go true false e f = rw (e, f)
@@ -63,30 +64,30 @@ module _ (s : List ℕ) (t : Scan) where
           by false e = rw e
 
       hours : (h : Pair) → zoneHours s (cut t) z h ≡ cut (zoneHours s t z h)
-      hours h = by (h .good) (eqb (at s (h .at)) 58) refl refl
+      hours h = by (h .good) (eqb (at s (h .at)) (code ":")) refl refl
         where
-          by : (a b : Bool) → h .good ≡ a → eqb (at s (h .at)) 58 ≡ b → zoneHours s (cut t) z h ≡ cut (zoneHours s t z h)
+          by : (a b : Bool) → h .good ≡ a → eqb (at s (h .at)) (code ":") ≡ b → zoneHours s (cut t) z h ≡ cut (zoneHours s t z h)
           by false b e f = rw e
           by true false e f = rw (e, f)
           by true true e f = rw (e, f) (minutes h (pairAt s (h .at + 1)))
 
   zone-cut : zonePart s (cut t) ≡ cut (zonePart s t)
   unfolding zonePart
-  zone-cut = go (eqb (length s) (t .at)) (eqb (at s (t .at)) 90) (eqb (at s (t .at)) 43) (eqb (at s (t .at)) 45) refl refl refl refl
+  zone-cut = go (eqb (length s) (t .at)) (eqb (at s (t .at)) (code "Z")) (eqb (at s (t .at)) (code "+")) (eqb (at s (t .at)) (code "-")) refl refl refl refl
     where
-      go : (a b c d : Bool) → eqb (length s) (t .at) ≡ a → eqb (at s (t .at)) 90 ≡ b → eqb (at s (t .at)) 43 ≡ c → eqb (at s (t .at)) 45 ≡ d
+      go : (a b c d : Bool) → eqb (length s) (t .at) ≡ a → eqb (at s (t .at)) (code "Z") ≡ b → eqb (at s (t .at)) (code "+") ≡ c → eqb (at s (t .at)) (code "-") ≡ d
           → zonePart s (cut t) ≡ cut (zonePart s t)
       go true b c d e f g h = rw e
       go false true c d e f g h = rw (e, f)
-      go false false true d e f g h = rw (e, f, g) (signed-cut 43)
-      go false false false true e f g h = rw (e, f, g, h) (signed-cut 45)
+      go false false true d e f g h = rw (e, f, g) (signed-cut (code "+"))
+      go false false false true e f g h = rw (e, f, g, h) (signed-cut (code "-"))
       go false false false false e f g h = rw (e, f, g, h)
 
   placed-cut : (p : ℕ) (g : Pair) → placed p (cut t) g ≡ cut (placed p t g)
   unfolding placed
-  placed-cut p g = go (eqb p 77) (eqb p 68) (eqb p 104) (eqb p 109) refl refl refl refl
+  placed-cut p g = go (eqb p (code "M")) (eqb p (code "D")) (eqb p (code "h")) (eqb p (code "m")) refl refl refl refl
     where
-      go : (a b c d : Bool) → eqb p 77 ≡ a → eqb p 68 ≡ b → eqb p 104 ≡ c → eqb p 109 ≡ d → placed p (cut t) g ≡ cut (placed p t g)
+      go : (a b c d : Bool) → eqb p (code "M") ≡ a → eqb p (code "D") ≡ b → eqb p (code "h") ≡ c → eqb p (code "m") ≡ d → placed p (cut t) g ≡ cut (placed p t g)
       go true b c d e f i j = rw e
       go false true c d e f i j = rw (e, f)
       go false false true d e f i j = rw (e, f, i)
@@ -95,9 +96,9 @@ module _ (s : List ℕ) (t : Scan) where
 
   part-at-cut : (p : ℕ) → partAt capped p s (cut t) ≡ cut (partAt whole p s t)
   unfolding partAt
-  part-at-cut p = go (eqb p 89) (eqb p 102) (eqb p 122) (isPair p) (eqb (at s (t .at)) p) refl refl refl refl refl
+  part-at-cut p = go (eqb p (code "Y")) (eqb p (code "f")) (eqb p (code "z")) (isPair p) (eqb (at s (t .at)) p) refl refl refl refl refl
     where
-      go : (a b c d x : Bool) → eqb p 89 ≡ a → eqb p 102 ≡ b → eqb p 122 ≡ c → isPair p ≡ d → eqb (at s (t .at)) p ≡ x → partAt capped p s (cut t) ≡ cut (partAt whole p s t)
+      go : (a b c d x : Bool) → eqb p (code "Y") ≡ a → eqb p (code "f") ≡ b → eqb p (code "z") ≡ c → isPair p ≡ d → eqb (at s (t .at)) p ≡ x → partAt capped p s (cut t) ≡ cut (partAt whole p s t)
       go true b c d x e f i j k = rw e year-part-cut
       go false true c d x e f i j k = rw (e, f) fraction-cut
       go false false true d x e f i j k = rw (e, f, i) zone-cut

@@ -57,23 +57,23 @@ module _ (s : List ℕ) (at p x : ℕ) (e : p ≡ skipped s at) (q : x ≡ getD 
     unfolding the.markAt
     mark-not h = rw (← e, ne-eqb _ _ (λ k. h (q ∙ k)))
 
-  pub sign-plus : x ≡ 43 → J.At O.Plus p (p + 1) ≡ the.signAt s at
+  pub sign-plus : x ≡ code "+" → J.At O.Plus p (p + 1) ≡ the.signAt s at
   unfolding the.signAt
   sign-plus h = rw (← e, eq-eqb _ _ (sym q ∙ h))
 
-  pub sign-minus : (x ≡ 43 → ⊥) → x ≡ 45 → J.At O.Minus p (p + 1) ≡ the.signAt s at
+  pub sign-minus : (x ≡ code "+" → ⊥) → x ≡ code "-" → J.At O.Minus p (p + 1) ≡ the.signAt s at
   unfolding the.signAt
   sign-minus n h = rw (← e, ne-eqb _ _ (λ k. n (q ∙ k)), eq-eqb _ _ (sym q ∙ h))
 
-  pub sign-not : (x ≡ 43 → ⊥) → (x ≡ 45 → ⊥) → J.No ≡ the.signAt s at
+  pub sign-not : (x ≡ code "+" → ⊥) → (x ≡ code "-" → ⊥) → J.No ≡ the.signAt s at
   unfolding the.signAt
   sign-not n h = rw (← e, ne-eqb _ _ (λ k. n (q ∙ k)), ne-eqb _ _ (λ k. h (q ∙ k)))
 
-  pub start-open : x ≡ 40 → S.Open (p + 1) ≡ the.startAt s at
+  pub start-open : x ≡ code "(" → S.Open (p + 1) ≡ the.startAt s at
   unfolding the.startAt
   start-open h = rw (← e, eq-eqb _ _ (sym q ∙ h))
 
-  module _ (h : x ≡ 40 → ⊥) (w : List ℕ) (f : w ≡ wordAt s p) (y : Named) (g : y ≡ the.named w) where
+  module _ (h : x ≡ code "(" → ⊥) (w : List ℕ) (f : w ≡ wordAt s p) (y : Named) (g : y ≡ the.named w) where
     named-so : (z : Named) → y ≡ z → the.makes s p z ≡ the.startAt s at
     unfolding the.startAt
     named-so z i = let j : z ≡ the.named (wordAt s p) = sym i ∙ g ∙ ap the.named f in rw (← e, ne-eqb _ _ (λ k. h (q ∙ k)), ← j)
@@ -81,11 +81,11 @@ module _ (s : List ℕ) (at p x : ℕ) (e : p ≡ skipped s at) (q : x ≡ getD 
     pub start-no-name : y ≡ N.No → S.No ≡ the.startAt s at
     start-no-name i = named-so N.No i
 
-    module _ (k : Kind) (i : y ≡ N.Is k) (m : Mark) (o : m ≡ the.markAt s (p + length w) 40) where
+    module _ (k : Kind) (i : y ≡ N.Is k) (m : Mark) (o : m ≡ the.markAt s (p + length w) (code "(")) where
       marked-so : (z : Mark) → m ≡ z → the.made k p z ≡ the.startAt s at
       marked-so z j =
           let v : p + length w ≡ runEnd Letter s p = ap (λ l. p + length l) f ∙ word-end s p in
-          let u : z ≡ the.openingAt s (runEnd Letter s p) = sym j ∙ o ∙ ap (λ n. the.markAt s n 40) v in
+          let u : z ≡ the.openingAt s (runEnd Letter s p) = sym j ∙ o ∙ ap (λ n. the.markAt s n (code "(")) v in
           ap (the.made k p) u ∙ named-so (N.Is k) i
 
       pub start-no-mark : m ≡ M.No → S.No ≡ the.startAt s at
@@ -94,28 +94,28 @@ module _ (s : List ℕ) (at p x : ℕ) (e : p ≡ skipped s at) (q : x ≡ getD 
       pub start-make : (n : ℕ) → m ≡ M.At n → S.Make k p n ≡ the.startAt s at
       start-make n j = marked-so (M.At n) j
 
-  pub held-text : {r : Held} → x ≡ 34 → r ≡ the.textFrom s (p + 1) → r ≡ the.heldAt s at
+  pub held-text : {r : Held} → x ≡ code "\"" → r ≡ the.textFrom s (p + 1) → r ≡ the.heldAt s at
   unfolding the.heldAt
   held-text h g = rw (← e, eq-eqb _ _ (sym q ∙ h)) g
 
-  pub held-field : {r : Held} → (x ≡ 34 → ⊥) → x ≡ 36 → r ≡ the.fieldFrom s p → r ≡ the.heldAt s at
+  pub held-field : {r : Held} → (x ≡ code "\"" → ⊥) → x ≡ code "$" → r ≡ the.fieldFrom s p → r ≡ the.heldAt s at
   unfolding the.heldAt
   held-field n h g = rw (← e, ne-eqb _ _ (λ k. n (q ∙ k)), eq-eqb _ _ (sym q ∙ h)) g
 
-  pub held-sum : (x ≡ 34 → ⊥) → (x ≡ 36 → ⊥) → H.Sum ≡ the.heldAt s at
+  pub held-sum : (x ≡ code "\"" → ⊥) → (x ≡ code "$" → ⊥) → H.Sum ≡ the.heldAt s at
   unfolding the.heldAt
   held-sum n h = rw (← e, ne-eqb _ _ (λ k. n (q ∙ k)), ne-eqb _ _ (λ k. h (q ∙ k)))
 
-  pub multiplier-no : (x ≡ 42 → ⊥) → T.No ≡ the.multiplierAt s at
+  pub multiplier-no : (x ≡ code "*" → ⊥) → T.No ≡ the.multiplierAt s at
   unfolding the.multiplierAt
   multiplier-no n = rw (← e, ne-eqb _ _ (λ k. n (q ∙ k)))
 
-  module _ (h : x ≡ 42) (d y : ℕ) (f : d ≡ skipped s (p + 1)) (g : y ≡ getD s d 0) where
-    pub multiplier-minus : {r : Multiplier} → y ≡ 45 → r ≡ the.wholeOf true d (d + 1) (run s (d + 1)) → r ≡ the.multiplierAt s at
+  module _ (h : x ≡ code "*") (d y : ℕ) (f : d ≡ skipped s (p + 1)) (g : y ≡ getD s d 0) where
+    pub multiplier-minus : {r : Multiplier} → y ≡ code "-" → r ≡ the.wholeOf true d (d + 1) (run s (d + 1)) → r ≡ the.multiplierAt s at
     unfolding the.multiplierAt the.wholeFrom
     multiplier-minus i j = rw (← e, eq-eqb _ _ (sym q ∙ h), ← f, eq-eqb _ _ (sym g ∙ i)) j
 
-    pub multiplier-plain : {r : Multiplier} → (y ≡ 45 → ⊥) → r ≡ the.wholeOf false d d (run s d) → r ≡ the.multiplierAt s at
+    pub multiplier-plain : {r : Multiplier} → (y ≡ code "-" → ⊥) → r ≡ the.wholeOf false d d (run s d) → r ≡ the.multiplierAt s at
     unfolding the.multiplierAt the.wholeFrom
     multiplier-plain i j = rw (← e, eq-eqb _ _ (sym q ∙ h), ← f, ne-eqb _ _ (λ k. i (g ∙ k))) j
 
@@ -160,7 +160,7 @@ module _ (s : List ℕ) (from : ℕ) (r : Run) (f : Found s (from + 1) (the.maxF
   unfolding the.fieldFrom the.fieldOf
   field-zero h = rw (eq-eqb _ _ (sym q ∙ h))
 
-  module _ (n : x ≡ 48 → ⊥) where
+  module _ (n : x ≡ code "0" → ⊥) where
     pub field-none : r .value < 1 → H.Bad ≡ the.fieldFrom s from
     unfolding the.fieldFrom the.fieldOf
     field-none h = let k : run s (from + 1) .value < 1 = omega (arith, f .capped) in rw (ne-eqb _ _ (λ k. n (q ∙ k)), lt-leb _ _ k)

@@ -3,6 +3,7 @@
 use mathlib.Core.Bool.{Bool, true, false}
 use mathlib.Core.List.{List}
 use Prim.Native.Nat.{ℕ, _+_}
+use Prim.Native.Char.{code}
 use lib.Dec.{leb, ltb, eqb}
 use lib.ListN.{length, getD}
 use Rattle.basis.specs.Choice.{pick}
@@ -67,8 +68,8 @@ comparisonAt s at = comparing (wordAt s (skipped s at)) (skipped s at) (runEnd L
 -- "`+` or `-`"
 unfoldable pub signAt : List ℕ → ℕ → Joint
 signAt s at =
-    pick (eqb (getD s (skipped s at) 0) 43) (J.At O.Plus (skipped s at) (skipped s at + 1))
-    (pick (eqb (getD s (skipped s at) 0) 45) (J.At O.Minus (skipped s at) (skipped s at + 1)) J.No)
+    pick (eqb (getD s (skipped s at) 0) (code "+")) (J.At O.Plus (skipped s at) (skipped s at + 1))
+    (pick (eqb (getD s (skipped s at) 0) (code "-")) (J.At O.Minus (skipped s at) (skipped s at + 1)) J.No)
 
 -- "`xs:date`, `xs:time`, `xs:dateTime`, `xs:dayTimeDuration` or `xs:yearMonthDuration`"
 unfoldable pub named : List ℕ → Named
@@ -103,7 +104,7 @@ maxField = 16
 
 unfoldable pub fieldOf : ℕ → ℕ → Number → Held
 fieldOf first from n =
-    pick (eqb first 48) H.Bad
+    pick (eqb first (code "0")) H.Bad
     (pick (leb 1 (n .value)) (pick (leb (n .value) maxField) (H.Field (n .value) from (from + 1 + n .count)) H.Bad) H.Bad)
 
 unfoldable pub fieldFrom : List ℕ → ℕ → Held
@@ -113,7 +114,7 @@ fieldFrom s from = fieldOf (getD s (from + 1) 0) from (run s (from + 1))
 unfoldable pub heldAt : List ℕ → ℕ → Held
 heldAt s at =
     pick (eqb (getD s (skipped s at) 0) quote) (textFrom s (skipped s at + 1))
-    (pick (eqb (getD s (skipped s at) 0) 36) (fieldFrom s (skipped s at)) H.Sum)
+    (pick (eqb (getD s (skipped s at) 0) (code "$")) (fieldFrom s (skipped s at)) H.Sum)
 
 -- "`*` and a whole number of one to six digits, a minus allowed directly before them"
 abbrev pub maxDigits : ℕ
@@ -124,7 +125,7 @@ wholeOf negative from digits n =
     pick (leb 1 (n .count)) (pick (leb (n .count) maxDigits) (T.At negative (n .value) from (digits + n .count)) T.Bad) T.Bad
 
 unfoldable pub wholeFrom : List ℕ → ℕ → Multiplier
-wholeFrom s p = pick (eqb (getD s p 0) 45) (wholeOf true p (p + 1) (run s (p + 1))) (wholeOf false p p (run s p))
+wholeFrom s p = pick (eqb (getD s p 0) (code "-")) (wholeOf true p (p + 1) (run s (p + 1))) (wholeOf false p p (run s p))
 
 unfoldable pub multiplierAt : List ℕ → ℕ → Multiplier
-multiplierAt s at = pick (eqb (getD s (skipped s at) 0) 42) (wholeFrom s (skipped s (skipped s at + 1))) T.No
+multiplierAt s at = pick (eqb (getD s (skipped s at) 0) (code "*")) (wholeFrom s (skipped s (skipped s at + 1))) T.No

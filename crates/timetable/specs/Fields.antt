@@ -2,13 +2,14 @@
 use mathlib.Core.Bool.{Bool}
 use mathlib.Core.List.{List, []}
 use Prim.Native.Nat.{ℕ, _-_}
+use Prim.Native.Char.{code}
 use lib.Dec.{leb}
 use lib.ListN.{length, getD}
 use Rattle.basis.specs.Choice.{pick, both}
 use Rattle.timetable.specs.Parts.{parted}
 
 abbrev pub tab : ℕ
-tab = 9
+tab = code "\t"
 
 -- the fields of a line: always at least one; a final tab makes an empty last field
 unfoldable pub fieldsOf : List ℕ → List (List ℕ)

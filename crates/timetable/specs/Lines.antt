@@ -1,6 +1,7 @@
 -- Document 01, "Timetable, seats and turns": "Lines end with byte 10; a last line may lack it."
 use mathlib.Core.List.{List, [], _∷_}
 use Prim.Native.Nat.{ℕ, _+_, _-_}
+use Prim.Native.Char.{code}
 use lib.Dec.{ltb}
 use lib.ListN.{length, take, drop}
 use Rattle.basis.specs.Choice.{pick}
@@ -8,7 +9,7 @@ use Rattle.timetable.specs.Parts.{parted, bytesBefore}
 
 -- the byte that ends a line
 abbrev pub newline : ℕ
-newline = 10
+newline = code "\n"
 
 -- parts less a last one that is empty
 unfoldable pub lessEmptyLast : List (List ℕ) → List (List ℕ)

@@ -7,7 +7,7 @@ ghost use lib.ListN.{length, drop};
 ghost use Rattle.basis.specs.Choice.{pick};
 ghost use Rattle.timetable.specs.Fields.{fieldsOf, hasField, fieldAt};
 
-const TAB: u8 = 9;
+const TAB: u8 = b'\t';
 
 // The place after the first `n` tabs, at which the field after them starts; one past the end where there are fewer.
 fn after_tabs(line: &[u8], n: usize) -> usize

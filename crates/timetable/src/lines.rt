@@ -3,7 +3,7 @@ use crate::parts::place_of;
 ghost use mathlib.Core.Path.{_≡_};
 ghost use Rattle.timetable.specs.Lines.{lineEnd, afterEnd, nextLine};
 
-const NEWLINE: u8 = 10;
+const NEWLINE: u8 = b'\n';
 
 // Where the line at `at` ends: at its byte 10, or at the timetable's end; past that end, at `at` itself.
 pub fn line_end(t: &[u8], at: usize) -> usize

@@ -8,29 +8,30 @@ use borrow.Author.Tests.{eq-eqb, ne-eqb, le-leb, lt-leb}
 use Rattle.basis.specs.Choice.{pick, both}
 use lib.Dec.{eqb}
 use mathlib.Core.Bool.{not}
+use Prim.Native.Char.{code}
 use Rattle.words.specs.Runs.{letter, belongs}
 use Rattle.words.specs.declared.Class.{Class}
 use Rattle.words.specs.declared.Class.the-variants.{Space, Letter, Unquoted}
 
 module _ (b : ℕ) where
-  pub letter-small : 97 ≤ b → leb b 122 ≡ letter b
+  pub letter-small : code "a" ≤ b → leb b (code "z") ≡ letter b
   unfolding letter
-  letter-small h = rw (ne-eqb b 58 (λ e. omega (arith, e)), le-leb _ _ h)
+  letter-small h = rw (ne-eqb b (code ":") (λ e. omega (arith, e)), le-leb _ _ h)
 
-  pub letter-capital : b < 97 → 65 ≤ b → leb b 90 ≡ letter b
+  pub letter-capital : b < code "a" → code "A" ≤ b → leb b (code "Z") ≡ letter b
   unfolding letter both
-  letter-capital h k = rw (ne-eqb b 58 (λ e. omega (arith, e)), lt-leb _ _ h, le-leb _ _ k)
+  letter-capital h k = rw (ne-eqb b (code ":") (λ e. omega (arith, e)), lt-leb _ _ h, le-leb _ _ k)
 
-  pub letter-colon : b < 97 → b < 65 → eqb b 58 ≡ letter b
+  pub letter-colon : b < code "a" → b < code "A" → eqb b (code ":") ≡ letter b
   unfolding letter both
-  letter-colon h k = rw (lt-leb _ _ h, lt-leb _ _ k) (only (eqb b 58))
+  letter-colon h k = rw (lt-leb _ _ h, lt-leb _ _ k) (only (eqb b (code ":")))
     where
       only : (x : Bool) → x ≡ pick x true false
       only true = refl
       only false = refl
 
 module _ (c : Class) (b : ℕ) where
-  pub of-space : c ≡ Space → eqb b 32 ≡ belongs c b
+  pub of-space : c ≡ Space → eqb b (code " ") ≡ belongs c b
   unfolding belongs
   of-space e = rw e
 
@@ -38,6 +39,6 @@ module _ (c : Class) (b : ℕ) where
   unfolding belongs
   of-letter e h = rw e h
 
-  pub of-unquoted : c ≡ Unquoted → not (eqb b 34) ≡ belongs c b
+  pub of-unquoted : c ≡ Unquoted → not (eqb b (code "\"")) ≡ belongs c b
   unfolding belongs
   of-unquoted e = rw e

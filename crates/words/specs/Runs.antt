@@ -3,6 +3,7 @@
 use mathlib.Core.Bool.{Bool, true, false, not}
 use mathlib.Core.List.{List, [], _∷_}
 use Prim.Native.Nat.{ℕ, zero, suc, _+_, _-_}
+use Prim.Native.Char.{code}
 use lib.Dec.{leb, eqb}
 use lib.ListN.{length, getD, take, drop}
 use Rattle.basis.specs.Choice.{pick, both}
@@ -10,15 +11,16 @@ use Rattle.words.specs.declared.Class.{Class}
 use Rattle.words.specs.declared.Class.the-variants.{Space, Letter, Unquoted}
 
 abbrev pub quote : ℕ
-quote = 34
+quote = code "\""
 
 -- ASCII letters and colons
 unfoldable pub letter : ℕ → Bool
-letter b = pick (eqb b 58) true (pick (leb 97 b) (leb b 122) (both (leb 65 b) (leb b 90)))
+letter b =
+    pick (eqb b (code ":")) true (pick (leb (code "a") b) (leb b (code "z")) (both (leb (code "A") b) (leb b (code "Z"))))
 
 -- whether a byte is a space, a letter of a word, or a byte of a text in quotes
 unfoldable pub belongs : Class → ℕ → Bool
-belongs Space b = eqb b 32
+belongs Space b = eqb b (code " ")
 belongs Letter b = letter b
 belongs Unquoted b = not (eqb b quote)
 

@@ -21,11 +21,11 @@ loop-holds c =
 sub-i : tie.Need-sub-i Inv-loop μ-loop
 sub-i c = omega arith
 
-add-u : tie.Need-add-u Inv-loop μ-loop
-add-u c = omega arith
-
 cast-u : tie.Need-cast-u Inv-loop μ-loop
 cast-u c = omega arith
+
+add-u : tie.Need-add-u Inv-loop μ-loop
+add-u c = omega arith
 
 add-u-2 : tie.Need-add-u-2 Inv-loop μ-loop
 add-u-2 c = omega arith
@@ -53,8 +53,8 @@ fixed-spec =
     μ-loop
     loop-holds
     sub-i
-    add-u
     cast-u
+    add-u
     add-u-2
     element-write-u
     loop-less

@@ -1,3 +1,4 @@
+use Rattle.durations.specs.Forms.{point}
 use Rattle.durations.proofs.Ways.{absent, no-letter, no-point, no-seconds, a-part, with-point}
 use Rattle.durations.proofs.Weights.{day-weight, weight-between, roomy-digit}
 use Rattle.numerals.proofs.Places.{within}
@@ -35,7 +36,7 @@ add-pointed : tie.Need-add-pointed
 add-pointed c = search needs
 
 pointed-requires : tie.Need-pointed-requires
-pointed-requires c κs = (omega (arith, within (c .before .before .before .before .before .before .before .before .before .args .s .now) _ 46 (sym (c .before .before .before .byte .ensures) ∙ c .if4 .taken) (omega arith)), c .before .before .before .before .before .before .before .before .before .pre .2)
+pointed-requires c κs = (omega (arith, within (c .before .before .before .before .before .before .before .before .before .args .s .now) _ point (sym (c .before .before .before .byte .ensures) ∙ c .if4 .taken) (omega arith)), c .before .before .before .before .before .before .before .before .before .pre .2)
 
 returns-3 : tie.Need-returns-3
 returns-3 c = c .pointed .ensures ∙ with-point _ _ _ (c .before .before .before .before .before .before .before .before .before .before .args .t) _ (c .before .before .before .before .before .before .before .before .before .before .pre .1) _ (c .before .before .before .before .before .before .before .before .digits .ensures) (c .before .before .before .before .before .before .before .if1 .left) (c .before .before .before .before .before .before .weight .ensures) (c .before .before .before .before .before .plus .ensures) (λ e. c .before .before .before .if2 .left (c .before .before .before .before .byte .ensures ∙ e)) (c .before .before .if3 .taken) (sym (c .before .before .before .before .byte .ensures) ∙ c .before .if4 .taken)

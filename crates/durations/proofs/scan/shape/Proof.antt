@@ -1,3 +1,4 @@
+use Rattle.durations.specs.Forms.{minusSign}
 use Rattle.durations.proofs.Going.{a-minus, no-minus}
 use Rattle.numerals.proofs.Places.{within}
 use native.Mathlib.Omega.{arith}
@@ -10,7 +11,7 @@ byte-requires : tie.Need-byte-requires
 byte-requires c κs = search needs
 
 shape-from-requires : tie.Need-shape-from-requires
-shape-from-requires c κs = (omega (arith, within (c .before .before .before .before .before .args .s .now) 0 45 (sym (c .before .byte .ensures) ∙ c .if1 .taken) (omega arith)), c .before .before .before .before .before .pre .0, c .before .before .before .before .before .pre .1, c .before .before .before .before .before .pre .2)
+shape-from-requires c κs = (omega (arith, within (c .before .before .before .before .before .args .s .now) 0 minusSign (sym (c .before .byte .ensures) ∙ c .if1 .taken) (omega arith)), c .before .before .before .before .before .pre .0, c .before .before .before .before .before .pre .1, c .before .before .before .before .before .pre .2)
 
 returns : tie.Need-returns
 returns c = a-minus _ _ _ _ (sym (c .before .before .byte .ensures) ∙ c .before .if1 .taken) (c .shape-from .ensures)

@@ -1,4 +1,5 @@
 use Rattle.durations.specs.declared.Walk.{Walk}
+use Rattle.durations.specs.Forms.{startMark}
 use Rattle.durations.proofs.Going.{no-start, a-start, after-le}
 use Rattle.numerals.proofs.Places.{within}
 use native.Mathlib.Omega.{arith}
@@ -17,7 +18,7 @@ add-from : tie.Need-add-from
 add-from c = search needs
 
 components-requires : tie.Need-components-requires
-components-requires c κs = (omega (arith, within (c .before .before .before .before .before .args .s .now) _ 80 (sym (c .before .byte .ensures) ∙ c .if1 .left) (omega arith)), omega arith, c .before .before .before .before .before .pre .1, c .before .before .before .before .before .pre .3)
+components-requires c κs = (omega (arith, within (c .before .before .before .before .before .args .s .now) _ startMark (sym (c .before .byte .ensures) ∙ c .if1 .left) (omega arith)), omega arith, c .before .before .before .before .before .pre .1, c .before .before .before .before .before .pre .3)
 
 timed-requires : tie.Need-timed-requires
 timed-requires c κs = (after-le (c .before .before .before .before .before .before .args .s .now) (c .before .before .before .before .before .before .args .before .now) (c .before .before .before .before .before .before .args .at) (c .before .before .before .before .before .before .args .cap) (c .before .before .before .before .before .before .pre .1) (sym (c .before .before .byte .ensures) ∙ c .before .if1 .left) (c .components .ensures), omega (arith, ap (λ (t : Walk). t .sum) (c .components .ensures)), c .before .before .before .before .before .before .pre .2, c .before .before .before .before .before .before .pre .3)

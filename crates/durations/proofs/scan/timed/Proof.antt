@@ -1,3 +1,4 @@
+use Rattle.durations.specs.Forms.{timeMark}
 use Rattle.durations.proofs.Going.{no-time, no-letters, no-mark, the-time}
 use Rattle.numerals.proofs.Places.{within}
 use native.Mathlib.Omega.{arith}
@@ -31,7 +32,7 @@ add-ended-2 : tie.Need-add-ended-2
 add-ended-2 c = search needs
 
 components-requires : tie.Need-components-requires
-components-requires c κs = (omega (arith, within (c .before .before .before .before .before .args .s .now) _ 84 (sym (c .before .byte .ensures) ∙ c .if2 .left) (omega arith)), c .before .before .before .before .before .pre .1, c .before .before .before .before .before .pre .2, c .before .before .before .before .before .pre .3)
+components-requires c κs = (omega (arith, within (c .before .before .before .before .before .args .s .now) _ timeMark (sym (c .before .byte .ensures) ∙ c .if2 .left) (omega arith)), c .before .before .before .before .before .pre .1, c .before .before .before .before .before .pre .2, c .before .before .before .before .before .pre .3)
 
 ended-requires-3 : tie.Need-ended-requires-3
 ended-requires-3 c κs = search needs

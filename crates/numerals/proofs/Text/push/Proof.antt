@@ -5,6 +5,7 @@ use native.Mathlib.Omega.{arith}
 use native.Mathlib.Numerals.{add-one}
 use lib.Seq.{take-suc-set}
 use borrow.Author.Needs.{needs}
+use Rattle.numerals.specs.Writing.{longest}
 use Rattle.numerals.proofs.Text.push.Statement.{statement}
 use Rattle.numerals.proofs.Text.push.Tie as tie
 
@@ -16,7 +17,7 @@ add-self c = search needs
 
 returns : tie.Need-returns
 returns c =
-    let n : length (c .args .t1 .bytes) ≡ 32 = sym (length-map (c .args .t1 .bytes) (λ (v : ℕ). v)) ∙ c .good .0 .1 .1 .0 .1 .0 .1 in
+    let n : length (c .args .t1 .bytes) ≡ longest = sym (length-map (c .args .t1 .bytes) (λ (v : ℕ). v)) ∙ c .good .0 .1 .1 .0 .1 .0 .1 in
     record { text = rw add-one (take-suc-set (c .args .t1 .bytes) (c .args .t1 .len) (c .args .b) (omega arith)); more = refl }
 
 pub push-spec : {M : Type 1} → statement M
