@@ -15,7 +15,8 @@ use Rattle.value.specs.declared.YearMonth.{YearMonth}
 use Rattle.value.proofs.Signs.{signed-within}
 use Rattle.numerals.specs.declared.Text.{Text}
 use Rattle.numerals.specs.Reading.{fractionDigits}
-use Rattle.numerals.specs.Writing.{Holds, Added, decimal, fractionText, longest}
+use Rattle.numerals.specs.Writing.{decimal, fractionText, longest}
+use Rattle.numerals.specs.Carried.{Holds, Added}
 use Rattle.numerals.proofs.Decimals.{decimal-le}
 use Rattle.numerals.proofs.Fractions.{fraction-short, no-fraction}
 use Rattle.durations.specs.declared.Amount.{Amount}

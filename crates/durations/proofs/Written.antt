@@ -12,7 +12,8 @@ use lib.Seq.{drop-cons}
 use borrow.Author.Tests.{eq-eqb, ne-eqb}
 use Rattle.basis.specs.Choice.{pick}
 use Rattle.numerals.specs.declared.Text.{Text}
-use Rattle.numerals.specs.Writing.{textIn, Holds, Added, decimal, fractionText}
+use Rattle.numerals.specs.Writing.{decimal, fractionText}
+use Rattle.numerals.specs.Carried.{textIn, Holds, Added}
 use Rattle.numerals.proofs.Texts.{then, unchanged, named}
 use Rattle.durations.specs.Forms.{weight, seconds, startMark, timeMark, minusSign}
 use Rattle.durations.specs.Spelling.{fractionIn, shown, shownAll, left, afterMark, body, spelt}

@@ -8,7 +8,7 @@ use value::Value;
 use value::YearMonth;
 ghost use mathlib.Core.Path.{_≡_};
 ghost use Prim.Native.Nat.{_+_, _*_, _<_, _^_};
-ghost use Rattle.numerals.specs.Writing.{Holds};
+ghost use Rattle.numerals.specs.Carried.{Holds};
 ghost use Rattle.durations.specs.Forms.{dayTime, yearMonth};
 ghost use Rattle.durations.specs.Walks as the;
 ghost use Rattle.durations.specs.Carried as carried;

@@ -5,7 +5,8 @@ use numerals::Text;
 ghost use mathlib.Core.Path.{_≡_};
 ghost use Prim.Native.Nat.{_+_, _≤_, _<_, _^_};
 ghost use lib.ListN.{length};
-ghost use Rattle.numerals.specs.Writing.{Holds, Added, longest};
+ghost use Rattle.numerals.specs.Writing.{longest};
+ghost use Rattle.numerals.specs.Carried.{Holds, Added};
 ghost use Rattle.durations.specs.Spelling as its;
 
 // Seconds alone have a fraction.

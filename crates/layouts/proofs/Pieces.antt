@@ -20,13 +20,15 @@ use Rattle.value.specs.declared.DateTime.{DateTime}
 use Rattle.value.specs.declared.Kind.{Kind}
 use Rattle.value.specs.declared.Kind.the-variants as KV
 use Rattle.numerals.specs.Reading.{fractionDigits}
-use Rattle.numerals.specs.Writing.{digits, fractionText, textIn, Holds, Added, longest}
+use Rattle.numerals.specs.Writing.{digits, fractionText, longest}
+use Rattle.numerals.specs.Carried.{textIn, Holds, Added}
 use Rattle.numerals.specs.declared.Text.{Text}
 use Rattle.numerals.proofs.Texts.{then, named}
 use Rattle.numerals.proofs.Decimals.{length-digits}
 use Rattle.numerals.proofs.Fractions.{fraction-short}
 use Rattle.scan.specs.Scanning.{layout, isPair}
-use Rattle.layouts.specs.Writing.{hhmm, offsetText, zoneText, pairOf, partText, textBy, textOf, width, widths}
+use Rattle.layouts.specs.Writing.{hhmm, offsetText, zoneText, pairOf, partText, textBy, textOf}
+use Rattle.layouts.specs.Carried.{width, widths}
 
 -- the text of an offset, by its cases
 hhmm-length : (n : ℕ) → length (hhmm n) ≡ 5

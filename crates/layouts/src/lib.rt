@@ -5,7 +5,7 @@ use value::Kind;
 use value::Outcome;
 ghost use mathlib.Core.Path.{_≡_};
 ghost use Rattle.value.specs.Kinds.{meaning};
-ghost use Rattle.numerals.specs.Writing.{Holds};
+ghost use Rattle.numerals.specs.Carried.{Holds};
 ghost use Rattle.layouts.specs.Reading.{readLayout};
 ghost use Rattle.layouts.specs.Writing.{textOf};
 

@@ -8,7 +8,8 @@ use lib.ListN.{length, length-append}
 use Rattle.basis.specs.Choice.{pick}
 use Rattle.basis.specs.Letters.{bytes}
 use Rattle.numerals.specs.declared.Text.{Text}
-use Rattle.numerals.specs.Writing.{textIn, Holds, Added, decimal, fractionText, longest}
+use Rattle.numerals.specs.Writing.{decimal, fractionText, longest}
+use Rattle.numerals.specs.Carried.{textIn, Holds, Added}
 use Rattle.numerals.proofs.Decimals.{decimal-le}
 use Rattle.numerals.proofs.Fractions.{fraction-short}
 use Rattle.numerals.proofs.Texts as texts

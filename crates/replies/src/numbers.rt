@@ -10,8 +10,9 @@ ghost use lib.ListN.{length};
 ghost use lib.IntN.{natAbs};
 ghost use Rattle.basis.specs.Choice.{pick};
 ghost use mathlib.Core.Bool.{true};
-ghost use Rattle.numerals.specs.Writing.{Holds};
-ghost use Rattle.replies.specs.Replies.{replySize, signText, numberText, numberWidth, Grown};
+ghost use Rattle.numerals.specs.Carried.{Holds};
+ghost use Rattle.replies.specs.Replies.{replySize, signText, numberText};
+ghost use Rattle.replies.specs.Carried.{numberWidth, Grown};
 ghost use Rattle.replies.specs.Parts.{isNegative, signedText};
 
 fn magnitude(z: i32) -> u32

@@ -13,7 +13,7 @@ use Rattle.value.specs.Refusals.{noRoom, outside}
 use Rattle.value.specs.Kinds.{okValue}
 use Rattle.value.specs.declared.Value.{Value}
 use Rattle.numerals.specs.declared.Text.{Text}
-use Rattle.numerals.specs.Writing.{textIn, Holds}
+use Rattle.numerals.specs.Carried.{textIn, Holds}
 use Rattle.numerals.proofs.Texts.{holds-fits}
 use Rattle.text.specs.Writing.{textOf, written, afterWrite}
 

@@ -5,7 +5,7 @@ use Prim.Native.Nat.{ℕ}
 use lib.ListN.{length}
 use Rattle.value.specs.declared.Value.{Value}
 use Rattle.numerals.specs.declared.Text.{Text}
-use Rattle.numerals.specs.Writing.{Holds}
+use Rattle.numerals.specs.Carried.{Holds}
 use Rattle.text.specs.Writing.{textOf}
 
 pub holds-as : (v w : Value) (r : Text) → v ≡ w → Holds (r .bytes) (r .len) (textOf w) → Holds (r .bytes) (r .len) (textOf v)

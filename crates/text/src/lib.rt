@@ -7,7 +7,7 @@ use value::Value;
 ghost use mathlib.Core.Path.{_≡_};
 ghost use lib.ListN.{length};
 ghost use Rattle.value.specs.Kinds as kinds;
-ghost use Rattle.numerals.specs.Writing.{Holds};
+ghost use Rattle.numerals.specs.Carried.{Holds};
 ghost use Rattle.text.specs.Reading.{readAs};
 ghost use Rattle.text.specs.Writing as its;
 
