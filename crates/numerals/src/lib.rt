@@ -5,7 +5,7 @@ ghost use Prim.Native.Nat.{_+_, _*_, _≤_, _<_, _^_, min};
 ghost use lib.ListN.{length};
 ghost use Rattle.numerals.specs.Reading as the;
 ghost use Rattle.numerals.specs.Writing.{longest};
-ghost use Rattle.numerals.specs.Carried.{Holds, Added};
+ghost use Rattle.numerals.specs.Carried.{Holds, Added, Found};
 ghost use Rattle.numerals.specs.Writing as its;
 
 // A fraction has at most so many digits.
