@@ -186,13 +186,7 @@ fn read_file(name: &[u8], buffer: &mut [u8]) -> usize
     requires { ⌜ length (now buffer) ≡ maxTimetable + 1 ⌝ }
     ensures { λ r. ⌜ Counts r (now (buffer .exit)) ⌝ }
 {
-    let file = os::open_read(name);
-    if file < 0 {
-        return 0;
-    }
-    let got = io::read_full(file, buffer);
-    libc::close(file);
-    got
+    files::read(name, buffer)
 }
 
 // The bytes that a descriptor hands out, as far as they can be read, at the start of an input's buffer.

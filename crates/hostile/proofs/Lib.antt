@@ -1,4 +1,4 @@
 pub mod Lines
-pub mod Places
+pub mod Readings
 pub mod Within
 pub mod Zeros

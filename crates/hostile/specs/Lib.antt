@@ -1,4 +1,4 @@
+pub mod Events
 pub mod Fields
-pub mod Names
 pub mod Numbers
 pub mod Shown

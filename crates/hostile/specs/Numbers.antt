@@ -13,6 +13,10 @@ use Rattle.hostile.specs.declared.numbers.Number.{Number}
 abbrev pub maxDigits : ℕ
 maxDigits = 20
 
+-- the greatest number, where nothing else bounds it
+abbrev pub greatest : ℕ
+greatest = 18_446_744_073_709_551_615
+
 abbrev pub noNumber : Number
 noNumber = record { good = false; value = 0 }
 

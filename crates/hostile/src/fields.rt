@@ -1,4 +1,4 @@
-// What an event's line holds.
+// The texts that an event's line holds.
 use timetable::fields::field;
 ghost use mathlib.Core.Path.{_≡_};
 ghost use Rattle.hostile.specs.Fields as the;
@@ -12,4 +12,11 @@ pub fn after_tab(line: &[u8]) -> &[u8]
         return &line[0..0];
     }
     &line[long + 1..]
+}
+
+// The text of a seat's condition: what follows the third tab.
+pub fn condition_text(line: &[u8]) -> &[u8]
+    ensures { λ r. ⌜ now r ≡ the.conditionText (now (line .entry)) ⌝ }
+{
+    after_tab(after_tab(after_tab(line)))
 }

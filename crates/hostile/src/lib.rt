@@ -1,6 +1,40 @@
-// What the script of the hostile desks is made of (docs/LINES.md, "Hostile desks"): its words, numbers and fields, and the bytes of
-// a condition as they are shown.
+// What the script of the hostile desks is made of (docs/LINES.md, "Hostile desks"): its events with their names and
+// numbers, and the bytes of a condition as they are shown.
+pub mod events; // events.rt: which event a line is
 pub mod fields; // fields.rt: what follows a tab
-pub mod names; // names.rt: words and names
 pub mod numbers; // numbers.rt: a number within a bound
 pub mod shown; // shown.rt: bytes without the zeros at their end
+
+// A number of the desk, by its name.
+pub enum DeskNumber {
+    LastServed(usize),
+    Length(usize),
+    Issued(u32),
+}
+
+// A number of a seat, by its name.
+pub enum SeatNumber {
+    Held(bool),
+    Ticket(u32),
+    Offset(usize),
+    Hits(usize),
+    Unreadable(usize),
+    ConditionLength(usize),
+}
+
+// An event, with its numbers. `Seat` and `Condition` have the seat's place first. The texts of `Open` and `Condition`
+// stay in the line.
+pub enum Event {
+    Fresh(usize),
+    Part(usize),
+    Open,
+    Close(u32),
+    Turn,
+    Turns(usize),
+    Sound,
+    Show,
+    Set(DeskNumber),
+    Seat(usize, SeatNumber),
+    Condition(usize),
+    NoEvent,
+}

@@ -9,12 +9,12 @@ ghost use Rattle.hostile.specs.Numbers.{numberOf, noNumber};
 const DIGITS: usize = 20;
 
 // The greatest number, where nothing else bounds it.
-pub const GREATEST: u64 = 18_446_744_073_709_551_615;
+pub const GREATEST: usize = 18_446_744_073_709_551_615;
 
 // A number that was read. Where the text is none, its value is 0.
 pub struct Number {
     pub good: bool,
-    pub value: u64,
+    pub value: usize,
 }
 
 fn none() -> Number
@@ -27,16 +27,16 @@ fn none() -> Number
 }
 
 // Whether v with one more digit is beyond the bound. Nothing wraps, whatever v and the bound are.
-fn beyond(v: u64, d: u8, most: u64) -> bool
+fn beyond(v: usize, d: u8, most: usize) -> bool
     ensures { λ r. ⌜ r ≡ ltb most (v * 10 + d) ⌝ }
 {
     if most / 10 < v {
         return true;
     }
-    most - v * 10 < d as u64
+    most - v * 10 < d as usize
 }
 
-pub fn read(s: &[u8], most: u64) -> Number
+pub fn read(s: &[u8], most: usize) -> Number
     ensures { λ r. ⌜ (r ≡ numberOf most (now (s .entry))) × (r .value ≤ most) ⌝ }
 {
     if s.len() < 1 {
@@ -45,7 +45,7 @@ pub fn read(s: &[u8], most: u64) -> Number
     if DIGITS < s.len() {
         return none();
     }
-    let mut v: u64 = 0;
+    let mut v: usize = 0;
     let mut i = 0;
     while i < s.len() {
         let b = s[i];
@@ -56,7 +56,7 @@ pub fn read(s: &[u8], most: u64) -> Number
         if beyond(v, d, most) {
             return none();
         }
-        v = v * 10 + d as u64;
+        v = v * 10 + d as usize;
         i += 1;
     }
     Number {

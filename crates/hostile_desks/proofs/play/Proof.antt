@@ -8,10 +8,10 @@ use Rattle.hostile_desks.proofs.play.Statement.{statement}
 use Rattle.hostile_desks.proofs.play.Tie as tie
 
 abbrev Inv-loop : tie.InvT-loop
-Inv-loop file input desk₀ part₀ at₀ t15 desk part at = at ≤ length input
+Inv-loop file input desk₀ part₀ at₀ desk part at = at ≤ length input
 
 abbrev μ-loop : tie.MeasureT-loop
-μ-loop file input desk₀ part₀ at₀ t15 desk part at = length input - at
+μ-loop file input desk₀ part₀ at₀ desk part at = length input - at
 
 fresh-requires : tie.Need-fresh-requires Inv-loop μ-loop
 fresh-requires c κs = search needs
@@ -25,11 +25,8 @@ read-line-requires c κs = search needs
 cut-requires : tie.Need-cut-requires Inv-loop μ-loop
 cut-requires c κs = search needs
 
-slice-aggregate-setting-in : tie.Need-slice-aggregate-setting-in Inv-loop μ-loop
-slice-aggregate-setting-in c = search needs
-
-setting-in-requires : tie.Need-setting-in-requires Inv-loop μ-loop
-setting-in-requires c κs = search needs
+event-requires : tie.Need-event-requires Inv-loop μ-loop
+event-requires c κs = search needs
 
 part-after-requires : tie.Need-part-after-requires Inv-loop μ-loop
 part-after-requires c κs = search needs
@@ -42,12 +39,12 @@ desk-after-requires c κs = search needs
 
 loop-less : tie.Need-loop-less Inv-loop μ-loop
 loop-less c =
-    let b = c .before .before .before .before .before .before in
+    let b = c .before .before .before .before .before in
     omega (arith, b .read-line .ensures .1, next-further (b .before .before .before .before .before .before .before .args .input .now) (b .before .before .loop .at) (b .before .loop-test .taken))
 
 loop-again : tie.Need-loop-again Inv-loop μ-loop
 loop-again c =
-    let b = c .before .before .before .before .before .before in
+    let b = c .before .before .before .before .before in
     omega (arith, b .read-line .ensures .1, next-within (b .before .before .before .before .before .before .before .args .input .now) (b .before .before .loop .at) (b .before .before .loop .inv))
 
 returns : tie.Need-returns Inv-loop μ-loop
@@ -63,8 +60,7 @@ play-spec =
     loop-holds
     read-line-requires
     cut-requires
-    slice-aggregate-setting-in
-    setting-in-requires
+    event-requires
     part-after-requires
     cut-requires-2
     desk-after-requires

@@ -2,8 +2,8 @@ use Prim.Native.Nat.{_-_}
 use native.Mathlib.Omega.{arith}
 use borrow.Author.Needs.{needs}
 use Rattle.desk.specs.Bounds.{seatCount}
-use Rattle.hostile_desks.proofs.show.Statement.{statement}
-use Rattle.hostile_desks.proofs.show.Tie as tie
+use Rattle.hostile_answers.proofs.show.Statement.{statement}
+use Rattle.hostile_answers.proofs.show.Tie as tie
 
 abbrev Inv-loop : tie.InvT-loop
 Inv-loop desk i₀ i = Unit {0}
@@ -11,8 +11,11 @@ Inv-loop desk i₀ i = Unit {0}
 abbrev μ-loop : tie.MeasureT-loop
 μ-loop desk i₀ i = seatCount - i
 
-tell-word-requires : tie.Need-tell-word-requires Inv-loop μ-loop
-tell-word-requires c κs = search needs
+slice-aggregate-tell : tie.Need-slice-aggregate-tell Inv-loop μ-loop
+slice-aggregate-tell c = search needs
+
+tell-requires : tie.Need-tell-requires Inv-loop μ-loop
+tell-requires c κs = search needs
 
 tell-number-requires : tie.Need-tell-number-requires Inv-loop μ-loop
 tell-number-requires c κs = search needs
@@ -26,8 +29,11 @@ cast-tell-number c = search needs
 tell-number-requires-3 : tie.Need-tell-number-requires-3 Inv-loop μ-loop
 tell-number-requires-3 c κs = search needs
 
-tell-word-requires-2 : tie.Need-tell-word-requires-2 Inv-loop μ-loop
-tell-word-requires-2 c κs = search needs
+slice-aggregate-tell-2 : tie.Need-slice-aggregate-tell-2 Inv-loop μ-loop
+slice-aggregate-tell-2 c = search needs
+
+tell-requires-2 : tie.Need-tell-requires-2 Inv-loop μ-loop
+tell-requires-2 c κs = search needs
 
 loop-holds : tie.Need-loop-holds Inv-loop μ-loop
 loop-holds c = tt
@@ -59,12 +65,14 @@ show-spec =
     (tie.spec
     Inv-loop
     μ-loop
-    tell-word-requires
+    slice-aggregate-tell
+    tell-requires
     tell-number-requires
     tell-number-requires-2
     cast-tell-number
     tell-number-requires-3
-    tell-word-requires-2
+    slice-aggregate-tell-2
+    tell-requires-2
     loop-holds
     mul-show-seat
     element-copy-out-show-seat

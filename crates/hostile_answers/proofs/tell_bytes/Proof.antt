@@ -2,8 +2,8 @@ use Prim.Native.Nat.{_-_}
 use native.Mathlib.Omega.{arith}
 use borrow.Author.Needs.{needs}
 use lib.ListN.{length}
-use Rattle.hostile_desks.proofs.tell_bytes.Statement.{statement}
-use Rattle.hostile_desks.proofs.tell_bytes.Tie as tie
+use Rattle.hostile_answers.proofs.tell_bytes.Statement.{statement}
+use Rattle.hostile_answers.proofs.tell_bytes.Tie as tie
 
 abbrev Inv-loop : tie.InvT-loop
 Inv-loop s i₀ i = Unit {0}
@@ -11,8 +11,11 @@ Inv-loop s i₀ i = Unit {0}
 abbrev μ-loop : tie.MeasureT-loop
 μ-loop s i₀ i = length s - i
 
-tell-tab-requires : tie.Need-tell-tab-requires Inv-loop μ-loop
-tell-tab-requires c κs = search needs
+slice-aggregate-tell : tie.Need-slice-aggregate-tell Inv-loop μ-loop
+slice-aggregate-tell c = search needs
+
+tell-requires : tie.Need-tell-requires Inv-loop μ-loop
+tell-requires c κs = search needs
 
 loop-holds : tie.Need-loop-holds Inv-loop μ-loop
 loop-holds c = tt
@@ -44,7 +47,8 @@ tell-bytes-spec =
     (tie.spec
     Inv-loop
     μ-loop
-    tell-tab-requires
+    slice-aggregate-tell
+    tell-requires
     loop-holds
     shared-slice-read-print-hex
     cast-print-hex
