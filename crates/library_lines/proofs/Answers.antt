@@ -1,0 +1,20 @@
+-- Answers of equal meaning are equal, so that a contract on the meaning determines the answer.
+use mathlib.Core.Path.{_≡_, refl, ap}
+use mathlib.Core.Bool.{Bool, true, false}
+use Rattle.basis.specs.Answer.{Answer, gives, refuses}
+use Rattle.library_lines.specs.Late.{meaning}
+use Rattle.library_lines.specs.declared.late.Lateness.{Lateness}
+use Rattle.library_lines.specs.declared.late.Lateness.the-variants as LV
+
+abbrev latenessOf : Answer Bool → Lateness
+latenessOf (gives true) = LV.Late
+latenessOf (gives false) = LV.InTime
+latenessOf (refuses n) = LV.Refused (record { number = n })
+
+lateness-back : (a : Lateness) → latenessOf (meaning a) ≡ a
+lateness-back LV.Late = refl
+lateness-back LV.InTime = refl
+lateness-back (LV.Refused r) = refl
+
+pub lateness-determined : (a b : Lateness) → meaning a ≡ meaning b → a ≡ b
+lateness-determined a b e = cc (ap latenessOf e, lateness-back a, lateness-back b)

@@ -1,0 +1,153 @@
+-- Numbers with a sign, zones and records read from fields: what the tests on the way say, as equations of the definitions.
+use mathlib.Core.Path.{_≡_, ap, sym, subst, refl, _∙_}
+use mathlib.Core.Bool.{Bool, true, false, not}
+use mathlib.Core.List.{List, [], _∷_}
+use Prim.Native.Nat.{ℕ, _+_, _≤_}
+use lib.Dec.{eqb}
+use lib.ListN.{length}
+use borrow.Author.Tests.{eq-eqb, ne-eqb}
+use Rattle.basis.specs.Choice.{pick, every}
+use Rattle.basis.specs.Letters.{bytes}
+use Rattle.basis.proofs.Tests.{no, yes}
+use Rattle.timetable.specs.Fields.{fieldAt, hasField}
+use Rattle.numerals.specs.Reading.{at}
+use Rattle.words.specs.Runs.{between, same}
+use Rattle.symbols.specs.Symbols.{named}
+use Rattle.symbols.specs.declared.Named.{Named}
+use Rattle.hostile.specs.Numbers.{numberOf}
+use Rattle.hostile.specs.declared.numbers.Number.{Number}
+use Rattle.value.specs.declared.Offset.{Offset}
+use Rattle.value.specs.declared.Offset.the-variants.{East, West}
+use Rattle.value.specs.declared.Zone.{Zone}
+use Rattle.value.specs.declared.Zone.the-variants.{Absent, At}
+use Rattle.value.specs.declared.DateTime.{DateTime}
+use Rattle.value.specs.declared.Kind.{Kind}
+use Rattle.value.specs.declared.Kind.the-variants as KV
+use Rattle.value.specs.declared.Value.the-variants as VV
+use Rattle.library_lines.specs.Given.{short, byte, word, long, withSign, noSigned, afterSign, signedOf, offsetOf, zoneBy, zoneOf, dayOf, dayAt, partsOf, momentOf, momentAt, ofKind, givenMoment, givenDayTime, givenYearMonth, unlessMore, recordBy, recordNamed, recordAt}
+use Rattle.library_lines.specs.declared.given.Signed.{Signed}
+use Rattle.library_lines.specs.declared.given.Zoned.{Zoned}
+use Rattle.library_lines.specs.declared.given.Day.{Day}
+use Rattle.library_lines.specs.declared.given.Moment.{Moment}
+use Rattle.library_lines.specs.declared.given.Given.{Given}
+use Rattle.library_lines.specs.declared.given.Given.the-variants as G
+
+-- a choice whose test is known
+pub first-of : {A : Type 0} {b : Bool} (x y : A) → b ≡ true → x ≡ pick b x y
+first-of x y e = sym (λ i. pick (e i) x y)
+
+pub second-of : {A : Type 0} {b : Bool} (x y : A) → b ≡ false → y ≡ pick b x y
+second-of x y e = sym (λ i. pick (e i) x y)
+
+-- ---- a sign and a number
+module _ (s : List ℕ) (most : ℕ) {sign : ℕ} {n : Number} {t : List ℕ} (eb : sign ≡ at s 0) (et : t ≡ between s 1 (length s)) (en : (n ≡ numberOf most t) × (n .value ≤ most)) where
+  after : n ≡ afterSign most s
+  after = en .0 ∙ ap (numberOf most) et
+
+  pub with-plus : {r : Signed} → sign ≡ 43 → r ≡ withSign false n → (r ≡ signedOf most s) × (r .value ≤ most)
+  unfolding signedOf
+  with-plus {r} p er = (
+    er ∙ ap (withSign false) after
+        ∙ first-of (withSign false (afterSign most s)) (pick (eqb (at s 0) 45) (withSign true (afterSign most s)) noSigned) (eq-eqb (at s 0) 43 (sym eb ∙ p)),
+    subst (λ (x : Signed). x .value ≤ most) (sym er) (en .1),
+  )
+
+  pub with-minus : {r : Signed} → (sign ≡ 43 → ⊥) → sign ≡ 45 → r ≡ withSign true n → (r ≡ signedOf most s) × (r .value ≤ most)
+  unfolding signedOf
+  with-minus {r} q p er = (
+    er ∙ ap (withSign true) after
+        ∙ first-of (withSign true (afterSign most s)) noSigned (eq-eqb (at s 0) 45 (sym eb ∙ p))
+        ∙ second-of (withSign false (afterSign most s)) (pick (eqb (at s 0) 45) (withSign true (afterSign most s)) noSigned) (ne-eqb (at s 0) 43 (λ x. q (eb ∙ x))),
+    subst (λ (x : Signed). x .value ≤ most) (sym er) (en .1),
+  )
+
+  pub no-sign : (sign ≡ 43 → ⊥) → (sign ≡ 45 → ⊥) → noSigned ≡ signedOf most s
+  unfolding signedOf
+  no-sign q p =
+      second-of (withSign true (afterSign most s)) noSigned (ne-eqb (at s 0) 45 (λ x. p (eb ∙ x)))
+      ∙ second-of (withSign false (afterSign most s)) (pick (eqb (at s 0) 45) (withSign true (afterSign most s)) noSigned) (ne-eqb (at s 0) 43 (λ x. q (eb ∙ x)))
+
+-- ---- zones
+pub is-west : (n : Signed) → n .negative ≡ true → West (n .value) ≡ offsetOf n
+is-west n e = first-of (West (n .value)) (East (n .value)) e
+
+pub is-east : (n : Signed) → n .negative ≡ false → East (n .value) ≡ offsetOf n
+is-east n e = second-of (West (n .value)) (East (n .value)) e
+
+abbrev zoned : Bool → Zone → Zoned
+zoned g z = record { good = g; zone = z }
+
+pub no-zone : (s : List ℕ) {t : Bool} → t ≡ same s (bytes "none") → t ≡ true → zoned true Absent ≡ zoneOf s
+unfolding zoneOf
+no-zone s et q = first-of (zoned true Absent) (zoneBy (signedOf short s)) (sym et ∙ q)
+
+pub zone-at : (s : List ℕ) {t : Bool} {n : Signed} {o : Offset} → t ≡ same s (bytes "none") → t ≡ false → n ≡ signedOf short s → o ≡ offsetOf n → zoned (n .good) (At o) ≡ zoneOf s
+unfolding zoneOf
+zone-at s {t} {n} {o} et q en eo =
+    ap (λ (x : Offset). zoned (n .good) (At x)) eo ∙ ap zoneBy en ∙ second-of (zoned true Absent) (zoneBy (signedOf short s)) (sym et ∙ q)
+
+-- ---- days and moments
+abbrev dayWith : Bool → Number → Number → Number → Day
+dayWith g y m d = record { good = g; year = y .value; month = m .value; day = d .value }
+
+pub day-read : (line : List ℕ) (i : ℕ) {g : Bool} {y m d : Number} {fy fm fd : List ℕ} → g ≡ every (y .good ∷ m .good ∷ d .good ∷ [])
+    → fy ≡ fieldAt line i → y ≡ numberOf short fy → fm ≡ fieldAt line (i + 1) → m ≡ numberOf byte fm → fd ≡ fieldAt line (i + 2) → d ≡ numberOf byte fd → dayWith g y m d ≡ dayAt line i
+unfolding dayAt
+day-read line i {g} {y} {m} {d} eg efy ey efm em efd ed =
+    ap (λ (b : Bool). dayWith b y m d) eg
+    ∙ (λ j. dayOf ((ey ∙ ap (numberOf short) efy) j) ((em ∙ ap (numberOf byte) efm) j) ((ed ∙ ap (numberOf byte) efd) j))
+
+abbrev momentWith : Bool → DateTime → Moment
+momentWith g p = record { good = g; parts = p }
+
+pub moment-read : (line : List ℕ) (i : ℕ) {g : Bool} {p : DateTime} {d : Day} {n : Number} {z : Zoned} {fn fz : List ℕ} → g ≡ every (d .good ∷ n .good ∷ z .good ∷ []) → p ≡ partsOf d (n .value) (z .zone)
+    → d ≡ dayAt line i → fn ≡ fieldAt line (i + 3) → n ≡ numberOf long fn → fz ≡ fieldAt line (i + 4) → z ≡ zoneOf fz → momentWith g p ≡ momentAt line i
+unfolding momentAt
+moment-read line i eg ep ed efn en efz ez =
+    (λ j. momentWith (eg j) (ep j)) ∙ (λ j. momentOf (ed j) ((en ∙ ap (numberOf long) efn) j) ((ez ∙ ap zoneOf efz) j))
+
+-- ---- records
+pub no-moment : (k : Kind) (m : Moment) → not (m .good) ≡ true → G.No ≡ givenMoment k m
+no-moment k m q = second-of {b = m .good} (ofKind k (m .parts)) G.No (no refl q)
+
+pub is-moment : (k′ : Kind) (m : Moment) {k : Kind} → k ≡ k′ → not (m .good) ≡ false → ofKind k′ (m .parts) ≡ givenMoment k m
+is-moment k′ m {k} e q = ap (λ (x : Kind). ofKind x (m .parts)) (sym e) ∙ first-of {b = m .good} (ofKind k (m .parts)) G.No (yes refl q)
+
+pub no-day-time : (n : Signed) → not (n .good) ≡ true → G.No ≡ givenDayTime n
+no-day-time n q = second-of {b = n .good} (G.Is (VV.DayTime (record { negative = n .negative; micros = n .value }))) G.No (no refl q)
+
+pub is-day-time : (n : Signed) → not (n .good) ≡ false → G.Is (VV.DayTime (record { negative = n .negative; micros = n .value })) ≡ givenDayTime n
+is-day-time n q = first-of {b = n .good} (G.Is (VV.DayTime (record { negative = n .negative; micros = n .value }))) G.No (yes refl q)
+
+pub no-year-month : (n : Signed) → not (n .good) ≡ true → G.No ≡ givenYearMonth n
+no-year-month n q = second-of {b = n .good} (G.Is (VV.YearMonth (record { negative = n .negative; months = n .value }))) G.No (no refl q)
+
+pub is-year-month : (n : Signed) → not (n .good) ≡ false → G.Is (VV.YearMonth (record { negative = n .negative; months = n .value })) ≡ givenYearMonth n
+is-year-month n q = first-of {b = n .good} (G.Is (VV.YearMonth (record { negative = n .negative; months = n .value }))) G.No (yes refl q)
+
+module _ (line : List ℕ) (i : ℕ) {k : Kind} {r g : Given} {h : Bool} (er : r ≡ unlessMore h g) where
+  module _ {n : Signed} {f : List ℕ} (eh : h ≡ hasField line (i + 1)) (ef : f ≡ fieldAt line i) where
+    pub by-day-time : k ≡ KV.DayTimeDuration → n ≡ signedOf long f → g ≡ givenDayTime n → r ≡ recordBy k line i
+    unfolding recordBy
+    by-day-time ek en eg = er ∙ (λ j. unlessMore (eh j) ((eg ∙ ap givenDayTime (en ∙ ap (signedOf long) ef)) j)) ∙ ap (λ (x : Kind). recordBy x line i) (sym ek)
+
+    pub by-year-month : k ≡ KV.YearMonthDuration → n ≡ signedOf word f → g ≡ givenYearMonth n → r ≡ recordBy k line i
+    unfolding recordBy
+    by-year-month ek en eg = er ∙ (λ j. unlessMore (eh j) ((eg ∙ ap givenYearMonth (en ∙ ap (signedOf word) ef)) j)) ∙ ap (λ (x : Kind). recordBy x line i) (sym ek)
+
+  module _ {m : Moment} (eh : h ≡ hasField line (i + 5)) (em : m ≡ momentAt line i) where
+    pub by-date : k ≡ KV.Date → g ≡ givenMoment KV.Date m → r ≡ recordBy k line i
+    unfolding recordBy
+    by-date ek eg = er ∙ (λ j. unlessMore (eh j) ((eg ∙ ap (givenMoment KV.Date) em) j)) ∙ ap (λ (x : Kind). recordBy x line i) (sym ek)
+
+    pub by-time : k ≡ KV.Time → g ≡ givenMoment KV.Time m → r ≡ recordBy k line i
+    unfolding recordBy
+    by-time ek eg = er ∙ (λ j. unlessMore (eh j) ((eg ∙ ap (givenMoment KV.Time) em) j)) ∙ ap (λ (x : Kind). recordBy x line i) (sym ek)
+
+    pub by-date-time : k ≡ KV.DateTime → g ≡ givenMoment KV.DateTime m → r ≡ recordBy k line i
+    unfolding recordBy
+    by-date-time ek eg = er ∙ (λ j. unlessMore (eh j) ((eg ∙ ap (givenMoment KV.DateTime) em) j)) ∙ ap (λ (x : Kind). recordBy x line i) (sym ek)
+
+pub record-named : (line : List ℕ) (i : ℕ) {f : List ℕ} {x y : Named} → f ≡ fieldAt line i → x ≡ named f → x ≡ y → recordNamed y line (i + 1) ≡ recordAt line i
+unfolding recordAt
+record-named line i ef en ey = ap (λ (z : Named). recordNamed z line (i + 1)) (sym ey ∙ en ∙ ap named ef)

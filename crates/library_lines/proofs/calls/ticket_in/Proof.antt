@@ -1,0 +1,22 @@
+use mathlib.Core.Path.{ap, _∙_}
+use Rattle.hostile.specs.Numbers.{numberOf}
+use Rattle.hostile.specs.declared.numbers.Number.{Number}
+use Rattle.library_lines.specs.Given.{word}
+use borrow.Author.Needs.{needs}
+use Rattle.library_lines.proofs.calls.ticket_in.Statement.{statement}
+use Rattle.library_lines.proofs.calls.ticket_in.Tie as tie
+
+field-requires : tie.Need-field-requires
+field-requires c κs = search needs
+
+read-requires : tie.Need-read-requires
+read-requires c κs = search needs
+
+cast-result : tie.Need-cast-result
+cast-result c = search needs
+
+returns : tie.Need-returns
+returns c = ap (λ (x : Number). x .value) (c .before .read .ensures .0 ∙ ap (numberOf word) (c .before .before .field .ensures))
+
+pub ticket-in-spec : {M : Type 1} → statement M
+ticket-in-spec = tie.close (tie.spec field-requires read-requires cast-result returns)

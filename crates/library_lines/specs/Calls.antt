@@ -1,0 +1,43 @@
+-- docs/LINES.md, "Library example": which call of the desk a line is, and what it holds.
+use mathlib.Core.Bool.{not}
+use mathlib.Core.List.{List}
+use Prim.Native.Nat.{ℕ}
+use Rattle.basis.specs.Choice.{pick}
+use Rattle.basis.specs.Letters.{bytes}
+use Rattle.timetable.specs.Lines.{lineEnd}
+use Rattle.timetable.specs.Fields.{fieldAt, hasField}
+use Rattle.words.specs.Runs.{between, same}
+use Rattle.hostile.specs.Fields.{afterTab}
+use Rattle.hostile.specs.Numbers.{numberOf}
+use Rattle.library_lines.specs.Given.{word}
+
+-- the line that starts at a place
+abbrev pub lineIn : List ℕ → ℕ → List ℕ
+lineIn input i = between input i (lineEnd input i)
+
+-- the calls by number: 1 is `turn`, 2 `open`, 3 `close`, and 0 none of them
+unfoldable pub closeBy : List ℕ → ℕ
+closeBy line = pick (numberOf word (fieldAt line 2) .good) (pick (hasField line 3) 0 3) 0
+
+unfoldable pub callBy : List ℕ → List ℕ → ℕ
+callBy line w =
+    pick (same w (bytes "turn")) (pick (hasField line 2) 0 1)
+    (pick (same w (bytes "open")) (pick (not (hasField line 2)) 0 2)
+    (pick (same w (bytes "close")) (closeBy line) 0))
+
+abbrev pub callIn : List ℕ → ℕ
+callIn line = callBy line (fieldAt line 1)
+
+abbrev pub callAt : List ℕ → ℕ → ℕ
+callAt input i = callIn (lineIn input i)
+
+-- "TEXT is all that follows the tab before it"
+abbrev pub conditionAt : List ℕ → ℕ → List ℕ
+conditionAt input i = afterTab (lineIn input i)
+
+-- N of `close`
+abbrev pub ticketIn : List ℕ → ℕ
+ticketIn line = numberOf word (fieldAt line 2) .value
+
+abbrev pub ticketAt : List ℕ → ℕ → ℕ
+ticketAt input i = ticketIn (lineIn input i)

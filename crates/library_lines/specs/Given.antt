@@ -1,0 +1,122 @@
+-- docs/LINES.md, "Library example": numbers with a sign, zones and records, as fields of a line.
+use mathlib.Core.Bool.{Bool, true, false}
+use mathlib.Core.List.{List, [], _∷_}
+use Prim.Native.Nat.{ℕ, _+_}
+use lib.Dec.{eqb}
+use lib.ListN.{length}
+use Rattle.basis.specs.Choice.{pick, every}
+use Rattle.basis.specs.Letters.{bytes}
+use Rattle.timetable.specs.Fields.{fieldAt, hasField}
+use Rattle.numerals.specs.Reading.{at}
+use Rattle.words.specs.Runs.{between, same}
+use Rattle.symbols.specs.Symbols.{named}
+use Rattle.symbols.specs.declared.Named.{Named}
+use Rattle.symbols.specs.declared.Named.the-variants as N
+use Rattle.hostile.specs.Numbers.{numberOf}
+use Rattle.hostile.specs.declared.numbers.Number.{Number}
+use Rattle.value.specs.declared.Offset.{Offset}
+use Rattle.value.specs.declared.Offset.the-variants.{East, West}
+use Rattle.value.specs.declared.Zone.{Zone}
+use Rattle.value.specs.declared.Zone.the-variants.{Absent, At}
+use Rattle.value.specs.declared.DateTime.{DateTime}
+use Rattle.value.specs.declared.Kind.{Kind}
+use Rattle.value.specs.declared.Kind.the-variants as KV
+use Rattle.value.specs.declared.Value.the-variants as VV
+use Rattle.library_lines.specs.declared.given.Signed.{Signed}
+use Rattle.library_lines.specs.declared.given.Zoned.{Zoned}
+use Rattle.library_lines.specs.declared.given.Day.{Day}
+use Rattle.library_lines.specs.declared.given.Moment.{Moment}
+use Rattle.library_lines.specs.declared.given.Given.{Given}
+use Rattle.library_lines.specs.declared.given.Given.the-variants as G
+
+-- the greatest numbers of one, two, four and eight bytes
+abbrev pub byte : ℕ
+byte = 255
+
+abbrev pub short : ℕ
+short = 65_535
+
+abbrev pub word : ℕ
+word = 4_294_967_295
+
+abbrev pub long : ℕ
+long = 18_446_744_073_709_551_615
+
+-- "S is `+` or `-` and directly after it one to twenty digits", at most a bound
+abbrev pub withSign : Bool → Number → Signed
+withSign minus n = record { good = n .good; negative = minus; value = n .value }
+
+abbrev pub noSigned : Signed
+noSigned = record { good = false; negative = false; value = 0 }
+
+-- the number after the first byte
+abbrev pub afterSign : ℕ → List ℕ → Number
+afterSign most s = numberOf most (between s 1 (length s))
+
+unfoldable pub signedOf : ℕ → List ℕ → Signed
+signedOf most s =
+    pick (eqb (at s 0) 43) (withSign false (afterSign most s))
+    (pick (eqb (at s 0) 45) (withSign true (afterSign most s)) noSigned)
+
+-- "Z is `none`, or `+` (east of UTC) or `-` (west) and directly after it the minutes"
+abbrev pub offsetOf : Signed → Offset
+offsetOf n = pick (n .negative) (West (n .value)) (East (n .value))
+
+abbrev pub zoneBy : Signed → Zoned
+zoneBy n = record { good = n .good; zone = At (offsetOf n) }
+
+unfoldable pub zoneOf : List ℕ → Zoned
+zoneOf s = pick (same s (bytes "none")) (record { good = true; zone = Absent }) (zoneBy (signedOf short s))
+
+-- Y, M and D in three fields
+abbrev pub dayOf : Number → Number → Number → Day
+dayOf y m d =
+    record { good = every (y .good ∷ m .good ∷ d .good ∷ []); year = y .value; month = m .value; day = d .value }
+
+unfoldable pub dayAt : List ℕ → ℕ → Day
+dayAt line i = dayOf (numberOf short (fieldAt line i)) (numberOf byte (fieldAt line (i + 1))) (numberOf byte (fieldAt line (i + 2)))
+
+abbrev pub partsOf : Day → ℕ → Zone → DateTime
+partsOf d micros zone = record { year = d .year; month = d .month; day = d .day; micros = micros; zone = zone }
+
+-- Y, M, D, MICROS and Z in five fields
+abbrev pub momentOf : Day → Number → Zoned → Moment
+momentOf d n z = record { good = every (d .good ∷ n .good ∷ z .good ∷ []); parts = partsOf d (n .value) (z .zone) }
+
+unfoldable pub momentAt : List ℕ → ℕ → Moment
+momentAt line i = momentOf (dayAt line i) (numberOf long (fieldAt line (i + 3))) (zoneOf (fieldAt line (i + 4)))
+
+-- the record of a kind that such fields are
+abbrev pub ofKind : Kind → DateTime → Given
+ofKind KV.Date d = G.Is (VV.Date d)
+ofKind KV.Time d = G.Is (VV.Time d)
+ofKind KV.DateTime d = G.Is (VV.DateTime d)
+ofKind KV.DayTimeDuration d = G.No
+ofKind KV.YearMonthDuration d = G.No
+
+abbrev pub givenMoment : Kind → Moment → Given
+givenMoment k m = pick (m .good) (ofKind k (m .parts)) G.No
+
+abbrev pub givenDayTime : Signed → Given
+givenDayTime n = pick (n .good) (G.Is (VV.DayTime (record { negative = n .negative; micros = n .value }))) G.No
+
+abbrev pub givenYearMonth : Signed → Given
+givenYearMonth n = pick (n .good) (G.Is (VV.YearMonth (record { negative = n .negative; months = n .value }))) G.No
+
+-- "V is the rest of the line": no field stands after it
+abbrev pub unlessMore : Bool → Given → Given
+unlessMore more g = pick more G.No g
+
+unfoldable pub recordBy : Kind → List ℕ → ℕ → Given
+recordBy KV.Date line i = unlessMore (hasField line (i + 5)) (givenMoment KV.Date (momentAt line i))
+recordBy KV.Time line i = unlessMore (hasField line (i + 5)) (givenMoment KV.Time (momentAt line i))
+recordBy KV.DateTime line i = unlessMore (hasField line (i + 5)) (givenMoment KV.DateTime (momentAt line i))
+recordBy KV.DayTimeDuration line i = unlessMore (hasField line (i + 1)) (givenDayTime (signedOf long (fieldAt line i)))
+recordBy KV.YearMonthDuration line i = unlessMore (hasField line (i + 1)) (givenYearMonth (signedOf word (fieldAt line i)))
+
+abbrev pub recordNamed : Named → List ℕ → ℕ → Given
+recordNamed N.No line i = G.No
+recordNamed (N.Is k) line i = recordBy k line i
+
+unfoldable pub recordAt : List ℕ → ℕ → Given
+recordAt line i = recordNamed (named (fieldAt line i)) line (i + 1)

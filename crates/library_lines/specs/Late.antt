@@ -1,0 +1,29 @@
+-- docs/LINES.md, "Library example", `late`: "the second value less the first is computed .. then compared with D".
+use mathlib.Core.Bool.{Bool, true, false}
+use Rattle.basis.specs.Answer.{Answer, gives, refuses}
+use Rattle.instants.specs.Ticks.{utc}
+use Rattle.ordering.specs.Order.{Order, less, equal, greater, orderIn}
+use Rattle.arithmetic.specs.Sums.{minusIn}
+use Rattle.value.specs.declared.Value.{Value}
+use Rattle.library_lines.specs.declared.late.Lateness.{Lateness}
+use Rattle.library_lines.specs.declared.late.Lateness.the-variants as LV
+
+-- what an answer says: whether it is late, or the number of a refusal
+abbrev pub meaning : Lateness → Answer Bool
+meaning LV.Late = gives true
+meaning LV.InTime = gives false
+meaning (LV.Refused r) = refuses (r .number)
+
+-- late where the delay is greater than what is allowed
+abbrev pub whether : Answer Order → Answer Bool
+whether (gives less) = gives false
+whether (gives equal) = gives false
+whether (gives greater) = gives true
+whether (refuses n) = refuses n
+
+abbrev pub delayed : Value → Answer Value → Answer Bool
+delayed allowed (gives delay) = whether (orderIn utc delay allowed)
+delayed allowed (refuses n) = refuses n
+
+unfoldable pub lateOf : Value → Value → Value → Answer Bool
+lateOf planned actual allowed = delayed allowed (minusIn utc actual planned)

@@ -1,0 +1,264 @@
+// Numbers with a sign, zones and records, as fields of a line. They are as wide as the records' own numbers, so that those beyond the
+// bounds can be given too: whether a record is within them is for the library to say.
+use hostile::numbers::GREATEST;
+use hostile::numbers::Number;
+use hostile::numbers::read;
+use numerals::byte;
+use symbols::Named;
+use symbols::kind_named;
+use timetable::fields::field;
+use timetable::fields::has_field;
+use value::DateTime;
+use value::DayTime;
+use value::Kind;
+use value::Offset;
+use value::Value;
+use value::YearMonth;
+use value::Zone;
+use words::cut;
+use words::same;
+ghost use mathlib.Core.Path.{_≡_};
+ghost use mathlib.Core.List.{[], _∷_};
+ghost use Prim.Native.Nat.{_≤_};
+ghost use Rattle.basis.specs.Choice.{every};
+ghost use Rattle.library_lines.specs.Given as the;
+
+// The greatest numbers of one, two and four bytes.
+const BYTE: u64 = 255;
+
+const SHORT: u64 = 65_535;
+
+pub const WORD: u64 = 4_294_967_295;
+
+// A number with a sign. Where the text is none, it is not good, and 0.
+pub struct Signed {
+    pub good: bool,
+    pub negative: bool,
+    pub value: u64,
+}
+
+// A zone; not good where the text is none.
+pub struct Zoned {
+    pub good: bool,
+    pub zone: Zone,
+}
+
+// The numbers of a date, whether there is such a date or not.
+pub struct Day {
+    pub good: bool,
+    pub year: u16,
+    pub month: u8,
+    pub day: u8,
+}
+
+// The record of a date, a time or a dateTime.
+pub struct Moment {
+    pub good: bool,
+    pub parts: DateTime,
+}
+
+// A record of any kind, if the fields are one.
+pub enum Given {
+    No,
+    Is(Value),
+}
+
+fn with_sign(negative: bool, n: Number) -> Signed
+    ensures { λ r. ⌜ r ≡ the.withSign negative n ⌝ }
+{
+    Signed {
+        good: n.good,
+        negative,
+        value: n.value,
+    }
+}
+
+// A sign, and directly after it a number that is at most a bound.
+pub fn signed_number(s: &[u8], most: u64) -> Signed
+    ensures { λ r. ⌜ (r ≡ the.signedOf most (now (s .entry))) × (r .value ≤ most) ⌝ }
+{
+    let sign = byte(s, 0);
+    let n = read(cut(s, 1, s.len()), most);
+    if sign == b'+' {
+        return with_sign(false, n);
+    }
+    if sign == b'-' {
+        return with_sign(true, n);
+    }
+    Signed {
+        good: false,
+        negative: false,
+        value: 0,
+    }
+}
+
+fn offset(n: Signed) -> Offset
+    requires { ⌜ n .value ≤ the.short ⌝ }
+    ensures { λ r. ⌜ r ≡ the.offsetOf n ⌝ }
+{
+    let minutes = n.value as u16;
+    if n.negative {
+        return Offset::West(minutes);
+    }
+    Offset::East(minutes)
+}
+
+// A zone: `none`, or a sign and minutes.
+pub fn zone(s: &[u8]) -> Zoned
+    ensures { λ r. ⌜ r ≡ the.zoneOf (now (s .entry)) ⌝ }
+{
+    if same(s, b"none") {
+        return Zoned {
+            good: true,
+            zone: Zone::Absent,
+        };
+    }
+    let n = signed_number(s, SHORT);
+    let zone = Zone::At(offset(n));
+    Zoned { good: n.good, zone }
+}
+
+fn all_three(a: bool, b: bool, c: bool) -> bool
+    ensures { λ r. ⌜ r ≡ every (a ∷ b ∷ c ∷ []) ⌝ }
+{
+    if !a {
+        return false;
+    }
+    if !b {
+        return false;
+    }
+    c
+}
+
+// Year, month and day in three fields.
+pub fn day_at(line: &[u8], at: usize) -> Day
+    requires { ⌜ at ≤ 5 ⌝ }
+    ensures { λ r. ⌜ r ≡ the.dayAt (now (line .entry)) at ⌝ }
+{
+    let y = read(field(line, at), SHORT);
+    let m = read(field(line, at + 1), BYTE);
+    let d = read(field(line, at + 2), BYTE);
+    let good = all_three(y.good, m.good, d.good);
+    Day {
+        good,
+        year: y.value as u16,
+        month: m.value as u8,
+        day: d.value as u8,
+    }
+}
+
+fn parts_of(d: Day, micros: u64, zone: Zone) -> DateTime
+    ensures { λ r. ⌜ r ≡ the.partsOf d micros zone ⌝ }
+{
+    DateTime {
+        year: d.year,
+        month: d.month,
+        day: d.day,
+        micros,
+        zone,
+    }
+}
+
+// Year, month, day, microseconds and zone in five fields.
+pub fn moment_at(line: &[u8], at: usize) -> Moment
+    requires { ⌜ at ≤ 5 ⌝ }
+    ensures { λ r. ⌜ r ≡ the.momentAt (now (line .entry)) at ⌝ }
+{
+    let d = day_at(line, at);
+    let n = read(field(line, at + 3), GREATEST);
+    let z = zone(field(line, at + 4));
+    let good = all_three(d.good, n.good, z.good);
+    let zone = z.zone;
+    let parts = parts_of(d, n.value, zone);
+    Moment { good, parts }
+}
+
+fn given_moment(kind: Kind, m: Moment) -> Given
+    ensures { λ r. ⌜ r ≡ the.givenMoment kind m ⌝ }
+{
+    if !m.good {
+        return Given::No;
+    }
+    let parts = m.parts;
+    match kind {
+        Kind::Date => Given::Is(Value::Date(parts)),
+        Kind::Time => Given::Is(Value::Time(parts)),
+        Kind::DateTime => Given::Is(Value::DateTime(parts)),
+        Kind::DayTimeDuration => Given::No,
+        Kind::YearMonthDuration => Given::No,
+    }
+}
+
+fn given_day_time(n: Signed) -> Given
+    ensures { λ r. ⌜ r ≡ the.givenDayTime n ⌝ }
+{
+    if !n.good {
+        return Given::No;
+    }
+    Given::Is(Value::DayTime(DayTime {
+        negative: n.negative,
+        micros: n.value,
+    }))
+}
+
+fn given_year_month(n: Signed) -> Given
+    requires { ⌜ n .value ≤ the.word ⌝ }
+    ensures { λ r. ⌜ r ≡ the.givenYearMonth n ⌝ }
+{
+    if !n.good {
+        return Given::No;
+    }
+    Given::Is(Value::YearMonth(YearMonth {
+        negative: n.negative,
+        months: n.value as u32,
+    }))
+}
+
+// What a field after the last one makes of a record: none.
+fn unless_more(more: bool, g: Given) -> Given
+    ensures { λ r. ⌜ r ≡ the.unlessMore more g ⌝ }
+{
+    if more {
+        return Given::No;
+    }
+    g
+}
+
+fn record_by(kind: Kind, line: &[u8], at: usize) -> Given
+    requires { ⌜ at ≤ 5 ⌝ }
+    ensures { λ r. ⌜ r ≡ the.recordBy kind (now (line .entry)) at ⌝ }
+{
+    match kind {
+        Kind::DayTimeDuration => {
+            let n = signed_number(field(line, at), GREATEST);
+            unless_more(has_field(line, at + 1), given_day_time(n))
+        }
+        Kind::YearMonthDuration => {
+            let n = signed_number(field(line, at), WORD);
+            unless_more(has_field(line, at + 1), given_year_month(n))
+        }
+        Kind::Date => unless_more(
+            has_field(line, at + 5),
+            given_moment(Kind::Date, moment_at(line, at)),
+        ),
+        Kind::Time => unless_more(
+            has_field(line, at + 5),
+            given_moment(Kind::Time, moment_at(line, at)),
+        ),
+        Kind::DateTime => unless_more(
+            has_field(line, at + 5),
+            given_moment(Kind::DateTime, moment_at(line, at)),
+        ),
+    }
+}
+
+// The record in the last fields of a line: a kind's name, and the numbers of that kind.
+pub fn record_at(line: &[u8], at: usize) -> Given
+    requires { ⌜ at ≤ 4 ⌝ }
+    ensures { λ r. ⌜ r ≡ the.recordAt (now (line .entry)) at ⌝ }
+{
+    match kind_named(field(line, at)) {
+        Named::No => Given::No,
+        Named::Is(kind) => record_by(kind, line, at + 1),
+    }
+}

@@ -1,0 +1,105 @@
+// Values that are made of numbers. A maker answers the value, or 16 where a number is outside the bounds of its kind.
+use crate::told::tell;
+use crate::told::tell_end;
+use crate::told::tell_no_call;
+use crate::told::tell_refused;
+use hostile::numbers::GREATEST;
+use hostile::numbers::read;
+use library_lines::given::WORD;
+use library_lines::given::day_at;
+use library_lines::given::moment_at;
+use library_lines::given::signed_number;
+use library_lines::given::zone;
+use text::Written;
+use timetable::fields::field;
+use timetable::fields::has_field;
+use value::DateTime;
+use value::DayTime;
+use value::Outcome;
+use value::Value;
+use value::YearMonth;
+use words::cut;
+
+// The longest text of a value has so many bytes.
+const LONGEST: usize = numerals::LONGEST;
+
+// A value's text. No value that a call answered is refused: it is within the bounds, and its text fits.
+fn tell_value(v: Value) {
+    let mut room = [0; LONGEST];
+    let written = text::write(v, &mut room);
+    match written {
+        Written::Length(n) => {
+            tell(cut(&room, 0, n));
+            tell_end();
+        }
+        Written::Refused(refusal) => tell_refused(refusal.number),
+    }
+}
+
+fn tell_made(made: Outcome) {
+    match made {
+        Outcome::Is(v) => tell_value(v),
+        Outcome::Refused(refusal) => tell_refused(refusal.number),
+    }
+}
+
+// `date→Y→M→D→Z`
+pub fn make_date(line: &[u8]) {
+    let d = day_at(line, 2);
+    let z = zone(field(line, 5));
+    let good = d.good & z.good & !has_field(line, 6);
+    if !good {
+        tell_no_call();
+        return;
+    }
+    let zone = z.zone;
+    tell_made(DateTime::date(d.year, d.month, d.day, zone));
+}
+
+// `time→MICROS→Z`
+pub fn make_time(line: &[u8]) {
+    let n = read(field(line, 2), GREATEST);
+    let z = zone(field(line, 3));
+    let good = n.good & z.good & !has_field(line, 4);
+    if !good {
+        tell_no_call();
+        return;
+    }
+    let zone = z.zone;
+    tell_made(DateTime::time(n.value, zone));
+}
+
+// `dateTime→Y→M→D→MICROS→Z`
+pub fn make_date_time(line: &[u8]) {
+    let m = moment_at(line, 2);
+    let good = m.good & !has_field(line, 7);
+    if !good {
+        tell_no_call();
+        return;
+    }
+    let d = m.parts;
+    let zone = d.zone;
+    tell_made(DateTime::new(d.year, d.month, d.day, d.micros, zone));
+}
+
+// `dayTime→S`
+pub fn make_day_time(line: &[u8]) {
+    let n = signed_number(field(line, 2), GREATEST);
+    let good = n.good & !has_field(line, 3);
+    if !good {
+        tell_no_call();
+        return;
+    }
+    tell_made(DayTime::new(n.negative, n.value));
+}
+
+// `yearMonth→S`
+pub fn make_year_month(line: &[u8]) {
+    let n = signed_number(field(line, 2), WORD);
+    let good = n.good & !has_field(line, 3);
+    if !good {
+        tell_no_call();
+        return;
+    }
+    tell_made(YearMonth::new(n.negative, n.value as u32));
+}
