@@ -1,4 +1,2 @@
-pub mod Lines
 pub mod Readings
-pub mod Within
 pub mod Zeros

@@ -12,9 +12,9 @@ use Rattle.timetable.specs.Fields.{hasField, fieldAt}
 use Rattle.seat.specs.Bounds.{conditionRoom}
 use Rattle.desk.specs.Bounds.{seatCount}
 use Rattle.hostile.specs.Fields.{conditionText}
-use Rattle.hostile.specs.Numbers.{noNumber, numberOf}
+use Rattle.line_fields.specs.Numbers.{noNumber, numberOf}
 use Rattle.hostile.specs.Events.{lastNumber, onlyIf, seatBy, seatWith, conditionIn}
-use Rattle.hostile.specs.declared.numbers.Number.{Number}
+use Rattle.line_fields.specs.declared.numbers.Number.{Number}
 use Rattle.hostile.specs.declared.Event.{Event}
 use Rattle.hostile.specs.declared.Event.the-variants as E
 

@@ -12,8 +12,8 @@ use Rattle.words.specs.Runs.{same}
 use Rattle.seat.specs.Bounds.{conditionRoom}
 use Rattle.desk.specs.Bounds.{seatCount, lastTicket}
 use Rattle.hostile.specs.Fields.{conditionText}
-use Rattle.hostile.specs.Numbers.{greatest, noNumber, numberOf}
-use Rattle.hostile.specs.declared.numbers.Number.{Number}
+use Rattle.line_fields.specs.Numbers.{greatest, noNumber, numberOf}
+use Rattle.line_fields.specs.declared.numbers.Number.{Number}
 use Rattle.hostile.specs.declared.DeskNumber.the-variants as D
 use Rattle.hostile.specs.declared.SeatNumber.the-variants as S
 use Rattle.hostile.specs.declared.Event.{Event}

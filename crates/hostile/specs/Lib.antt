@@ -1,4 +1,3 @@
 pub mod Events
 pub mod Fields
-pub mod Numbers
 pub mod Shown

@@ -4,7 +4,7 @@
 use desk::Desk;
 use hostile::Event;
 use hostile::events::event;
-use hostile::fields::after_tab;
+use line_fields::fields::after_tab;
 use hostile::fields::condition_text;
 use hostile_answers::show;
 use hostile_answers::tell;

@@ -10,7 +10,7 @@ use borrow.Author.Tests.{eq-eqb, ne-eqb}
 use Rattle.basis.specs.Choice.{pick}
 use Rattle.timetable.specs.Lines.{Line, lineEnd, lineAt, nextLine, linesFrom, placedLines}
 use Rattle.timetable.proofs.Offsets.{line-cut, lines-end, lines-next, next-further}
-use Rattle.hostile.specs.Fields.{afterTab}
+use Rattle.line_fields.specs.Fields.{afterTab}
 use Rattle.seat.specs.Files.{Files}
 use Rattle.seat.specs.Request.{asking}
 use Rattle.desk.specs.Desk.{openOf, closeOf, turnOf}

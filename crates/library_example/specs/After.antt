@@ -5,7 +5,7 @@ use Prim.Native.Nat.{ℕ}
 use lib.Dec.{eqb}
 use Rattle.basis.specs.Choice.{pick}
 use Rattle.timetable.specs.Lines.{Line}
-use Rattle.hostile.specs.Fields.{afterTab}
+use Rattle.line_fields.specs.Fields.{afterTab}
 use Rattle.seat.specs.Files.{Files}
 use Rattle.seat.specs.Request.{asking}
 use Rattle.desk.specs.Desk.{openOf, closeOf, turnOf}

@@ -7,6 +7,9 @@ use desk::Desk;
 use desk_in_place::close_in;
 use desk_in_place::open_in;
 use desk_in_place::turn_in;
+use library_lines::calls::CLOSE;
+use library_lines::calls::OPEN;
+use library_lines::calls::TURN;
 use library_lines::calls::call_at;
 use library_lines::calls::condition_at;
 use library_lines::calls::line_at;
@@ -30,16 +33,16 @@ fn answer_all(desk: &mut Desk, t: &[u8], input: &[u8])
     while at < input.len() {
         let call = call_at(input, at);
         match call {
-            1 => {
+            TURN => {
                 let turned = turn_in(desk, t);
                 tell_turn(turned);
             }
-            2 => {
+            OPEN => {
                 let condition = condition_at(input, at);
                 let opened = open_in(desk, condition);
                 tell_open(opened);
             }
-            3 => {
+            CLOSE => {
                 let ticket = ticket_at(input, at);
                 let closed = close_in(desk, ticket);
                 tell_close(closed);

@@ -8,8 +8,8 @@ use Rattle.basis.specs.Letters.{bytes}
 use Rattle.basis.proofs.Tests.{no, yes}
 use Rattle.timetable.specs.Fields.{fieldAt, hasField}
 use Rattle.words.specs.Runs.{same}
-use Rattle.hostile.specs.Numbers.{numberOf}
-use Rattle.hostile.specs.declared.numbers.Number.{Number}
+use Rattle.line_fields.specs.Numbers.{numberOf}
+use Rattle.line_fields.specs.declared.numbers.Number.{Number}
 use Rattle.library_lines.specs.Given.{word}
 use Rattle.library_lines.specs.Calls.{closeBy, callBy}
 use Rattle.library_lines.proofs.Fields.{first-of, second-of}

@@ -14,8 +14,8 @@ use Rattle.numerals.specs.Reading.{at}
 use Rattle.words.specs.Runs.{between, same}
 use Rattle.symbols.specs.Symbols.{named}
 use Rattle.symbols.specs.declared.Named.{Named}
-use Rattle.hostile.specs.Numbers.{numberOf}
-use Rattle.hostile.specs.declared.numbers.Number.{Number}
+use Rattle.line_fields.specs.Numbers.{greatest, numberOf}
+use Rattle.line_fields.specs.declared.numbers.Number.{Number}
 use Rattle.value.specs.declared.Offset.{Offset}
 use Rattle.value.specs.declared.Offset.the-variants.{East, West}
 use Rattle.value.specs.declared.Zone.{Zone}
@@ -24,7 +24,7 @@ use Rattle.value.specs.declared.DateTime.{DateTime}
 use Rattle.value.specs.declared.Kind.{Kind}
 use Rattle.value.specs.declared.Kind.the-variants as KV
 use Rattle.value.specs.declared.Value.the-variants as VV
-use Rattle.library_lines.specs.Given.{short, byte, word, long, withSign, noSigned, afterSign, signedOf, offsetOf, zoneBy, zoneOf, dayOf, dayAt, partsOf, momentOf, momentAt, ofKind, givenMoment, givenDayTime, givenYearMonth, unlessMore, recordBy, recordNamed, recordAt}
+use Rattle.library_lines.specs.Given.{short, byte, word, withSign, noSigned, afterSign, signedOf, offsetOf, zoneBy, zoneOf, dayOf, dayAt, partsOf, momentOf, momentAt, ofKind, givenMoment, givenDayTime, givenYearMonth, unlessMore, recordBy, recordNamed, recordAt}
 use Rattle.library_lines.specs.declared.given.Signed.{Signed}
 use Rattle.library_lines.specs.declared.given.Zoned.{Zoned}
 use Rattle.library_lines.specs.declared.given.Day.{Day}
@@ -101,10 +101,10 @@ abbrev momentWith : Bool → DateTime → Moment
 momentWith g p = record { good = g; parts = p }
 
 pub moment-read : (line : List ℕ) (i : ℕ) {g : Bool} {p : DateTime} {d : Day} {n : Number} {z : Zoned} {fn fz : List ℕ} → g ≡ every (d .good ∷ n .good ∷ z .good ∷ []) → p ≡ partsOf d (n .value) (z .zone)
-    → d ≡ dayAt line i → fn ≡ fieldAt line (i + 3) → n ≡ numberOf long fn → fz ≡ fieldAt line (i + 4) → z ≡ zoneOf fz → momentWith g p ≡ momentAt line i
+    → d ≡ dayAt line i → fn ≡ fieldAt line (i + 3) → n ≡ numberOf greatest fn → fz ≡ fieldAt line (i + 4) → z ≡ zoneOf fz → momentWith g p ≡ momentAt line i
 unfolding momentAt
 moment-read line i eg ep ed efn en efz ez =
-    (λ j. momentWith (eg j) (ep j)) ∙ (λ j. momentOf (ed j) ((en ∙ ap (numberOf long) efn) j) ((ez ∙ ap zoneOf efz) j))
+    (λ j. momentWith (eg j) (ep j)) ∙ (λ j. momentOf (ed j) ((en ∙ ap (numberOf greatest) efn) j) ((ez ∙ ap zoneOf efz) j))
 
 -- ---- records
 pub no-moment : (k : Kind) (m : Moment) → not (m .good) ≡ true → G.No ≡ givenMoment k m
@@ -127,9 +127,9 @@ is-year-month n q = first-of {b = n .good} (G.Is (VV.YearMonth (record { negativ
 
 module _ (line : List ℕ) (i : ℕ) {k : Kind} {r g : Given} {h : Bool} (er : r ≡ unlessMore h g) where
   module _ {n : Signed} {f : List ℕ} (eh : h ≡ hasField line (i + 1)) (ef : f ≡ fieldAt line i) where
-    pub by-day-time : k ≡ KV.DayTimeDuration → n ≡ signedOf long f → g ≡ givenDayTime n → r ≡ recordBy k line i
+    pub by-day-time : k ≡ KV.DayTimeDuration → n ≡ signedOf greatest f → g ≡ givenDayTime n → r ≡ recordBy k line i
     unfolding recordBy
-    by-day-time ek en eg = er ∙ (λ j. unlessMore (eh j) ((eg ∙ ap givenDayTime (en ∙ ap (signedOf long) ef)) j)) ∙ ap (λ (x : Kind). recordBy x line i) (sym ek)
+    by-day-time ek en eg = er ∙ (λ j. unlessMore (eh j) ((eg ∙ ap givenDayTime (en ∙ ap (signedOf greatest) ef)) j)) ∙ ap (λ (x : Kind). recordBy x line i) (sym ek)
 
     pub by-year-month : k ≡ KV.YearMonthDuration → n ≡ signedOf word f → g ≡ givenYearMonth n → r ≡ recordBy k line i
     unfolding recordBy

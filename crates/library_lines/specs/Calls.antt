@@ -7,8 +7,8 @@ use Rattle.basis.specs.Letters.{bytes}
 use Rattle.timetable.specs.Lines.{lineEnd}
 use Rattle.timetable.specs.Fields.{fieldAt, hasField}
 use Rattle.words.specs.Runs.{between, same}
-use Rattle.hostile.specs.Fields.{afterTab}
-use Rattle.hostile.specs.Numbers.{numberOf}
+use Rattle.line_fields.specs.Fields.{afterTab}
+use Rattle.line_fields.specs.Numbers.{numberOf}
 use Rattle.library_lines.specs.Given.{word}
 
 -- the line that starts at a place

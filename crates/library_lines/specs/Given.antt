@@ -2,6 +2,7 @@
 use mathlib.Core.Bool.{Bool, true, false}
 use mathlib.Core.List.{List, [], _∷_}
 use Prim.Native.Nat.{ℕ, _+_}
+use Prim.Native.Char.{code}
 use lib.Dec.{eqb}
 use lib.ListN.{length}
 use Rattle.basis.specs.Choice.{pick, every}
@@ -12,8 +13,8 @@ use Rattle.words.specs.Runs.{between, same}
 use Rattle.symbols.specs.Symbols.{named}
 use Rattle.symbols.specs.declared.Named.{Named}
 use Rattle.symbols.specs.declared.Named.the-variants as N
-use Rattle.hostile.specs.Numbers.{numberOf}
-use Rattle.hostile.specs.declared.numbers.Number.{Number}
+use Rattle.line_fields.specs.Numbers.{greatest, numberOf}
+use Rattle.line_fields.specs.declared.numbers.Number.{Number}
 use Rattle.value.specs.declared.Offset.{Offset}
 use Rattle.value.specs.declared.Offset.the-variants.{East, West}
 use Rattle.value.specs.declared.Zone.{Zone}
@@ -29,7 +30,7 @@ use Rattle.library_lines.specs.declared.given.Moment.{Moment}
 use Rattle.library_lines.specs.declared.given.Given.{Given}
 use Rattle.library_lines.specs.declared.given.Given.the-variants as G
 
--- the greatest numbers of one, two, four and eight bytes
+-- the greatest numbers of one, two and four bytes
 abbrev pub byte : ℕ
 byte = 255
 
@@ -38,9 +39,6 @@ short = 65_535
 
 abbrev pub word : ℕ
 word = 4_294_967_295
-
-abbrev pub long : ℕ
-long = 18_446_744_073_709_551_615
 
 -- "S is `+` or `-` and directly after it one to twenty digits", at most a bound
 abbrev pub withSign : Bool → Number → Signed
@@ -55,8 +53,8 @@ afterSign most s = numberOf most (between s 1 (length s))
 
 unfoldable pub signedOf : ℕ → List ℕ → Signed
 signedOf most s =
-    pick (eqb (at s 0) 43) (withSign false (afterSign most s))
-    (pick (eqb (at s 0) 45) (withSign true (afterSign most s)) noSigned)
+    pick (eqb (at s 0) (code "+")) (withSign false (afterSign most s))
+    (pick (eqb (at s 0) (code "-")) (withSign true (afterSign most s)) noSigned)
 
 -- "Z is `none`, or `+` (east of UTC) or `-` (west) and directly after it the minutes"
 abbrev pub offsetOf : Signed → Offset
@@ -84,7 +82,7 @@ abbrev pub momentOf : Day → Number → Zoned → Moment
 momentOf d n z = record { good = every (d .good ∷ n .good ∷ z .good ∷ []); parts = partsOf d (n .value) (z .zone) }
 
 unfoldable pub momentAt : List ℕ → ℕ → Moment
-momentAt line i = momentOf (dayAt line i) (numberOf long (fieldAt line (i + 3))) (zoneOf (fieldAt line (i + 4)))
+momentAt line i = momentOf (dayAt line i) (numberOf greatest (fieldAt line (i + 3))) (zoneOf (fieldAt line (i + 4)))
 
 -- the record of a kind that such fields are
 abbrev pub ofKind : Kind → DateTime → Given
@@ -111,7 +109,7 @@ unfoldable pub recordBy : Kind → List ℕ → ℕ → Given
 recordBy KV.Date line i = unlessMore (hasField line (i + 5)) (givenMoment KV.Date (momentAt line i))
 recordBy KV.Time line i = unlessMore (hasField line (i + 5)) (givenMoment KV.Time (momentAt line i))
 recordBy KV.DateTime line i = unlessMore (hasField line (i + 5)) (givenMoment KV.DateTime (momentAt line i))
-recordBy KV.DayTimeDuration line i = unlessMore (hasField line (i + 1)) (givenDayTime (signedOf long (fieldAt line i)))
+recordBy KV.DayTimeDuration line i = unlessMore (hasField line (i + 1)) (givenDayTime (signedOf greatest (fieldAt line i)))
 recordBy KV.YearMonthDuration line i = unlessMore (hasField line (i + 1)) (givenYearMonth (signedOf word (fieldAt line i)))
 
 abbrev pub recordNamed : Named → List ℕ → ℕ → Given

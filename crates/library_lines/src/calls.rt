@@ -1,7 +1,7 @@
 // Which call of the desk a line is, and what it holds. The line is the one that starts at a place of the input.
 use crate::given::WORD;
-use hostile::fields::after_tab;
-use hostile::numbers::read;
+use line_fields::fields::after_tab;
+use line_fields::numbers::read;
 use timetable::fields::field;
 use timetable::fields::has_field;
 use timetable::lines::line_end;
@@ -12,11 +12,11 @@ ghost use Rattle.basis.specs.Choice.{pick};
 ghost use Rattle.library_lines.specs.Calls as the;
 
 // The calls of the desk, as `call_at` answers them; 0 is none of them.
-const TURN: usize = 1;
+pub const TURN: usize = 1;
 
-const OPEN: usize = 2;
+pub const OPEN: usize = 2;
 
-const CLOSE: usize = 3;
+pub const CLOSE: usize = 3;
 
 // The line that starts at a place.
 pub fn line_at(input: &[u8], at: usize) -> &[u8]

@@ -1,8 +1,8 @@
 // Numbers with a sign, zones and records, as fields of a line. They are as wide as the records' own numbers, so that those beyond the
 // bounds can be given too: whether a record is within them is for the library to say.
-use hostile::numbers::GREATEST;
-use hostile::numbers::Number;
-use hostile::numbers::read;
+use line_fields::numbers::GREATEST;
+use line_fields::numbers::Number;
+use line_fields::numbers::read;
 use numerals::byte;
 use symbols::Named;
 use symbols::kind_named;
@@ -24,17 +24,17 @@ ghost use Rattle.basis.specs.Choice.{every};
 ghost use Rattle.library_lines.specs.Given as the;
 
 // The greatest numbers of one, two and four bytes.
-const BYTE: u64 = 255;
+const BYTE: usize = 255;
 
-const SHORT: u64 = 65_535;
+const SHORT: usize = 65_535;
 
-pub const WORD: u64 = 4_294_967_295;
+pub const WORD: usize = 4_294_967_295;
 
 // A number with a sign. Where the text is none, it is not good, and 0.
 pub struct Signed {
     pub good: bool,
     pub negative: bool,
-    pub value: u64,
+    pub value: usize,
 }
 
 // A zone; not good where the text is none.
@@ -74,7 +74,7 @@ fn with_sign(negative: bool, n: Number) -> Signed
 }
 
 // A sign, and directly after it a number that is at most a bound.
-pub fn signed_number(s: &[u8], most: u64) -> Signed
+pub fn signed_number(s: &[u8], most: usize) -> Signed
     ensures { λ r. ⌜ (r ≡ the.signedOf most (now (s .entry))) × (r .value ≤ most) ⌝ }
 {
     let sign = byte(s, 0);
@@ -169,7 +169,7 @@ pub fn moment_at(line: &[u8], at: usize) -> Moment
     let z = zone(field(line, at + 4));
     let good = all_three(d.good, n.good, z.good);
     let zone = z.zone;
-    let parts = parts_of(d, n.value, zone);
+    let parts = parts_of(d, n.value as u64, zone);
     Moment { good, parts }
 }
 
@@ -197,7 +197,7 @@ fn given_day_time(n: Signed) -> Given
     }
     Given::Is(Value::DayTime(DayTime {
         negative: n.negative,
-        micros: n.value,
+        micros: n.value as u64,
     }))
 }
 

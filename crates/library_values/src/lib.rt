@@ -1,6 +1,5 @@
 // The calls of the library example that are about values (docs/LINES.md, "Library example"): each reads the fields of a line, makes
 // the library's call, and writes what it answered.
-use hostile::names::place_in;
 use makers::make_date;
 use makers::make_date_time;
 use makers::make_day_time;
@@ -12,25 +11,46 @@ use texts::write_record;
 use texts::write_text;
 use timetable::fields::field;
 use told::tell_no_call;
+use words::same;
 
 mod makers; // makers.rt: values made of numbers
 mod texts; // texts.rt: values read from text, written, compared and computed with
 pub mod told; // told.rt: the lines that are written
 
+// The calls that read or write a text, and a line that is no call.
+fn answer_text(line: &[u8], word: &[u8]) {
+    if same(word, b"record") {
+        return write_record(line);
+    }
+    if same(word, b"write") {
+        return write_text(line);
+    }
+    if same(word, b"compare") {
+        return compare(line);
+    }
+    if same(word, b"late") {
+        return compare_delay(line);
+    }
+    tell_no_call()
+}
+
 // Answers a call that is about values, and a line that is no call.
 pub fn answer(line: &[u8]) {
-    let words = b"date\ttime\tdateTime\tdayTime\tyearMonth\trecord\twrite\tcompare\tlate";
-    let word = place_in(words, field(line, 1));
-    match word {
-        1 => make_date(line),
-        2 => make_time(line),
-        3 => make_date_time(line),
-        4 => make_day_time(line),
-        5 => make_year_month(line),
-        6 => write_record(line),
-        7 => write_text(line),
-        8 => compare(line),
-        9 => compare_delay(line),
-        _ => tell_no_call(),
+    let word = field(line, 1);
+    if same(word, b"date") {
+        return make_date(line);
     }
+    if same(word, b"time") {
+        return make_time(line);
+    }
+    if same(word, b"dateTime") {
+        return make_date_time(line);
+    }
+    if same(word, b"dayTime") {
+        return make_day_time(line);
+    }
+    if same(word, b"yearMonth") {
+        return make_year_month(line);
+    }
+    answer_text(line, word)
 }

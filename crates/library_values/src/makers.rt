@@ -3,8 +3,8 @@ use crate::told::tell;
 use crate::told::tell_end;
 use crate::told::tell_no_call;
 use crate::told::tell_refused;
-use hostile::numbers::GREATEST;
-use hostile::numbers::read;
+use line_fields::numbers::GREATEST;
+use line_fields::numbers::read;
 use library_lines::given::WORD;
 use library_lines::given::day_at;
 use library_lines::given::moment_at;
@@ -66,7 +66,7 @@ pub fn make_time(line: &[u8]) {
         return;
     }
     let zone = z.zone;
-    tell_made(DateTime::time(n.value, zone));
+    tell_made(DateTime::time(n.value as u64, zone));
 }
 
 // `dateTime→Y→M→D→MICROS→Z`
@@ -90,7 +90,7 @@ pub fn make_day_time(line: &[u8]) {
         tell_no_call();
         return;
     }
-    tell_made(DayTime::new(n.negative, n.value));
+    tell_made(DayTime::new(n.negative, n.value as u64));
 }
 
 // `yearMonth→S`

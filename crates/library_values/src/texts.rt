@@ -6,8 +6,8 @@ use crate::told::tell_no_call;
 use crate::told::tell_number;
 use crate::told::tell_order;
 use crate::told::tell_refused;
-use hostile::fields::after_tab;
-use hostile::numbers::read;
+use line_fields::fields::after_tab;
+use line_fields::numbers::read;
 use library_lines::given::Given;
 use library_lines::given::record_at;
 use library_lines::late::late;
@@ -57,14 +57,14 @@ fn write_within(v: Value, long: usize) {
 
 // `record→ROOM→V`: the record goes to the writer as it is, and no maker has seen it.
 pub fn write_record(line: &[u8]) {
-    let long = read(field(line, 2), ROOM as u64);
+    let long = read(field(line, 2), ROOM);
     if !long.good {
         tell_no_call();
         return;
     }
     match record_at(line, 3) {
         Given::No => tell_no_call(),
-        Given::Is(v) => write_within(v, long.value as usize),
+        Given::Is(v) => write_within(v, long.value),
     }
 }
 
@@ -78,7 +78,7 @@ fn write_read(kind: Kind, s: &[u8], long: usize) {
 
 // `write→K→ROOM→TEXT`: the text may hold any bytes.
 pub fn write_text(line: &[u8]) {
-    let long = read(field(line, 3), ROOM as u64);
+    let long = read(field(line, 3), ROOM);
     let good = long.good & has_field(line, 4);
     if !good {
         tell_no_call();
@@ -87,7 +87,7 @@ pub fn write_text(line: &[u8]) {
     let s = after_tab(after_tab(after_tab(line)));
     match kind_named(field(line, 2)) {
         Named::No => tell_no_call(),
-        Named::Is(kind) => write_read(kind, s, long.value as usize),
+        Named::Is(kind) => write_read(kind, s, long.value),
     }
 }
 

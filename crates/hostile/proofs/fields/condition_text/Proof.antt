@@ -1,5 +1,5 @@
 use mathlib.Core.Path.{ap, _∙_}
-use Rattle.hostile.specs.Fields.{afterTab}
+use Rattle.line_fields.specs.Fields.{afterTab}
 use borrow.Author.Needs.{needs}
 use Rattle.hostile.proofs.fields.condition_text.Statement.{statement}
 use Rattle.hostile.proofs.fields.condition_text.Tie as tie

@@ -1,5 +1,5 @@
 use mathlib.Core.Path.{ap, _∙_}
-use Rattle.hostile.specs.Fields.{afterTab}
+use Rattle.line_fields.specs.Fields.{afterTab}
 use borrow.Author.Needs.{needs}
 use Rattle.library_lines.proofs.calls.condition_at.Statement.{statement}
 use Rattle.library_lines.proofs.calls.condition_at.Tie as tie

@@ -1,6 +1,6 @@
 use mathlib.Core.Path.{ap, _∙_}
-use Rattle.hostile.specs.Numbers.{numberOf}
-use Rattle.hostile.specs.declared.numbers.Number.{Number}
+use Rattle.line_fields.specs.Numbers.{numberOf}
+use Rattle.line_fields.specs.declared.numbers.Number.{Number}
 use Rattle.library_lines.specs.Given.{word}
 use borrow.Author.Needs.{needs}
 use Rattle.library_lines.proofs.calls.ticket_in.Statement.{statement}

@@ -1,7 +1,7 @@
-use Rattle.hostile.proofs.Lines.{no-tab, after-first}
+use Rattle.line_fields.proofs.Lines.{no-tab, after-first}
 use borrow.Author.Needs.{needs}
-use Rattle.hostile.proofs.fields.after_tab.Statement.{statement}
-use Rattle.hostile.proofs.fields.after_tab.Tie as tie
+use Rattle.line_fields.proofs.fields.after_tab.Statement.{statement}
+use Rattle.line_fields.proofs.fields.after_tab.Tie as tie
 
 field-requires : tie.Need-field-requires
 field-requires c κs = search needs

@@ -1,7 +1,7 @@
-use Rattle.hostile.proofs.Within.{tenth-less, rest-less}
+use Rattle.line_fields.proofs.Within.{tenth-less, rest-less}
 use borrow.Author.Needs.{needs}
-use Rattle.hostile.proofs.numbers.beyond.Statement.{statement}
-use Rattle.hostile.proofs.numbers.beyond.Tie as tie
+use Rattle.line_fields.proofs.numbers.beyond.Statement.{statement}
+use Rattle.line_fields.proofs.numbers.beyond.Tie as tie
 
 returns : tie.Need-returns
 returns c = tenth-less _ _ _ (c .if1 .taken)

@@ -7,7 +7,7 @@ use lib.ListN.{length}
 use Rattle.basis.specs.Choice.{pick}
 use Rattle.numerals.specs.Reading.{run}
 use Rattle.numerals.specs.Reading as reading
-use Rattle.hostile.specs.declared.numbers.Number.{Number}
+use Rattle.line_fields.specs.declared.numbers.Number.{Number}
 
 -- the longest number has so many digits
 abbrev pub maxDigits : ℕ

@@ -3,7 +3,7 @@ use numerals::digit;
 ghost use mathlib.Core.Path.{_≡_};
 ghost use Prim.Native.Nat.{_+_, _*_, _≤_};
 ghost use lib.Dec.{ltb};
-ghost use Rattle.hostile.specs.Numbers.{numberOf, noNumber};
+ghost use Rattle.line_fields.specs.Numbers.{numberOf, noNumber};
 
 // The longest number has so many digits.
 const DIGITS: usize = 20;

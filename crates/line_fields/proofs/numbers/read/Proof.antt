@@ -6,9 +6,9 @@ use lib.ListN.{length, getD}
 use mathlib.Core.Path.{_≡_, refl, sym, _∙_}
 use Rattle.basis.proofs.Tests.{no, yes}
 use Rattle.numerals.proofs.Runs.{a-digit}
-use Rattle.hostile.proofs.Within.{Passed, start, next, none-read, too-short, too-long, at-other, too-great, at-end}
-use Rattle.hostile.proofs.numbers.read.Statement.{statement}
-use Rattle.hostile.proofs.numbers.read.Tie as tie
+use Rattle.line_fields.proofs.Within.{Passed, start, next, none-read, too-short, too-long, at-other, too-great, at-end}
+use Rattle.line_fields.proofs.numbers.read.Statement.{statement}
+use Rattle.line_fields.proofs.numbers.read.Tie as tie
 
 abbrev Inv-loop : tie.InvT-loop
 Inv-loop s most v₀ i₀ v i = Passed s most i v

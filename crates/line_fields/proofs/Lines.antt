@@ -6,7 +6,7 @@ use native.Mathlib.Omega.{arith}
 use lib.ListN.{length, take, drop, drop-of-length-le, length-drop}
 use lib.Seq.{take-all}
 use Rattle.timetable.specs.Fields.{fieldAt}
-use Rattle.hostile.specs.Fields.{afterTab}
+use Rattle.line_fields.specs.Fields.{afterTab}
 
 pub no-tab : (line first : List ℕ) → first ≡ fieldAt line 1 → length line ≤ length first → [] ≡ afterTab line
 no-tab line first e h =

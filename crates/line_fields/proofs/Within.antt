@@ -12,8 +12,8 @@ use lib.Seq.{drop-cons}
 use Rattle.basis.specs.Choice.{pick}
 use Rattle.numerals.specs.Reading.{isDigit, number, run}
 use Rattle.numerals.specs.Reading as reading
-use Rattle.hostile.specs.Numbers.{maxDigits, noNumber, wholeWithin, numberOf}
-use Rattle.hostile.specs.declared.numbers.Number.{Number}
+use Rattle.line_fields.specs.Numbers.{maxDigits, noNumber, wholeWithin, numberOf}
+use Rattle.line_fields.specs.declared.numbers.Number.{Number}
 
 -- ---- one digit more
 
