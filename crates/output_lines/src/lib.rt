@@ -16,9 +16,11 @@ ghost use Rattle.desk.specs.Answers.{openMeaning};
 ghost use Rattle.output_lines.specs.Text.{refusedLine, openLine, turnLine, lineRoom};
 ghost use Rattle.output_lines.specs.Carried.{lineIn, Grown, Within};
 
-const TAB: u8 = 9;
+const TAB: u8 = b'\t';
 
-const NEWLINE: u8 = 10;
+const NEWLINE: u8 = b'\n';
+
+const ZERO: u64 = b'0' as u64;
 
 // A line as it grows. The text of values has no room for a line that is longer than they are.
 pub struct LineText {
@@ -83,7 +85,7 @@ fn digits(line: LineText, n: u64, k: usize) -> LineText
     let mut i = k;
     while 0 < i {
         i -= 1;
-        text.bytes[from + i] = (48 + left % 10) as u8;
+        text.bytes[from + i] = (ZERO + left % 10) as u8;
         left = left / 10;
     }
     text.len = from + k;
