@@ -6,9 +6,17 @@ use hostile::shown::kept;
 use libc::STDOUT_FILENO;
 use output_lines::LineText;
 use output_lines::refused_line;
+use output_lines::turn_line;
 use output_turns::TurnsAnswer;
 use seat::Seat;
+use value::Refusal;
 use words::cut;
+
+// The largest room of many turns.
+const ROOM: usize = 4_096;
+
+// The number of a line that is no event.
+pub const NO_EVENT: u8 = Refusal::BAD_CONDITION;
 
 pub fn tell(bytes: &[u8]) {
     io::write_all(STDOUT_FILENO, bytes);
@@ -62,7 +70,7 @@ fn tell_wrote(count: usize, idle: bool) {
     }
 }
 
-pub fn tell_turns(answer: TurnsAnswer) {
+fn tell_turns(answer: TurnsAnswer) {
     match answer {
         TurnsAnswer::Wrote(written) => tell_wrote(written.count, written.idle),
         TurnsAnswer::Refused(refusal) => tell_refused(refusal.number),
@@ -118,4 +126,32 @@ pub fn show(desk: Desk) {
         show_seat(i, desk.seats[i]);
         i += 1;
     }
+}
+
+// A turn: its line is written, and the desk after it handed back.
+pub fn turn(desk: Desk, t: &[u8]) -> Desk {
+    let after = desk.turn(t);
+    let answer = after.answer;
+    tell_text(turn_line(answer));
+    after.desk
+}
+
+// Many turns into a room, which is written after the answer.
+fn turns_into(desk: Desk, t: &[u8], room: &mut [u8]) -> Desk {
+    let after = output_turns::turns(desk, t, room);
+    let answer = after.answer;
+    tell_turns(answer);
+    tell(room);
+    tell(b"\n");
+    after.desk
+}
+
+// Many turns into a room of so many bytes, likewise.
+pub fn turns(desk: Desk, t: &[u8], long: usize) -> Desk {
+    if ROOM < long {
+        tell_refused(NO_EVENT);
+        return desk;
+    }
+    let mut room = [b'.'; ROOM];
+    turns_into(desk, t, &mut room[..long])
 }

@@ -6,6 +6,7 @@ use hostile::Event;
 use hostile::events::event;
 use line_fields::fields::after_tab;
 use hostile::fields::condition_text;
+use hostile_answers::NO_EVENT;
 use hostile_answers::show;
 use hostile_answers::tell;
 use hostile_answers::tell_close;
@@ -13,25 +14,18 @@ use hostile_answers::tell_fresh;
 use hostile_answers::tell_refused;
 use hostile_answers::tell_sound;
 use hostile_answers::tell_text;
-use hostile_answers::tell_turns;
+use hostile_answers::turn;
+use hostile_answers::turns;
 use hostile_changes::set_condition;
 use hostile_changes::set_desk;
 use hostile_changes::set_seat;
 use libc::STDIN_FILENO;
 use line_reader::read_line;
 use output_lines::open_line;
-use output_lines::turn_line;
-use value::Refusal;
 use words::cut;
 
 // The most bytes of a script.
 const MAX_INPUT: usize = 65_536;
-
-// The largest room of many turns.
-const ROOM: usize = 4_096;
-
-// The number of a line that is no event.
-const NO_EVENT: u8 = Refusal::BAD_CONDITION;
 
 // The events that make a call write its answer and hand back the desk after it.
 fn fresh(n: usize) -> Desk {
@@ -53,32 +47,6 @@ fn close(desk: Desk, ticket: u32) -> Desk {
     let answer = after.answer;
     tell_close(answer);
     after.desk
-}
-
-fn turn(desk: Desk, t: &[u8]) -> Desk {
-    let after = desk.turn(t);
-    let answer = after.answer;
-    tell_text(turn_line(answer));
-    after.desk
-}
-
-// Many turns into a room, which is written after the answer.
-fn turns_into(desk: Desk, t: &[u8], room: &mut [u8]) -> Desk {
-    let after = output_turns::turns(desk, t, room);
-    let answer = after.answer;
-    tell_turns(answer);
-    tell(room);
-    tell(b"\n");
-    after.desk
-}
-
-fn turns(desk: Desk, t: &[u8], long: usize) -> Desk {
-    if ROOM < long {
-        tell_refused(NO_EVENT);
-        return desk;
-    }
-    let mut room = [b'.'; ROOM];
-    turns_into(desk, t, &mut room[..long])
 }
 
 // The desk after an event.

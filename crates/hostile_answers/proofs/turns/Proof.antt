@@ -1,8 +1,8 @@
 use mathlib.Core.Path.{sym}
 use lib.Seq.{length-take-le}
 use borrow.Author.Needs.{needs}
-use Rattle.hostile_desks.proofs.turns.Statement.{statement}
-use Rattle.hostile_desks.proofs.turns.Tie as tie
+use Rattle.hostile_answers.proofs.turns.Statement.{statement}
+use Rattle.hostile_answers.proofs.turns.Tie as tie
 
 tell-refused-requires : tie.Need-tell-refused-requires
 tell-refused-requires c κs = search needs

@@ -2,10 +2,10 @@ use mathlib.Core.Path.{_≡_}
 use lib.ListN.{length}
 use Rattle.desk.specs.Bounds.{seatCount}
 use Rattle.output_turns.proofs.Calls.{mapped-length}
-use Rattle.hostile_desks.proofs.Told.{turn-within}
+use Rattle.hostile_answers.proofs.Told.{turn-within}
 use borrow.Author.Needs.{needs}
-use Rattle.hostile_desks.proofs.turn.Statement.{statement}
-use Rattle.hostile_desks.proofs.turn.Tie as tie
+use Rattle.hostile_answers.proofs.turn.Statement.{statement}
+use Rattle.hostile_answers.proofs.turn.Tie as tie
 
 turn-requires : tie.Need-turn-requires
 turn-requires c κs = search needs
