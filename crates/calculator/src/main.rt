@@ -1,20 +1,20 @@
 // The calculator: one library call a line, one line of answer for each (docs/LINES.md, "The calculator").
 use calls::MAX_INPUT;
+use calls_replies::Reply;
 use libc::STDIN_FILENO;
 use libc::STDOUT_FILENO;
-use replies::Reply;
 use timetable::lines::after_end;
 use timetable::lines::line_end;
 ghost use mathlib.Core.Path.{_≡_};
 ghost use Prim.Native.Nat.{_+_, _≤_};
 ghost use lib.ListN.{length};
-ghost use Rattle.calls.specs.Answers.{maxInput};
+ghost use Rattle.calls.specs.Answers.{maxCallsInput};
 
 // One byte more than is taken, so that an input that is too long shows.
 const ROOM: usize = MAX_INPUT + 1;
 
 fn room() -> [u8; ROOM]
-    ensures { λ r. ⌜ maxInput + 1 ≡ length r ⌝ }
+    ensures { λ r. ⌜ maxCallsInput + 1 ≡ length r ⌝ }
 {
     [0; ROOM]
 }

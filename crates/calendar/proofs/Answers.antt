@@ -10,7 +10,7 @@ use Rattle.basis.specs.Choice.{pick}
 use Rattle.calendar.specs.declared.Date.{Date}
 use Rattle.calendar.specs.declared.Dated.{Dated}
 use Rattle.calendar.specs.declared.Dated.the-variants.{On, Later}
-use Rattle.calendar.specs.Calendar.{total, yearDays, dateIn, dateOf, datedOf}
+use Rattle.calendar.specs.Calendar.{total, yearDays, dateWithin, dateOf, datedOf}
 use Rattle.calendar.proofs.Years.{dated-by, days-up-to, year-up-to, years-next, years-grow}
 
 pub on-time : (n last : ℕ) → dateOf n .year ≤ last → datedOf n last ≡ On (dateOf n)
@@ -23,7 +23,7 @@ too-late n last h = ap (λ (b : Bool). pick b (On (dateOf n)) Later) (lt-leb (da
 
 -- the walk of the years found the day's year, up to the last one
 pub on-from : (n last y k : ℕ) (d : Date) → k < yearDays y → total yearDays y + k ≡ n → y ≤ last
-    → d ≡ dateIn (record { run = y; left = k }) → On d ≡ datedOf n last
+    → d ≡ dateWithin (record { number = y; left = k }) → On d ≡ datedOf n last
 on-from n last y k d hk e hy ed =
     let q : d ≡ dateOf n = ed ∙ dated-by n y k hk e in
     let hq : dateOf n .year ≤ last = year-up-to n last (omega (arith, years-next y, years-grow (y + 1) (last + 1) (omega arith))) in

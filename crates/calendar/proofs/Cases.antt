@@ -2,14 +2,14 @@
 use mathlib.Core.Path.{_≡_, refl}
 use Prim.Native.Nat.{_-_}
 use Rattle.calendar.specs.declared.Dated.the-variants.{On, Later}
-use Rattle.calendar.specs.Calendar.{leapRow, monthDays, total, dayNumber, place, dateOf, datedOf}
+use Rattle.calendar.specs.Calendar.{leapRow, monthDays, total, dayNumber, periodOf, dateOf, datedOf}
 
 number-of-2000-03-01 : dayNumber 2000 3 1 ≡ 730545
 unfolding total
 number-of-2000-03-01 = refl
 
 date-of-730545 : dateOf 730545 ≡ record { year = 2000; month = 3; day = 1 }
-unfolding place dateOf
+unfolding periodOf dateOf
 date-of-730545 = refl
 
 number-of-9999-12-31 : dayNumber 9999 12 31 ≡ 3652424
@@ -17,12 +17,12 @@ unfolding total
 number-of-9999-12-31 = refl
 
 date-of-3652424 : dateOf 3652424 ≡ record { year = 9999; month = 12; day = 31 }
-unfolding place dateOf
+unfolding periodOf dateOf
 date-of-3652424 = refl
 
 -- the day before 2005-03-01
 before-2005-03-01 : dateOf (dayNumber 2005 3 1 - 1) ≡ record { year = 2005; month = 2; day = 28 }
-unfolding total place dateOf
+unfolding total periodOf dateOf
 before-2005-03-01 = refl
 
 ordinary-1900 : leapRow 1900 ≡ 0
@@ -36,9 +36,9 @@ february-2000 = refl
 
 -- year 0 is a leap year: its last day is 365, and with it as the last year the next day is later
 last-of-year-0 : datedOf 365 0 ≡ On (record { year = 0; month = 12; day = 31 })
-unfolding place dateOf datedOf
+unfolding periodOf dateOf datedOf
 last-of-year-0 = refl
 
 after-year-0 : datedOf 366 0 ≡ Later
-unfolding place dateOf datedOf
+unfolding periodOf dateOf datedOf
 after-year-0 = refl

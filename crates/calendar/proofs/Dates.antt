@@ -5,10 +5,10 @@ use mathlib.Core.Bool.{true}
 use Prim.Native.Nat.{ℕ, suc, _+_, _-_, _<_}
 use native.Mathlib.Omega.{arith}
 use Rattle.calendar.specs.declared.Date.{Date}
-use Rattle.calendar.specs.Calendar.{total, place, Place, yearDays, monthRow, leapRow, dateOf, dayOf, GoodDate, before}
+use Rattle.calendar.specs.Calendar.{total, periodOf, Period, yearDays, monthRow, leapRow, dateOf, dayOf, GoodDate, before}
 use Rattle.calendar.proofs.Months.{in-year, dated-in, date-in-year}
 use Rattle.calendar.proofs.Order.{earlier-is-lower, lower-is-earlier}
-use Rattle.calendar.proofs.Runs.{total-zero}
+use Rattle.calendar.proofs.Periods.{total-zero}
 use Rattle.calendar.proofs.Years.{dated-by, year-found}
 
 pub date-day : (d : Date) → GoodDate d → dateOf (dayOf d) ≡ d
@@ -22,14 +22,14 @@ date-day d g =
 pub date-good : (n : ℕ) → GoodDate (dateOf n)
 unfolding dateOf
 date-good n =
-    let p : Place = place yearDays (suc n) 0 n in
-    date-in-year (p .run) (p .left) (year-found n .within) .good
+    let p : Period = periodOf yearDays (suc n) 0 n in
+    date-in-year (p .number) (p .left) (year-found n .within) .good
 
 pub day-date : (n : ℕ) → dayOf (dateOf n) ≡ n
 unfolding dateOf
 day-date n =
-    let p : Place = place yearDays (suc n) 0 n in
-    omega (arith, date-in-year (p .run) (p .left) (year-found n .within) .number, year-found n .same, total-zero yearDays)
+    let p : Period = periodOf yearDays (suc n) 0 n in
+    omega (arith, date-in-year (p .number) (p .left) (year-found n .within) .number, year-found n .same, total-zero yearDays)
 
 -- dates of the calendar with one day number are one date
 pub same-day : (d e : Date) → GoodDate d → GoodDate e → dayOf d ≡ dayOf e → d ≡ e

@@ -1,5 +1,5 @@
 pub mod Leap
-pub mod Runs
+pub mod Periods
 pub mod Months
 pub mod Years
 pub mod Order

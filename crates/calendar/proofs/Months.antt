@@ -8,9 +8,9 @@ use native.Mathlib.Omega.{arith}
 use lib.Dec.{T, leb, leb→le}
 use lib.ListN.{getD}
 use Rattle.calendar.specs.declared.Date.{Date}
-use Rattle.calendar.specs.Calendar.{total, place, Place, yearDays, monthRow, months, monthCount, leapRow, dateIn, GoodDate}
+use Rattle.calendar.specs.Calendar.{total, periodOf, Period, yearDays, monthRow, months, monthCount, leapRow, dateWithin, GoodDate}
 use Rattle.calendar.proofs.Leap.{leap-le}
-use Rattle.calendar.proofs.Runs.{total-zero, total-suc, total-le, total-grows, placed, found-first, Found, below}
+use Rattle.calendar.proofs.Periods.{total-zero, total-suc, total-le, total-grows, placed, found-first, Found, below}
 
 abbrev small : ℕ → List ℕ → Bool
 small b [] = true
@@ -61,11 +61,11 @@ month-in y m left k e h =
 -- the one date of a day in its year
 pub dated-in : (y k m l : ℕ) → k < yearDays y → 1 ≤ m → l < monthRow (leapRow y) (m - 1)
     → total (monthRow (leapRow y)) (m - 1) + l ≡ k
-    → record { year = y; month = m; day = l + 1 } ≡ dateIn (record { run = y; left = k })
+    → record { year = y; month = m; day = l + 1 } ≡ dateWithin (record { number = y; left = k })
 dated-in y k m l hk hm hl el =
     let e : m - 1 + 1 ≡ m = omega arith in
-    let p : place (monthRow (leapRow y)) monthCount 0 k ≡ record { run = m - 1; left = l } = placed (monthRow (leapRow y)) monthCount k (m - 1) l (omega (arith, year-months y)) hl el in
-    sym (ap (λ (q : Place). record { year = y; month = q .run + 1; day = q .left + 1 }) p
+    let p : periodOf (monthRow (leapRow y)) monthCount 0 k ≡ record { number = m - 1; left = l } = placed (monthRow (leapRow y)) monthCount k (m - 1) l (omega (arith, year-months y)) hl el in
+    sym (ap (λ (q : Period). record { year = y; month = q .number + 1; day = q .left + 1 }) p
     ∙ ap (λ (x : ℕ). record { year = y; month = x; day = l + 1 }) e)
 
 -- a good date's day lies within its year
@@ -81,17 +81,17 @@ pub record InYear (k : ℕ) (d : Date) : Type 0 where
   pub good : GoodDate d
   pub number : total (monthRow (leapRow (d .year))) (d .month - 1) + (d .day - 1) ≡ k
 
-pub date-in-year : (y k : ℕ) → k < yearDays y → InYear k (dateIn (record { run = y; left = k }))
+pub date-in-year : (y k : ℕ) → k < yearDays y → InYear k (dateWithin (record { number = y; left = k }))
 date-in-year y k h =
     let f : ℕ → ℕ = monthRow (leapRow y) in
-    let m : Place = place f monthCount 0 k in
+    let m : Period = periodOf f monthCount 0 k in
     let z : total f 0 ≡ 0 = total-zero f in
     let sum : total f monthCount ≡ yearDays y = year-months y in
     let q : Found f 0 k m = found-first f monthCount k (omega arith) in
-    let lt : m .run < monthCount = below f (m .run) monthCount (m .left) (omega (arith, q .same)) in
-    let e : m .run + 1 - 1 ≡ m .run = omega arith in
-    let e2 : total f (m .run + 1 - 1) ≡ total f (m .run) = ap (total f) e in
-    let e3 : f (m .run + 1 - 1) ≡ f (m .run) = ap f e in
+    let lt : m .number < monthCount = below f (m .number) monthCount (m .left) (omega (arith, q .same)) in
+    let e : m .number + 1 - 1 ≡ m .number = omega arith in
+    let e2 : total f (m .number + 1 - 1) ≡ total f (m .number) = ap (total f) e in
+    let e3 : f (m .number + 1 - 1) ≡ f (m .number) = ap f e in
     record {
       good = record { month-from = omega arith; month-to = omega arith; day-from = omega arith; day-to = omega (arith, q .within) };
       number = omega (arith, q .same);

@@ -9,7 +9,7 @@ use borrow.Author.Tests.{eqb-true, eqb-false, ltb-true, ltb-false, lt-ltb}
 use Rattle.basis.specs.Choice.{pick}
 use Rattle.calendar.specs.declared.Date.{Date}
 use Rattle.calendar.specs.Calendar.{total, yearDays, monthRow, leapRow, dayOf, GoodDate, before}
-use Rattle.calendar.proofs.Runs.{run-below}
+use Rattle.calendar.proofs.Periods.{run-below}
 use Rattle.calendar.proofs.Years.{year-starts, year-ends, years-grow}
 
 pub earlier-year : (d e : Date) → GoodDate d → d .year < e .year → dayOf d < dayOf e

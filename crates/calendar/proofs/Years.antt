@@ -4,10 +4,10 @@ use Prim.Native.Nat.{ℕ, suc, _+_, _*_, _≤_, _<_}
 use native.Mathlib.Omega.{arith}
 use native.Mathlib.Numerals.{add-one}
 use Rattle.calendar.specs.declared.Date.{Date}
-use Rattle.calendar.specs.Calendar.{total, place, Place, yearDays, dateIn, dateOf, dayOf, GoodDate}
+use Rattle.calendar.specs.Calendar.{total, periodOf, Period, yearDays, dateWithin, dateOf, dayOf, GoodDate}
 use Rattle.calendar.proofs.Leap.{year-le, year-has-day}
 use Rattle.calendar.proofs.Months.{in-year}
-use Rattle.calendar.proofs.Runs.{total-zero, total-suc, total-le, total-ge, total-grows, placed, found-first, Found, below}
+use Rattle.calendar.proofs.Periods.{total-zero, total-suc, total-le, total-ge, total-grows, placed, found-first, Found, below}
 
 pub years-le : (y : ℕ) → total yearDays y ≤ 366 * y
 years-le y = total-le yearDays 366 year-le y
@@ -23,13 +23,13 @@ pub years-enough : (n : ℕ) → n < total yearDays (suc n)
 years-enough n = omega (arith, total-ge yearDays year-has-day (suc n))
 
 -- the year in which a day lies, and its number there
-pub year-found : (n : ℕ) → Found yearDays 0 n (place yearDays (suc n) 0 n)
+pub year-found : (n : ℕ) → Found yearDays 0 n (periodOf yearDays (suc n) 0 n)
 year-found n = found-first yearDays (suc n) n (years-enough n)
 
 -- the date of a day, from its year and its number there
-pub dated-by : (n y k : ℕ) → k < yearDays y → total yearDays y + k ≡ n → dateIn (record { run = y; left = k }) ≡ dateOf n
+pub dated-by : (n y k : ℕ) → k < yearDays y → total yearDays y + k ≡ n → dateWithin (record { number = y; left = k }) ≡ dateOf n
 unfolding dateOf
-dated-by n y k h e = sym (ap dateIn (placed yearDays (suc n) n y k (years-enough n) h e))
+dated-by n y k h e = sym (ap dateWithin (placed yearDays (suc n) n y k (years-enough n) h e))
 
 pub year-starts : (d : Date) → total yearDays (d .year) ≤ dayOf d
 year-starts d = omega arith
@@ -44,16 +44,16 @@ day-below d g = omega (arith, year-ends d g, years-le (d .year + 1))
 pub year-up-to : (n last : ℕ) → n < total yearDays (last + 1) → dateOf n .year ≤ last
 unfolding dateOf
 year-up-to n last h =
-    let p : Place = place yearDays (suc n) 0 n in
+    let p : Period = periodOf yearDays (suc n) 0 n in
     let q : Found yearDays 0 n p = year-found n in
-    let lt : p .run < last + 1 = below yearDays (p .run) (last + 1) (p .left) (omega (arith, q .same, total-zero yearDays)) in
+    let lt : p .number < last + 1 = below yearDays (p .number) (last + 1) (p .left) (omega (arith, q .same, total-zero yearDays)) in
     omega arith
 
 -- and the other way round
 pub days-up-to : (n last : ℕ) → dateOf n .year ≤ last → n < total yearDays (last + 1)
 unfolding dateOf
 days-up-to n last h =
-    let p : Place = place yearDays (suc n) 0 n in
+    let p : Period = periodOf yearDays (suc n) 0 n in
     let q : Found yearDays 0 n p = year-found n in
-    let g : total yearDays (p .run + 1) ≤ total yearDays (last + 1) = years-grow (p .run + 1) (last + 1) (omega arith) in
-    omega (arith, q .same, q .within, total-zero yearDays, years-next (p .run))
+    let g : total yearDays (p .number + 1) ≤ total yearDays (last + 1) = years-grow (p .number + 1) (last + 1) (omega arith) in
+    omega (arith, q .same, q .within, total-zero yearDays, years-next (p .number))

@@ -54,25 +54,25 @@ dayNumber y m d = total yearDays y + total (monthRow (leapRow y)) (m - 1) + (d -
 abbrev pub dayOf : Date → ℕ
 dayOf d = dayNumber (d .year) (d .month) (d .day)
 
--- Runs of f i, f (i + 1), .. days: the run in which the day numbered n lies, and its number there. At most `fuel` runs
+-- Periods of f i, f (i + 1), .. days: the period in which the day numbered n lies, and its number there. At most `fuel` periods
 -- are passed.
-pub record Place : Type 0 where
-  pub run : ℕ
+pub record Period : Type 0 where
+  pub number : ℕ
   pub left : ℕ
 
-unfoldable pub place : (ℕ → ℕ) → ℕ → ℕ → ℕ → Place
-place f zero i n = record { run = i; left = n }
-place f (suc fuel) i n = elim (ltb n (f i)) [ true ↦ record { run = i; left = n } | false ↦ place f fuel (suc i) (n - f i) ]
+unfoldable pub periodOf : (ℕ → ℕ) → ℕ → ℕ → ℕ → Period
+periodOf f zero i n = record { number = i; left = n }
+periodOf f (suc fuel) i n = elim (ltb n (f i)) [ true ↦ record { number = i; left = n } | false ↦ periodOf f fuel (suc i) (n - f i) ]
 
 -- the date of a day that is numbered within its year
-abbrev pub dateIn : Place → Date
-dateIn p =
-    let q : Place = place (monthRow (leapRow (p .run))) monthCount 0 (p .left) in
-    record { year = p .run; month = q .run + 1; day = q .left + 1 }
+abbrev pub dateWithin : Period → Date
+dateWithin p =
+    let q : Period = periodOf (monthRow (leapRow (p .number))) monthCount 0 (p .left) in
+    record { year = p .number; month = q .number + 1; day = q .left + 1 }
 
 -- the date of a day number; every year has a day, so that n + 1 years are enough
 unfoldable pub dateOf : ℕ → Date
-dateOf n = dateIn (place yearDays (suc n) 0 n)
+dateOf n = dateWithin (periodOf yearDays (suc n) 0 n)
 
 -- the date of a day number, or that its year is later than a last one
 unfoldable pub datedOf : ℕ → ℕ → Dated

@@ -2,7 +2,7 @@
 // and the date of a day number. Days are counted from 0000-01-01, so that no number here is below zero.
 ghost use mathlib.Core.Path.{_≡_};
 ghost use Prim.Native.Nat.{_+_, _-_, _≤_, _<_};
-ghost use Rattle.calendar.specs.Calendar.{leapRow, monthDays, monthRow, yearDays, monthCount, total, GoodDate, dayOf, dateIn, datedOf};
+ghost use Rattle.calendar.specs.Calendar.{leapRow, monthDays, monthRow, yearDays, monthCount, total, GoodDate, dayOf, dateWithin, datedOf};
 
 // A year has so many months.
 pub const MONTH_COUNT: usize = 12;
@@ -114,7 +114,7 @@ fn year_of(n: u64, last: u16) -> YearDay
 
 fn date_in(year: u16, n: u64) -> Date
     requires { ⌜ n < yearDays year ⌝ }
-    ensures { λ r. ⌜ r ≡ dateIn (record { run = year; left = n }) ⌝ }
+    ensures { λ r. ⌜ r ≡ dateWithin (record { number = year; left = n }) ⌝ }
 {
     let mut left = n;
     let mut m: u8 = 1;

@@ -8,8 +8,8 @@ use Rattle.value.specs.declared.Value.{Value}
 use Rattle.value.specs.declared.Refusal.{Refusal}
 use Rattle.value.specs.declared.Outcome.{Outcome}
 use Rattle.value.specs.declared.Outcome.the-variants as OV
-use Rattle.replies.specs.declared.Reply.{Reply}
-use Rattle.replies.specs.Replies.{replyOf}
+use Rattle.calls_replies.specs.declared.Reply.{Reply}
+use Rattle.calls_replies.specs.Replies.{replyOf}
 use Rattle.calls.specs.Answers.{refusedText, said}
 
 -- the words of an answer that is known by another name

@@ -6,26 +6,26 @@ use Prim.Native.Nat.{ℕ}
 use Rattle.basis.specs.Answer.{Answer, gives, refuses}
 use Rattle.basis.specs.Letters.{bytes}
 use Rattle.timetable.specs.Fields.{tab, fieldAt}
-use Rattle.components.specs.Components.{componentsOf}
+use Rattle.value_components.specs.Components.{componentsOf}
 use Rattle.value.specs.Refusals.{badCondition}
-use Rattle.instants.specs.Ticks.{utc}
+use Rattle.value_instants.specs.Ticks.{utc}
 use Rattle.value.specs.declared.Value.{Value}
 use Rattle.text.specs.Reading.{readAs}
 use Rattle.text.specs.Writing.{textOf}
-use Rattle.ordering.specs.Order.{Order, less, equal, greater, orderIn}
-use Rattle.arithmetic.specs.Sums.{plusOf, minusIn}
-use Rattle.arithmetic.specs.Products.{timesOf}
-use Rattle.casting.specs.Casts as casts
-use Rattle.adjusting.specs.Adjustment.{adjustOf, unzoneOf}
-use Rattle.replies.specs.Replies.{numberText}
-use Rattle.asking.specs.Asked.{hasMinus, magnitudeOf, formOf}
-use Rattle.replies.specs.Parts.{partsText}
-use Rattle.asking.specs.declared.One.{One}
-use Rattle.asking.specs.declared.One.the-variants as O
-use Rattle.asking.specs.declared.Two.{Two}
-use Rattle.asking.specs.declared.Two.the-variants as T
-use Rattle.asking.specs.declared.Form.{Form}
-use Rattle.asking.specs.declared.Form.the-variants as F
+use Rattle.operation_ordering.specs.Order.{Order, less, equal, greater, orderIn}
+use Rattle.operation_arithmetic.specs.Sums.{plusOf, minusIn}
+use Rattle.operation_arithmetic.specs.Products.{timesOf}
+use Rattle.operation_casting.specs.Casts as casts
+use Rattle.operation_adjusting.specs.Adjustment.{adjustOf, unzoneOf}
+use Rattle.calls_replies.specs.Replies.{numberText}
+use Rattle.calls_asked.specs.Asked.{hasMinus, wholeMagnitude, formOf}
+use Rattle.calls_replies.specs.ReplyParts.{partsText}
+use Rattle.calls_asked.specs.declared.One.{One}
+use Rattle.calls_asked.specs.declared.One.the-variants as O
+use Rattle.calls_asked.specs.declared.Two.{Two}
+use Rattle.calls_asked.specs.declared.Two.the-variants as T
+use Rattle.calls_asked.specs.declared.CallForm.{CallForm}
+use Rattle.calls_asked.specs.declared.CallForm.the-variants as F
 
 -- `refused`, a tab and the number
 unfoldable pub refusedText : ℕ → List ℕ
@@ -59,17 +59,17 @@ abbrev pub noCall : List ℕ
 noCall = refusedText badCondition
 
 -- "Input of over 65,536 bytes is answered with the one line `refused` 7 and nothing else."
-abbrev pub maxInput : ℕ
-maxInput = 65_536
+abbrev pub maxCallsInput : ℕ
+maxCallsInput = 65_536
 
-unfoldable pub textBy : List ℕ → Form → List ℕ
-textBy line F.No = noCall
-textBy line (F.OfOne o k) = said (oneText o) (readAs k (fieldAt line 3))
-textBy line (F.OfTwo o k l) = said (λ a. said (twoText o a) (readAs l (fieldAt line 5))) (readAs k (fieldAt line 3))
-textBy line (F.Product k) =
-    said (λ a. said textOf (timesOf a (hasMinus (fieldAt line 4)) (magnitudeOf (fieldAt line 4)))) (readAs k (fieldAt line 3))
-textBy line (F.Cast k l) = said (λ a. said textOf (casts.castOf a l)) (readAs k (fieldAt line 3))
+unfoldable pub answerBy : List ℕ → CallForm → List ℕ
+answerBy line F.No = noCall
+answerBy line (F.OfOne o k) = said (oneText o) (readAs k (fieldAt line 3))
+answerBy line (F.OfTwo o k l) = said (λ a. said (twoText o a) (readAs l (fieldAt line 5))) (readAs k (fieldAt line 3))
+answerBy line (F.Product k) =
+    said (λ a. said textOf (timesOf a (hasMinus (fieldAt line 4)) (wholeMagnitude (fieldAt line 4)))) (readAs k (fieldAt line 3))
+answerBy line (F.Cast k l) = said (λ a. said textOf (casts.castOf a l)) (readAs k (fieldAt line 3))
 
 -- a line without its byte 10, and the answer without its byte 10
 unfoldable pub answerOf : List ℕ → List ℕ
-answerOf line = textBy line (formOf line)
+answerOf line = answerBy line (formOf line)

@@ -1,24 +1,24 @@
 // The call on the values that were read, and what it answers in words.
-use asking::One;
-use asking::Two;
-use components::Components;
-use ordering::Compared;
-use replies::Reply;
-use replies::building::joined;
-use replies::building::nothing;
-use replies::building::with_text;
-use replies::numbers::with_number;
-use replies::parts;
+use calls_asked::One;
+use calls_asked::Two;
+use calls_replies::Reply;
+use calls_replies::building::joined;
+use calls_replies::building::nothing;
+use calls_replies::building::with_text;
+use calls_replies::numbers::with_number;
+use calls_replies::parts;
+use operation_ordering::Compared;
 use value::Outcome;
 use value::Refusal;
 use value::Value;
+use value_components::Components;
 ghost use mathlib.Core.Path.{_≡_};
 ghost use Rattle.text.specs.Writing.{textOf};
-ghost use Rattle.components.specs.Components as components;
+ghost use Rattle.value_components.specs.Components as components;
 ghost use Rattle.value.specs.Kinds as kinds;
-ghost use Rattle.ordering.specs.Order as order;
-ghost use Rattle.replies.specs.Replies.{replyOf};
-ghost use Rattle.replies.specs.Parts.{partsText};
+ghost use Rattle.operation_ordering.specs.Order as order;
+ghost use Rattle.calls_replies.specs.Replies.{replyOf};
+ghost use Rattle.calls_replies.specs.ReplyParts.{partsText};
 ghost use Rattle.calls.specs.Answers as the;
 
 pub fn refused(r: Refusal) -> Reply
@@ -44,7 +44,7 @@ pub fn value_said(a: Outcome) -> Reply
 }
 
 fn order_said(a: Compared) -> Reply
-    ensures { λ r. ⌜ r ≡ replyOf (the.said the.orderText (order.meaning a)) ⌝ }
+    ensures { λ r. ⌜ r ≡ replyOf (the.said the.orderText (order.comparedMeaning a)) ⌝ }
 {
     match a {
         Compared::Less => joined(nothing(), b"lt"),
@@ -55,7 +55,7 @@ fn order_said(a: Compared) -> Reply
 }
 
 fn components_said(a: Components) -> Reply
-    ensures { λ r. ⌜ r ≡ replyOf (the.said partsText (components.meaning a)) ⌝ }
+    ensures { λ r. ⌜ r ≡ replyOf (the.said partsText (components.componentsMeaning a)) ⌝ }
 {
     match a {
         Components::Date(d, z) => parts::of_date(d, z),
@@ -72,7 +72,7 @@ pub fn one_said(o: One, a: Value) -> Reply
     match o {
         One::Read => written(a),
         One::Unzone => value_said(operation::unzone(a)),
-        One::Components => components_said(components::of_value(a)),
+        One::Components => components_said(value_components::of_value(a)),
     }
 }
 

@@ -1,9 +1,9 @@
 // One library call as a line of text, and the text of its answer (docs/LINES.md, "The calculator").
-use asking::Form;
-use asking::One;
-use asking::Two;
-use asking::forms;
-use replies::Reply;
+use calls_asked::CallForm;
+use calls_asked::One;
+use calls_asked::Two;
+use calls_asked::forms;
+use calls_replies::Reply;
 use timetable::fields::field;
 use value::Kind;
 use value::Outcome;
@@ -11,9 +11,9 @@ use value::Refusal;
 ghost use mathlib.Core.Path.{_≡_};
 ghost use lib.Dec.{leb};
 ghost use lib.ListN.{length};
-ghost use Rattle.replies.specs.Replies.{replyOf};
+ghost use Rattle.calls_replies.specs.Replies.{replyOf};
 ghost use Rattle.calls.specs.Answers as the;
-ghost use Rattle.asking.specs.declared.Form.the-variants as F;
+ghost use Rattle.calls_asked.specs.declared.CallForm.the-variants as F;
 
 mod calling; // calling.rt: the call on the values that were read
 
@@ -21,7 +21,7 @@ mod calling; // calling.rt: the call on the values that were read
 pub const MAX_INPUT: usize = 65_536;
 
 fn one_call(line: &[u8], o: One, k: Kind) -> Reply
-    ensures { λ r. ⌜ r ≡ replyOf (the.textBy (now (line .entry)) (F.OfOne o k)) ⌝ }
+    ensures { λ r. ⌜ r ≡ replyOf (the.answerBy (now (line .entry)) (F.OfOne o k)) ⌝ }
 {
     match text::read(k, field(line, 3)) {
         Outcome::Refused(r) => calling::refused(r),
@@ -30,7 +30,7 @@ fn one_call(line: &[u8], o: One, k: Kind) -> Reply
 }
 
 fn two_call(line: &[u8], o: Two, left: Kind, right: Kind) -> Reply
-    ensures { λ r. ⌜ r ≡ replyOf (the.textBy (now (line .entry)) (F.OfTwo o left right)) ⌝ }
+    ensures { λ r. ⌜ r ≡ replyOf (the.answerBy (now (line .entry)) (F.OfTwo o left right)) ⌝ }
 {
     match text::read(left, field(line, 3)) {
         Outcome::Refused(r) => calling::refused(r),
@@ -42,7 +42,7 @@ fn two_call(line: &[u8], o: Two, left: Kind, right: Kind) -> Reply
 }
 
 fn product_call(line: &[u8], k: Kind) -> Reply
-    ensures { λ r. ⌜ r ≡ replyOf (the.textBy (now (line .entry)) (F.Product k)) ⌝ }
+    ensures { λ r. ⌜ r ≡ replyOf (the.answerBy (now (line .entry)) (F.Product k)) ⌝ }
 {
     match text::read(k, field(line, 3)) {
         Outcome::Refused(r) => calling::refused(r),
@@ -54,7 +54,7 @@ fn product_call(line: &[u8], k: Kind) -> Reply
 }
 
 fn cast_call(line: &[u8], k: Kind, l: Kind) -> Reply
-    ensures { λ r. ⌜ r ≡ replyOf (the.textBy (now (line .entry)) (F.Cast k l)) ⌝ }
+    ensures { λ r. ⌜ r ≡ replyOf (the.answerBy (now (line .entry)) (F.Cast k l)) ⌝ }
 {
     match text::read(k, field(line, 3)) {
         Outcome::Refused(r) => calling::refused(r),
@@ -64,7 +64,7 @@ fn cast_call(line: &[u8], k: Kind, l: Kind) -> Reply
 
 // Whether an input is short enough to be answered line by line.
 pub fn takes(input: &[u8]) -> bool
-    ensures { λ r. ⌜ r ≡ leb (length (now (input .entry))) the.maxInput ⌝ }
+    ensures { λ r. ⌜ r ≡ leb (length (now (input .entry))) the.maxCallsInput ⌝ }
 {
     input.len() <= MAX_INPUT
 }
@@ -83,10 +83,10 @@ pub fn answer(line: &[u8]) -> Reply
     ensures { λ r. ⌜ r ≡ replyOf (the.answerOf (now (line .entry))) ⌝ }
 {
     match forms::form(line) {
-        Form::No => no_call(),
-        Form::OfOne(o, k) => one_call(line, o, k),
-        Form::OfTwo(o, k, l) => two_call(line, o, k, l),
-        Form::Product(k) => product_call(line, k),
-        Form::Cast(k, l) => cast_call(line, k, l),
+        CallForm::No => no_call(),
+        CallForm::OfOne(o, k) => one_call(line, o, k),
+        CallForm::OfTwo(o, k, l) => two_call(line, o, k, l),
+        CallForm::Product(k) => product_call(line, k),
+        CallForm::Cast(k, l) => cast_call(line, k, l),
     }
 }

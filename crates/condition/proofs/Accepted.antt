@@ -11,12 +11,12 @@ use Rattle.basis.specs.Choice.{pick, both}
 use Rattle.basis.specs.Answer.{Answer, gives, refuses}
 use Rattle.basis.proofs.Tests.{both-left, both-right}
 use Rattle.value.specs.Refusals.{badCondition, tooDeep}
-use Rattle.depth.specs.Depth.{deep}
-use Rattle.sorts.specs.declared.Sort.{Sort}
-use Rattle.sorts.specs.declared.Sort.the-variants as S
-use Rattle.grammar.specs.Grammar.{Parsed, none, got}
-use Rattle.grammar.specs.Trees.{Tree, parse}
-use Rattle.reading.specs.Meaning.{sortOf, first, firstBad}
+use Rattle.condition_depth.specs.Depth.{deep}
+use Rattle.condition_sorts.specs.declared.Sort.{Sort}
+use Rattle.condition_sorts.specs.declared.Sort.the-variants as S
+use Rattle.condition_grammar.specs.Grammar.{Parsed, none, got}
+use Rattle.condition_grammar.specs.Trees.{Tree, parse}
+use Rattle.condition_readers.specs.Meaning.{sortOf, first, firstBad}
 use Rattle.condition.specs.Condition.{checkOf, byKinds, byTree, passes, accepted, minLength, maxLength}
 
 passes-gives : (a : Answer (Unit {0})) → passes a ≡ true → a ≡ gives tt

@@ -9,21 +9,21 @@ use borrow.Author.Tests.{le-leb}
 use Rattle.basis.specs.Choice.{both}
 use Rattle.basis.specs.Answer.{Answer, gives, refuses}
 use Rattle.value.specs.Refusals.{badCondition}
-use Rattle.depth.specs.Depth.{deep}
+use Rattle.condition_depth.specs.Depth.{deep}
 use Rattle.text.specs.Reading.{readAs}
-use Rattle.words.specs.Runs.{between}
-use Rattle.sorts.specs.declared.Sort.{Sort}
-use Rattle.sorts.specs.declared.Sort.the-variants as S
-use Rattle.results.specs.Numbers.{ofText}
-use Rattle.results.proofs.Numbers.{Only, read-only}
-use Rattle.grammar.specs.Grammar.{Parsed, none, got}
-use Rattle.grammar.specs.Trees.{Tree, leaf, one, two, literal, field, parse}
-use Rattle.grammar.specs.Productions.{States}
-use Rattle.grammar.proofs.Derived.{parsed-is-stated}
-use Rattle.grammar.proofs.Derivations.{stated-is-parsed}
-use Rattle.reading.specs.Meaning.{sortOf, fits, first, firstBad, eval}
-use Rattle.reading.proofs.Wholes.{good-length}
-use Rattle.condition.specs.Condition.{minLength, maxLength, byKinds, byTree, checkOf, shown, ofTree, resultAt}
+use Rattle.condition_words.specs.Words.{between}
+use Rattle.condition_sorts.specs.declared.Sort.{Sort}
+use Rattle.condition_sorts.specs.declared.Sort.the-variants as S
+use Rattle.condition_parts.specs.Numbers.{ofText}
+use Rattle.condition_parts.proofs.Numbers.{Only, read-only}
+use Rattle.condition_grammar.specs.Grammar.{Parsed, none, got}
+use Rattle.condition_grammar.specs.Trees.{Tree, leaf, one, two, literal, field, parse}
+use Rattle.condition_grammar.specs.Productions.{States}
+use Rattle.condition_grammar.proofs.Derived.{parsed-is-stated}
+use Rattle.condition_grammar.proofs.Derivations.{stated-is-parsed}
+use Rattle.condition_readers.specs.Meaning.{sortOf, fits, first, firstBad, eval}
+use Rattle.condition_readers.proofs.Wholes.{good-length}
+use Rattle.condition.specs.Condition.{minLength, maxLength, byKinds, byTree, checkOf, asResult, ofTree, resultAt}
 use Rattle.condition.specs.Laws.{GrammarDecides, AcceptedByTree}
 use Rattle.condition.proofs.Accepted.{accepted-length, accepted-stated}
 
@@ -63,7 +63,7 @@ no-seven (gives x) n e = let z : _≡_ {A = ℕ} 0 1 = cc in omega arith
 no-seven (refuses m) n e = n (cc e)
 
 module _ (s : List ℕ) (k : length s ≤ maxLength) where
-  result-of : (line : List ℕ) (t : Tree) (n : ℕ) → parse s ≡ got t n → resultAt s line ≡ shown (eval s line t)
+  result-of : (line : List ℕ) (t : Tree) (n : ℕ) → parse s ≡ got t n → resultAt s line ≡ asResult (eval s line t)
   unfolding resultAt ofTree
   result-of line t n e = rw (good-length s k, e)
 

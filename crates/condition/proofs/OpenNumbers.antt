@@ -10,15 +10,15 @@ use Rattle.basis.specs.Choice.{pick, both}
 use Rattle.basis.specs.Answer.{Answer, gives, refuses}
 use Rattle.value.specs.Refusals.{badCondition, tooDeep}
 use Rattle.text.specs.Reading.{readAs}
-use Rattle.words.specs.Runs.{between}
-use Rattle.depth.specs.Depth.{deep}
-use Rattle.results.specs.Numbers.{ofText}
-use Rattle.sorts.specs.declared.Sort.{Sort}
-use Rattle.sorts.specs.declared.Sort.the-variants as S
-use Rattle.results.proofs.Numbers.{Only, read-only}
-use Rattle.grammar.specs.Grammar.{Parsed, none, got}
-use Rattle.grammar.specs.Trees.{Tree, leaf, one, two, literal, field, parse}
-use Rattle.reading.specs.Meaning.{sortOf, fits, first, firstBad}
+use Rattle.condition_words.specs.Words.{between}
+use Rattle.condition_depth.specs.Depth.{deep}
+use Rattle.condition_parts.specs.Numbers.{ofText}
+use Rattle.condition_sorts.specs.declared.Sort.{Sort}
+use Rattle.condition_sorts.specs.declared.Sort.the-variants as S
+use Rattle.condition_parts.proofs.Numbers.{Only, read-only}
+use Rattle.condition_grammar.specs.Grammar.{Parsed, none, got}
+use Rattle.condition_grammar.specs.Trees.{Tree, leaf, one, two, literal, field, parse}
+use Rattle.condition_readers.specs.Meaning.{sortOf, fits, first, firstBad}
 use Rattle.condition.specs.Condition.{checkOf, byKinds, byTree, minLength, maxLength}
 use Rattle.condition.specs.Laws.{atOpen, OpenNumbers}
 

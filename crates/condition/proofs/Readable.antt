@@ -9,43 +9,43 @@ use Rattle.basis.specs.Choice.{pick}
 use Rattle.basis.specs.Answer.{Answer, gives, refuses}
 use Rattle.value.specs.Refusals.{noField, wrongKind}
 use Rattle.value.specs.Kinds.{kindOf, okValue}
-use Rattle.instants.specs.Ticks.{utc}
+use Rattle.value_instants.specs.Ticks.{utc}
 use Rattle.value.specs.declared.Kind.{Kind}
 use Rattle.value.specs.declared.Kind.the-variants as K
 use Rattle.value.specs.declared.Value.{Value}
 use Rattle.timetable.specs.Fields.{hasField, fieldAt}
-use Rattle.layouts.proofs.Valid.{Valid}
+use Rattle.text_layouts.proofs.Valid.{Valid}
 use Rattle.text.specs.Reading.{readAs}
 use Rattle.text.proofs.RoundTrip.{what-reads-is-valid}
-use Rattle.quantities.specs.Operands.{sameKind}
-use Rattle.ordering.specs.Order.{Order, orderIn}
-use Rattle.arithmetic.specs.Sums.{plusOf, minusIn}
-use Rattle.arithmetic.specs.Products.{timesOf}
-use Rattle.casting.specs.Casts.{castsTo, castOf}
-use Rattle.arithmetic.proofs.Validity.{plus-within, minus-within, times-within}
+use Rattle.operation_quantities.specs.Operands.{sameKind}
+use Rattle.operation_ordering.specs.Order.{Order, orderIn}
+use Rattle.operation_arithmetic.specs.Sums.{plusOf, minusIn}
+use Rattle.operation_arithmetic.specs.Products.{timesOf}
+use Rattle.operation_casting.specs.Casts.{castsTo, castOf}
+use Rattle.operation_arithmetic.proofs.Validity.{plus-within, minus-within, times-within}
 use Rattle.operation.proofs.Validity.{cast-within}
-use Rattle.words.specs.Runs.{between}
-use Rattle.symbols.specs.declared.Op.{Op}
-use Rattle.operators.specs.Roles.{roleOf, joins, settles}
-use Rattle.operators.specs.declared.Role.{Role}
-use Rattle.operators.specs.declared.Role.the-variants as R
-use Rattle.sorts.specs.Sorts.{comparedKinds, addedKinds, lessKinds, kindsOf, sortTwo, sortCast, sortTimes}
-use Rattle.givens.specs.Data.{Datum, value, truth, valued, readField}
-use Rattle.results.specs.Evaluation.{tested, ofValues, applied, onto, joined, castDatum, timesDatum}
-use Rattle.sorts.specs.declared.Sort.{Sort}
-use Rattle.sorts.specs.declared.Sort.the-variants as S
-use Rattle.results.specs.Numbers.{atLine}
-use Rattle.results.proofs.Numbers.{Only, read-only, text-at-line}
-use Rattle.results.proofs.Settled.{Fits, FitsSort, plus-settled, minus-settled, order-settled, times-settled, cast-settled}
-use Rattle.grammar.specs.Grammar.{Parsed, none, got}
-use Rattle.grammar.specs.Trees.{Tree, leaf, one, two, literal, field, cast, times, parse}
-use Rattle.reading.specs.Meaning.{sortOf, eval}
-use Rattle.condition.specs.Condition.{shown, ofTree, resultAt}
+use Rattle.condition_words.specs.Words.{between}
+use Rattle.condition_symbols.specs.declared.Op.{Op}
+use Rattle.condition_operators.specs.Roles.{roleOf, joins, settles}
+use Rattle.condition_operators.specs.declared.Role.{Role}
+use Rattle.condition_operators.specs.declared.Role.the-variants as R
+use Rattle.condition_sorts.specs.Sorts.{comparedKinds, addedKinds, lessKinds, kindsOf, sortTwo, sortCast, sortTimes}
+use Rattle.condition_givens.specs.Data.{Datum, value, truth, valued, readField}
+use Rattle.condition_parts.specs.Evaluation.{tested, ofValues, applied, chained, joined, castDatum, timesDatum}
+use Rattle.condition_sorts.specs.declared.Sort.{Sort}
+use Rattle.condition_sorts.specs.declared.Sort.the-variants as S
+use Rattle.condition_parts.specs.Numbers.{atLine}
+use Rattle.condition_parts.proofs.Numbers.{Only, read-only, text-at-line}
+use Rattle.condition_parts.proofs.Settled.{Fits, FitsSort, plus-settled, minus-settled, order-settled, times-settled, cast-settled}
+use Rattle.condition_grammar.specs.Grammar.{Parsed, none, got}
+use Rattle.condition_grammar.specs.Trees.{Tree, leaf, one, two, literal, field, cast, times, parse}
+use Rattle.condition_readers.specs.Meaning.{sortOf, eval}
+use Rattle.condition.specs.Condition.{asResult, ofTree, resultAt}
 pub use Rattle.condition.specs.Laws.{Readable}
 use Rattle.condition.specs.Laws.{AcceptedReadable}
 use Rattle.condition.proofs.Accepted.{Stated, accepted-length, accepted-stated}
-use Rattle.grammar.proofs.Keeps.{All, Bounded, parse-bounded}
-use Rattle.reading.proofs.Wholes.{good-length}
+use Rattle.condition_grammar.proofs.Keeps.{All, Bounded, parse-bounded}
+use Rattle.condition_readers.proofs.Wholes.{good-length}
 
 -- what a part of a sort may give
 abbrev Typed : Sort → Answer Datum → Type 0
@@ -93,14 +93,14 @@ cast-value k v p n = by (castsTo (kindOf v) k) refl n
     by true e m = fits-typed k (castOf v k) (cast-settled v p k e) (cast-within v k)
     by false e m = absurd (m refl)
 
-cast-typed : (k : Kind) (x : Sort) (a : Answer Datum) → (sortCast k x ≡ S.Clash → ⊥) → Typed x a → Typed (sortCast k x) (onto a (castDatum k))
-unfolding onto
+cast-typed : (k : Kind) (x : Sort) (a : Answer Datum) → (sortCast k x ≡ S.Clash → ⊥) → Typed x a → Typed (sortCast k x) (chained a (castDatum k))
+unfolding chained
 cast-typed k x (gives (value v)) n h = subst (λ y. (sortCast k y ≡ S.Clash → ⊥) → Typed (sortCast k y) (valued (castOf v k))) (sym (h .0)) (cast-value k v (h .1)) n
 cast-typed k x (gives (truth b)) n h = absurd (n (ap (sortCast k) h))
 cast-typed k x (refuses m) n h = h
 
-times-typed : (b : Bool) (v : ℕ) (x : Sort) (a : Answer Datum) → v < 1000000 → (sortTimes x ≡ S.Clash → ⊥) → Typed x a → Typed (sortTimes x) (onto a (timesDatum b v))
-unfolding onto
+times-typed : (b : Bool) (v : ℕ) (x : Sort) (a : Answer Datum) → v < 1000000 → (sortTimes x ≡ S.Clash → ⊥) → Typed x a → Typed (sortTimes x) (chained a (timesDatum b v))
+unfolding chained
 times-typed b v x (gives (value u)) l n h = subst (λ y. (sortTimes y ≡ S.Clash → ⊥) → Typed (sortTimes y) (valued (timesOf u b v))) (sym (h .0))
     (λ m. sort-typed (sortTimes (S.Of (kindOf u))) (timesOf u b v) m (times-settled u (h .1) b v (omega arith)) (times-within u b v)) n
 times-typed b v x (gives (truth c)) l n h = absurd (n (ap sortTimes h))
@@ -146,31 +146,31 @@ joined-truths o z u y e n = subst (λ y. (sortTwo o S.Truth y ≡ S.Clash → �
     by true m = refl
     by false m = absurd (m refl)
 
-after-truth : (o : Op) (z : Bool) (y : Sort) (b : Answer Datum) → (sortTwo o S.Truth y ≡ S.Clash → ⊥) → Typed y b → Typed (sortTwo o S.Truth y) (onto b (applied (roleOf o) (truth z)))
-unfolding onto
+after-truth : (o : Op) (z : Bool) (y : Sort) (b : Answer Datum) → (sortTwo o S.Truth y ≡ S.Clash → ⊥) → Typed y b → Typed (sortTwo o S.Truth y) (chained b (applied (roleOf o) (truth z)))
+unfolding chained
 after-truth o z y (gives (value w)) n h = absurd (n (ap (sortTwo o S.Truth) (h .0)))
 after-truth o z y (gives (truth u)) n h = joined-truths o z u y h n
 after-truth o z y (refuses m) n h = h
 
 settled-typed : (o : Op) (z : Bool) (y : Sort) (b : Answer Datum) (c : Bool) → (sortTwo o S.Truth y ≡ S.Clash → ⊥) → Typed y b →
-    Typed (sortTwo o S.Truth y) (pick c (gives (truth z)) (onto b (applied (roleOf o) (truth z))))
+    Typed (sortTwo o S.Truth y) (pick c (gives (truth z)) (chained b (applied (roleOf o) (truth z))))
 settled-typed o z y b true n h = truth-left o y n
 settled-typed o z y b false n h = after-truth o z y b n h
 
 after-value : (o : Op) (v : Value) (y : Sort) (b : Answer Datum) → okValue v ≡ true → (sortTwo o (S.Of (kindOf v)) y ≡ S.Clash → ⊥) → Typed y b →
-    Typed (sortTwo o (S.Of (kindOf v)) y) (onto b (applied (roleOf o) (value v)))
-unfolding onto
+    Typed (sortTwo o (S.Of (kindOf v)) y) (chained b (applied (roleOf o) (value v)))
+unfolding chained
 after-value o v y (gives (value w)) p n h =
     subst (λ y. (sortTwo o (S.Of (kindOf v)) y ≡ S.Clash → ⊥) → Typed (sortTwo o (S.Of (kindOf v)) y) (ofValues (roleOf o) v w)) (sym (h .0)) (λ m. values-typed (roleOf o) v w p (h .1) m) n
 after-value o v y (gives (truth u)) p n h = absurd (n (ap (sortTwo o (S.Of (kindOf v))) h))
 after-value o v y (refuses m) p n h = h
 
 two-typed : (o : Op) (x y : Sort) (a b : Answer Datum) → (sortTwo o x y ≡ S.Clash → ⊥) → Typed x a → Typed y b → Typed (sortTwo o x y) (joined o a b)
-unfolding joined onto
+unfolding joined chained
 two-typed o x y (gives (value v)) b n h i =
-    subst (λ x. (sortTwo o x y ≡ S.Clash → ⊥) → Typed (sortTwo o x y) (onto b (applied (roleOf o) (value v)))) (sym (h .0)) (λ m. after-value o v y b (h .1) m i) n
+    subst (λ x. (sortTwo o x y ≡ S.Clash → ⊥) → Typed (sortTwo o x y) (chained b (applied (roleOf o) (value v)))) (sym (h .0)) (λ m. after-value o v y b (h .1) m i) n
 two-typed o x y (gives (truth z)) b n h i =
-    subst (λ x. (sortTwo o x y ≡ S.Clash → ⊥) → Typed (sortTwo o x y) (pick (settles (roleOf o) z) (gives (truth z)) (onto b (applied (roleOf o) (truth z))))) (sym h)
+    subst (λ x. (sortTwo o x y ≡ S.Clash → ⊥) → Typed (sortTwo o x y) (pick (settles (roleOf o) z) (gives (truth z)) (chained b (applied (roleOf o) (truth z))))) (sym h)
     (λ m. settled-typed o z y b (settles (roleOf o) z) m i) n
 two-typed o x y (refuses m) b n h i = h
 
@@ -185,8 +185,8 @@ tree-typed s line (two o b p l r) g n = two-typed o (sortOf l) (sortOf r) (eval 
     (tree-typed s line l (g .0) (λ e. n (ap (λ x. sortTwo o x (sortOf r)) e)))
     (tree-typed s line r (g .1) (λ e. n (ap (sortTwo o (sortOf l)) e ∙ right-clash o (sortOf l))))
 
-shown-readable : (a : Answer Datum) → Typed S.Truth a → Readable (shown a)
-unfolding shown
+shown-readable : (a : Answer Datum) → Typed S.Truth a → Readable (asResult a)
+unfolding asResult
 shown-readable (gives (value v)) h = differ (kindOf v) (h .0)
 shown-readable (gives (truth true)) h = tt
 shown-readable (gives (truth false)) h = tt

@@ -10,26 +10,26 @@ use Rattle.basis.specs.Choice.{pick, both}
 use Rattle.basis.specs.Answer.{Answer, gives, refuses}
 use Rattle.value.specs.Refusals.{badCondition, tooDeep, wrongKind}
 use Rattle.value.specs.declared.Refusal.{Refusal}
-use Rattle.depth.specs.Depth.{deep}
-use Rattle.givens.specs.Data.{Datum, value, truth}
-use Rattle.givens.specs.Carried.{givenOf, badOf}
-use Rattle.sorts.specs.declared.Sort.{Sort}
-use Rattle.sorts.specs.declared.Sort.the-variants as S
-use Rattle.givens.specs.declared.Given.{Given}
-use Rattle.givens.specs.declared.Given.the-variants as G
+use Rattle.condition_depth.specs.Depth.{deep}
+use Rattle.condition_givens.specs.Data.{Datum, value, truth}
+use Rattle.condition_givens.specs.Carried.{givenOf, badOf}
+use Rattle.condition_sorts.specs.declared.Sort.{Sort}
+use Rattle.condition_sorts.specs.declared.Sort.the-variants as S
+use Rattle.condition_givens.specs.declared.Given.{Given}
+use Rattle.condition_givens.specs.declared.Given.the-variants as G
 use Rattle.value.specs.declared.Kind.{Kind}
 use Rattle.value.specs.declared.Value.{Value}
-use Rattle.results.specs.declared.Part.{Part}
-use Rattle.givens.specs.declared.Mode.the-variants.{Check, Live}
-use Rattle.grammar.specs.Grammar.{Parsed, none, got}
-use Rattle.grammar.specs.Trees.{Tree, parse}
-use Rattle.reading.specs.Meaning.{sortOf, first, firstBad, eval}
-use Rattle.reading.specs.Lengths.{parseWithin}
-use Rattle.reading.specs.Carried.{givenIn, partOf, readOf}
-use Rattle.reading.specs.declared.Read.{Read}
-use Rattle.reading.specs.declared.Read.the-variants.{Bad, Got}
-use Rattle.reading.proofs.Wholes.{no-part, good-length}
-use Rattle.condition.specs.Condition.{minLength, maxLength, checkOf, byKinds, byTree, checked, Result, hit, miss, unreadable, shown, ofTree, ifAccepted, resultAt, resultOf}
+use Rattle.condition_parts.specs.declared.Part.{Part}
+use Rattle.condition_givens.specs.declared.Mode.the-variants.{Check, Live}
+use Rattle.condition_grammar.specs.Grammar.{Parsed, none, got}
+use Rattle.condition_grammar.specs.Trees.{Tree, parse}
+use Rattle.condition_readers.specs.Meaning.{sortOf, first, firstBad, eval}
+use Rattle.condition_readers.specs.Lengths.{parseWithin}
+use Rattle.condition_readers.specs.Carried.{givenIn, partOf, readOf}
+use Rattle.condition_readers.specs.declared.Read.{Read}
+use Rattle.condition_readers.specs.declared.Read.the-variants.{Bad, Got}
+use Rattle.condition_readers.proofs.Wholes.{no-part, good-length}
+use Rattle.condition.specs.Condition.{minLength, maxLength, checkOf, byKinds, byTree, checked, Result, hit, miss, unreadable, asResult, ofTree, ifAccepted, resultAt, resultOf}
 use Rattle.condition.specs.Carried.{literals, resulting}
 use Rattle.condition.specs.declared.Checked.{Checked}
 use Rattle.condition.specs.declared.Checked.the-variants as C
@@ -40,8 +40,8 @@ unfolding literals
 literals-bad (gives tt) = refl
 literals-bad (refuses n) = refl
 
-shown-live : (a : Answer Datum) → resulting (givenOf a) ≡ shown a
-unfolding resulting shown
+shown-live : (a : Answer Datum) → resulting (givenOf a) ≡ asResult a
+unfolding resulting asResult
 shown-live (gives (value v)) = refl
 shown-live (gives (truth x)) = refl
 shown-live (refuses n) = refl

@@ -3,8 +3,8 @@
 use Rattle.basis.specs.Choice.{pick}
 use Rattle.basis.specs.Answer.{Answer, gives, refuses}
 use Rattle.value.specs.Refusals.{wrongKind}
-use Rattle.givens.specs.declared.Given.{Given}
-use Rattle.givens.specs.declared.Given.the-variants.{Nothing, Is, Truth, Refused}
+use Rattle.condition_givens.specs.declared.Given.{Given}
+use Rattle.condition_givens.specs.declared.Given.the-variants.{Nothing, Is, Truth, Refused}
 use Rattle.condition.specs.Condition.{Result, hit, miss, unreadable}
 
 unfoldable pub literals : Given → Answer (Unit {0})

@@ -1,5 +1,5 @@
 -- Document 01, "Conditions" and "Refusal numbers": which texts Open accepts, "7 by length, 8, 7 by grammar, 9, the leftmost
--- bad literal's own number", and the result of a condition at a line. `parse` gives the tree that the productions of crate grammar
+-- bad literal's own number", and the result of a condition at a line. `parse` gives the tree that the productions of crate condition_grammar
 -- derive (Laws.antt).
 use Prim.Native.Nat.{ℕ}
 use mathlib.Core.Bool.{Bool, true, false}
@@ -9,15 +9,15 @@ use lib.Dec.{leb}
 use Rattle.basis.specs.Choice.{pick, both}
 use Rattle.basis.specs.Answer.{Answer, gives, refuses}
 use Rattle.value.specs.Refusals.{badCondition, tooDeep, wrongKind}
-use Rattle.depth.specs.Depth.{deep}
-use Rattle.givens.specs.Data.{Datum, value, truth}
-use Rattle.sorts.specs.declared.Sort.{Sort}
-use Rattle.sorts.specs.declared.Sort.the-variants as S
-use Rattle.grammar.specs.Grammar.{Parsed, none, got}
-use Rattle.grammar.specs.Trees.{Tree, parse}
-use Rattle.reading.specs.Lengths.{parseWithin}
-pub use Rattle.reading.specs.Lengths.{minLength, maxLength}
-use Rattle.reading.specs.Meaning.{sortOf, first, firstBad, eval}
+use Rattle.condition_depth.specs.Depth.{deep}
+use Rattle.condition_givens.specs.Data.{Datum, value, truth}
+use Rattle.condition_sorts.specs.declared.Sort.{Sort}
+use Rattle.condition_sorts.specs.declared.Sort.the-variants as S
+use Rattle.condition_grammar.specs.Grammar.{Parsed, none, got}
+use Rattle.condition_grammar.specs.Trees.{Tree, parse}
+use Rattle.condition_readers.specs.Lengths.{parseWithin}
+pub use Rattle.condition_readers.specs.Lengths.{minLength, maxLength}
+use Rattle.condition_readers.specs.Meaning.{sortOf, first, firstBad, eval}
 use Rattle.condition.specs.declared.Checked.{Checked}
 use Rattle.condition.specs.declared.Checked.the-variants as C
 use Rattle.condition.specs.declared.Judged.{Judged}
@@ -59,14 +59,14 @@ pub data Result : Type 0 where
   unreadable : ℕ → Result
 
 -- "A refusal in an evaluated part is the line's result." No accepted condition gives a value.
-unfoldable pub shown : Answer Datum → Result
-shown (gives (value v)) = unreadable wrongKind
-shown (gives (truth x)) = pick x hit miss
-shown (refuses n) = unreadable n
+unfoldable pub asResult : Answer Datum → Result
+asResult (gives (value v)) = unreadable wrongKind
+asResult (gives (truth x)) = pick x hit miss
+asResult (refuses n) = unreadable n
 
 unfoldable pub ofTree : List ℕ → List ℕ → Parsed Tree → Result
 ofTree s line none = unreadable badCondition
-ofTree s line (got t n) = shown (eval s line t)
+ofTree s line (got t n) = asResult (eval s line t)
 
 -- the result of a condition at a line; Unreadable with 7 of a text that is none by its length, depth or grammar, which Open does not
 -- accept

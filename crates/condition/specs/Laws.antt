@@ -10,21 +10,21 @@ use Rattle.basis.specs.Choice.{pick}
 use Rattle.basis.specs.Answer.{gives, refuses}
 use Rattle.basis.specs.Exactly.{Exactly}
 use Rattle.value.specs.Refusals.{badCondition, tooDeep, wrongKind}
-use Rattle.depth.specs.Depth.{deep}
-use Rattle.sorts.specs.declared.Sort.the-variants as S
-use Rattle.grammar.specs.Trees.{Tree}
-use Rattle.grammar.specs.Productions.{States}
-use Rattle.reading.specs.Meaning.{sortOf, first, firstBad, eval}
+use Rattle.condition_depth.specs.Depth.{deep}
+use Rattle.condition_sorts.specs.declared.Sort.the-variants as S
+use Rattle.condition_grammar.specs.Trees.{Tree}
+use Rattle.condition_grammar.specs.Productions.{States}
+use Rattle.condition_readers.specs.Meaning.{sortOf, first, firstBad, eval}
 use Rattle.timetable.specs.Fields.{fieldsOf}
-use Rattle.results.specs.Numbers.{ofText, atLine}
-use Rattle.condition.specs.Condition.{minLength, maxLength, byKinds, checkOf, accepted, Result, hit, miss, unreadable, shown, resultAt}
+use Rattle.condition_parts.specs.Numbers.{ofText, atLine}
+use Rattle.condition.specs.Condition.{minLength, maxLength, byKinds, checkOf, accepted, Result, hit, miss, unreadable, asResult, resultAt}
 
 -- of a text of good length that is not too deep, the productions decide: 7 is given exactly where no tree is derived; else Open's checks
 -- and the result at every line are those of the tree that is (there is one at most); proved as `grammar-decides`
 pub record ByGrammar (s : List ℕ) : Type 0 where
   pub seven-without-tree : Exactly (checkOf s ≡ refuses badCondition) ((t : Tree) → States s t → ⊥)
   pub checked-by-tree : (t : Tree) → States s t → checkOf s ≡ first (byKinds (sortOf t)) (firstBad s t)
-  pub result-by-tree : (t : Tree) → States s t → (line : List ℕ) → resultAt s line ≡ shown (eval s line t)
+  pub result-by-tree : (t : Tree) → States s t → (line : List ℕ) → resultAt s line ≡ asResult (eval s line t)
 
 abbrev pub GrammarDecides : Type 0
 GrammarDecides = (s : List ℕ) → minLength ≤ length s → length s ≤ maxLength → deep s ≡ false → ByGrammar s
@@ -36,7 +36,7 @@ pub record AcceptedTree (s : List ℕ) : Type 0 where
   pub stated : States s tree
   pub is-truth : sortOf tree ≡ S.Truth
   pub reads : firstBad s tree ≡ gives tt
-  pub results : (line : List ℕ) → resultAt s line ≡ shown (eval s line tree)
+  pub results : (line : List ℕ) → resultAt s line ≡ asResult (eval s line tree)
 
 abbrev pub AcceptedByTree : Type 0
 AcceptedByTree = (s : List ℕ) → accepted s ≡ true → AcceptedTree s

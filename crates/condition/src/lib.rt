@@ -1,14 +1,14 @@
 // Conditions: which texts are accepted, and the result of a condition at a line (document 01, "Conditions").
-use depth::too_deep;
-use givens::Given;
-use givens::Mode;
-use reading::Read;
-use results::Part;
-use sorts::Sort;
+use condition_depth::too_deep;
+use condition_givens::Given;
+use condition_givens::Mode;
+use condition_parts::Part;
+use condition_readers::Read;
+use condition_sorts::Sort;
 use value::Refusal;
 ghost use mathlib.Core.Path.{_≡_};
 ghost use Rattle.basis.specs.Answer.{gives, refuses};
-ghost use Rattle.reading.specs.Meaning as meaning;
+ghost use Rattle.condition_readers.specs.Meaning as meaning;
 ghost use Rattle.condition.specs.Condition.{checked, checkOf, resultAt, resultOf, judged, byKinds};
 ghost use Rattle.condition.specs.Carried as the;
 
@@ -29,7 +29,7 @@ pub enum Judged {
 // The least and the greatest length of a condition's text.
 const MIN_LENGTH: usize = 1;
 
-pub const MAX_LENGTH: usize = reading::MAX_LENGTH;
+pub const MAX_LENGTH: usize = condition_readers::MAX_LENGTH;
 
 fn refused(number: u8) -> Checked
     ensures { λ r. ⌜ checked r ≡ refuses number ⌝ }
@@ -94,7 +94,7 @@ pub fn check(text: &[u8]) -> Checked
     if too_deep(text) {
         return refused(Refusal::TOO_DEEP);
     }
-    match reading::whole(text, text, Mode::Check) {
+    match condition_readers::whole(text, text, Mode::Check) {
         Read::Bad => refused(Refusal::BAD_CONDITION),
         Read::Got(part, _) => check_part(part),
     }
@@ -126,7 +126,7 @@ fn judged_of(given: Given) -> Judged
 pub fn judge(text: &[u8], line: &[u8]) -> Judged
     ensures { λ r. ⌜ judged r ≡ gives (resultAt (now (text .entry)) (now (line .entry))) ⌝ }
 {
-    match reading::whole(text, line, Mode::Live) {
+    match condition_readers::whole(text, line, Mode::Live) {
         Read::Bad => Judged::Unreadable(Refusal {
             number: Refusal::BAD_CONDITION,
         }),

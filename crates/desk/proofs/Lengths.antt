@@ -3,7 +3,7 @@ use mathlib.Core.Path.{_≡_}
 use mathlib.Core.Bool.{true, false}
 use borrow.Author.Tests.{eq-eqb, ne-eqb, eqb-true, eqb-false}
 use lib.ListN.{length}
-use Rattle.seat.specs.Files.{Files}
+use Rattle.desk_seat.specs.Files.{Files}
 use Rattle.desk.specs.Desk.{haveLengths}
 use Rattle.desk.specs.declared.Desk.{Desk}
 

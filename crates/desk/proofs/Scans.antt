@@ -1,4 +1,4 @@
--- `first` and `all` along a loop that counts up, and what they tell: what is found passes the test, nothing before it does.
+-- `firstPassing` and `all` along a loop that counts up, and what they tell: what is found passes the test, nothing before it does.
 use mathlib.Core.Path.{_≡_, refl, sym, ap, _∙_, subst}
 use mathlib.Core.Bool.{Bool, true, false, true≢false, Bool·beq}
 use mathlib.Core.Logic.{⊎-elim}
@@ -8,7 +8,7 @@ use native.Mathlib.Numerals.{add-one}
 use native.Mathlib.Omega.{arith}
 use Rattle.basis.specs.Choice.{pick, both}
 use Rattle.basis.proofs.Tests.{both-left, both-right, both-true}
-use Rattle.desk.specs.Scan.{first, all}
+use Rattle.desk.specs.Scan.{firstPassing, all}
 
 pub beq-true : (b : Bool) → Bool·beq b true ≡ true → b ≡ true
 beq-true true h = h
@@ -27,58 +27,58 @@ beq-neither true h = h
 beq-neither false h = refl
 
 -- ---- first, along a loop that counts j up to e
-hit-at : (p : ℕ → Bool) (i n k : ℕ) → n ≡ suc k → p i ≡ true → first p i n ≡ i
-unfolding first
+hit-at : (p : ℕ → Bool) (i n k : ℕ) → n ≡ suc k → p i ≡ true → firstPassing p i n ≡ i
+unfolding firstPassing
 hit-at p i n k e h = rw (e, h)
 
-miss-at : (p : ℕ → Bool) (i n k : ℕ) → n ≡ suc k → p i ≡ false → first p i n ≡ first p (suc i) k
-unfolding first
+miss-at : (p : ℕ → Bool) (i n k : ℕ) → n ≡ suc k → p i ≡ false → firstPassing p i n ≡ firstPassing p (suc i) k
+unfolding firstPassing
 miss-at p i n k e h = rw (e, h)
 
-pub first-hit : (p : ℕ → Bool) (j e : ℕ) → j < e → p j ≡ true → first p j (e - j) ≡ j
+pub first-hit : (p : ℕ → Bool) (j e : ℕ) → j < e → p j ≡ true → firstPassing p j (e - j) ≡ j
 first-hit p j e l h = hit-at p j (e - j) (e - (j + 1)) (omega arith) h
 
-pub first-miss : (p : ℕ → Bool) (j e : ℕ) → j < e → p j ≡ false → first p j (e - j) ≡ first p (j + 1) (e - (j + 1))
+pub first-miss : (p : ℕ → Bool) (j e : ℕ) → j < e → p j ≡ false → firstPassing p j (e - j) ≡ firstPassing p (j + 1) (e - (j + 1))
 first-miss p j e l h = rw add-one (miss-at p j (e - j) (e - suc j) (omega arith) h)
 
-pub first-end : (p : ℕ → Bool) (j e : ℕ) → e ≤ j → first p j (e - j) ≡ j
-unfolding first
+pub first-end : (p : ℕ → Bool) (j e : ℕ) → e ≤ j → firstPassing p j (e - j) ≡ j
+unfolding firstPassing
 first-end p j e l = let z : e - j ≡ 0 = omega arith in rw z
 
 -- ---- what is found passes, and is the least that does
-pub first-found : (p : ℕ → Bool) (i n : ℕ) → first p i n < i + n → p (first p i n) ≡ true
-unfolding first
+pub first-found : (p : ℕ → Bool) (i n : ℕ) → firstPassing p i n < i + n → p (firstPassing p i n) ≡ true
+unfolding firstPassing
 first-found p i zero l = absurd (omega arith)
 first-found p i (suc n) l = go (p i) refl (first-found p (suc i) n)
   where
-    go : (b : Bool) → p i ≡ b → (first p (suc i) n < suc i + n → p (first p (suc i) n) ≡ true) → p (pick (p i) i (first p (suc i) n)) ≡ true
+    go : (b : Bool) → p i ≡ b → (firstPassing p (suc i) n < suc i + n → p (firstPassing p (suc i) n) ≡ true) → p (pick (p i) i (firstPassing p (suc i) n)) ≡ true
     go true e k = rw e e
     go false e k =
-        let m : pick (p i) i (first p (suc i) n) < i + suc n = l in
+        let m : pick (p i) i (firstPassing p (suc i) n) < i + suc n = l in
         let m2 = rw e at m in
         rw e (k (omega arith))
 
-pub first-le : (p : ℕ → Bool) (i n j : ℕ) → i ≤ j → p j ≡ true → first p i n ≤ j
-unfolding first
+pub first-le : (p : ℕ → Bool) (i n j : ℕ) → i ≤ j → p j ≡ true → firstPassing p i n ≤ j
+unfolding firstPassing
 first-le p i zero j l h = l
 first-le p i (suc n) j l h = go (p i) refl (λ m. first-le p (suc i) n j m h)
   where
-    go : (b : Bool) → p i ≡ b → (suc i ≤ j → first p (suc i) n ≤ j) → pick (p i) i (first p (suc i) n) ≤ j
+    go : (b : Bool) → p i ≡ b → (suc i ≤ j → firstPassing p (suc i) n ≤ j) → pick (p i) i (firstPassing p (suc i) n) ≤ j
     go true e k = rw e l
     go false e k =
         rw e (⊎-elim (λ m. absurd (true≢false (sym h ∙ sym (ap p m) ∙ e))) (λ m. k m) (eq-or-lt-of-le l))
 
-pub first-ge : (p : ℕ → Bool) (i n : ℕ) → i ≤ first p i n
-unfolding first
+pub first-ge : (p : ℕ → Bool) (i n : ℕ) → i ≤ firstPassing p i n
+unfolding firstPassing
 first-ge p i zero = omega arith
 first-ge p i (suc n) = go (p i) (first-ge p (suc i) n)
   where
-    go : (b : Bool) → suc i ≤ first p (suc i) n → i ≤ pick b i (first p (suc i) n)
+    go : (b : Bool) → suc i ≤ firstPassing p (suc i) n → i ≤ pick b i (firstPassing p (suc i) n)
     go true k = omega arith
     go false k = omega arith
 
 -- nothing before it passes
-pub first-before : (p : ℕ → Bool) (i n j : ℕ) → i ≤ j → j < first p i n → p j ≡ false
+pub first-before : (p : ℕ → Bool) (i n j : ℕ) → i ≤ j → j < firstPassing p i n → p j ≡ false
 first-before p i n j l m = go (p j) refl
   where
     go : (b : Bool) → p j ≡ b → p j ≡ false
@@ -86,19 +86,19 @@ first-before p i n j l m = go (p j) refl
     go true e = absurd (omega (arith, first-le p i n j l e))
 
 -- what passes, with nothing before it that does, is what is found
-pub first-is : (p : ℕ → Bool) (i n j : ℕ) → i ≤ j → j < i + n → p j ≡ true → ((m : ℕ) → i ≤ m → m < j → p m ≡ false) → first p i n ≡ j
+pub first-is : (p : ℕ → Bool) (i n j : ℕ) → i ≤ j → j < i + n → p j ≡ true → ((m : ℕ) → i ≤ m → m < j → p m ≡ false) → firstPassing p i n ≡ j
 first-is p i n j l m h b =
     let le = first-le p i n j l h in
-    let lt : first p i n < i + n = omega arith in
-    ⊎-elim (λ e. e) (λ s. absurd (true≢false (sym (first-found p i n lt) ∙ b (first p i n) (first-ge p i n) s))) (eq-or-lt-of-le le)
+    let lt : firstPassing p i n < i + n = omega arith in
+    ⊎-elim (λ e. e) (λ s. absurd (true≢false (sym (first-found p i n lt) ∙ b (firstPassing p i n) (first-ge p i n) s))) (eq-or-lt-of-le le)
 
 -- where none passes
-pub first-none : (p : ℕ → Bool) (i n : ℕ) → ((j : ℕ) → i ≤ j → j < i + n → p j ≡ false) → first p i n ≡ i + n
-unfolding first
+pub first-none : (p : ℕ → Bool) (i n : ℕ) → ((j : ℕ) → i ≤ j → j < i + n → p j ≡ false) → firstPassing p i n ≡ i + n
+unfolding firstPassing
 first-none p i zero b = omega arith
 first-none p i (suc n) b =
-    let e : first p (suc i) n ≡ suc i + n = first-none p (suc i) n (λ j l m. b j (omega arith) (omega arith)) in
-    let q : first p (suc i) n ≡ i + suc n = omega (arith, e) in
+    let e : firstPassing p (suc i) n ≡ suc i + n = first-none p (suc i) n (λ j l m. b j (omega arith) (omega arith)) in
+    let q : firstPassing p (suc i) n ≡ i + suc n = omega (arith, e) in
     rw (b i (omega arith) (omega arith)) q
 
 -- ---- all

@@ -5,12 +5,12 @@ use Prim.Native.Nat.{ℕ, _≤_, _<_}
 use borrow.Author.Tests.{leb-true, ltb-true}
 use lib.Dec.{eqb}
 use Rattle.basis.proofs.Tests.{both-right}
-use Rattle.seat.specs.Bounds.{maxTimetable}
-use Rattle.seat.specs.Soundness.{seatSound}
-use Rattle.seat.proofs.Soundness.{every-at}
+use Rattle.desk_seat.specs.Bounds.{maxTimetable}
+use Rattle.desk_seat.specs.Soundness.{seatSound}
+use Rattle.desk_seat.proofs.Soundness.{every-at}
 use Rattle.desk.specs.Bounds.{seatCount}
-use Rattle.desk.specs.Seats.{seatAt, placeOf}
-use Rattle.desk.specs.Soundness.{placeSound, soundOf}
+use Rattle.desk.specs.Seats.{seatAt, seatOf}
+use Rattle.desk.specs.Soundness.{soundAt, soundOf}
 use Rattle.desk.specs.declared.Desk.{Desk}
 use Rattle.desk.proofs.Scans.{all-at}
 
@@ -23,11 +23,11 @@ module _ (d : Desk) (h : soundOf d ≡ true) where
   unfolding soundOf
   sound-length = leb-true _ _ (every-at _ 1 h)
 
-  pub sound-place : (i : ℕ) → i < seatCount → placeSound d i ≡ true
+  pub sound-at : (i : ℕ) → i < seatCount → soundAt d i ≡ true
   unfolding soundOf
-  sound-place i l = all-at (placeSound d) seatCount i l (every-at _ 2 h)
+  sound-at i l = all-at (soundAt d) seatCount i l (every-at _ 2 h)
 
   pub sound-seat : (i : ℕ) → i < seatCount → seatAt d i .held ≡ true → seatSound (d .issued) (d .«timetable_length») (seatAt d i) ≡ true
-  unfolding placeSound
+  unfolding soundAt
   sound-seat i l e =
-      both-right (eqb (placeOf d (seatAt d i .ticket)) i) (seatSound (d .issued) (d .«timetable_length») (seatAt d i)) (rw e at (sound-place i l))
+      both-right (eqb (seatOf d (seatAt d i .ticket)) i) (seatSound (d .issued) (d .«timetable_length») (seatAt d i)) (rw e at (sound-at i l))

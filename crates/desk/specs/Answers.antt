@@ -1,9 +1,9 @@
 -- Document 01, "Timetable, seats and turns" and "Refusal numbers": what the calls answer. A call hands the next desk back
 -- beside its answer. For each answer enum there is one definition that gives document 01's number, or the values; that of a
--- turn is `turnMeaning` of the crate `seat`.
+-- turn is `turnMeaning` of the crate `desk_seat`.
 use Prim.Native.Nat.{ℕ}
 use Rattle.basis.specs.Answer.{Answer, gives, refuses}
-use Rattle.seat.specs.Answers.{Turned, turnMeaning}
+use Rattle.desk_seat.specs.Answers.{Turned, turnMeaning}
 use Rattle.desk.specs.declared.Desk.{Desk}
 use Rattle.desk.specs.declared.FreshAnswer.{FreshAnswer}
 use Rattle.desk.specs.declared.FreshAnswer.the-variants as FV

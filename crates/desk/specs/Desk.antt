@@ -7,16 +7,16 @@ use lib.ListN.{length, set, replicate}
 use Rattle.basis.specs.Choice.{pick}
 use Rattle.basis.specs.Answer.{Answer, gives, refuses}
 use Rattle.value.specs.Refusals.{noSeat, wrongTimetable, notSound, noTicket, noMoreTickets}
-use Rattle.seat.specs.Files.{Files}
-use Rattle.seat.specs.Request.{Request}
-use Rattle.seat.specs.Bounds.{maxTimetable}
-use Rattle.seat.specs.Query.{checkOf}
-use Rattle.seat.specs.Answers.{Turned, idle}
-use Rattle.seat.specs.Seat.{freeSeat, seatFor}
-use Rattle.seat.specs.Serving.{Step, serveOf}
+use Rattle.desk_seat.specs.Files.{Files}
+use Rattle.desk_seat.specs.Request.{Request}
+use Rattle.desk_seat.specs.Bounds.{maxTimetable}
+use Rattle.desk_seat.specs.Conditions.{checkOf}
+use Rattle.desk_seat.specs.Answers.{Turned, idle}
+use Rattle.desk_seat.specs.Seat.{freeSeat, seatFor}
+use Rattle.desk_seat.specs.Serving.{Step, serveOf}
 use Rattle.desk.specs.Bounds.{seatCount, lastTicket}
 use Rattle.desk.specs.Answers.{After}
-use Rattle.desk.specs.Seats.{seatAt, firstFrom, placeOf}
+use Rattle.desk.specs.Seats.{seatAt, firstFrom, seatOf}
 use Rattle.desk.specs.Soundness.{soundOf}
 use Rattle.desk.specs.declared.Desk.{Desk}
 
@@ -45,7 +45,7 @@ freshFor f = freshOf (length (f .timetable))
 
 -- ---- open: 12, the number of the condition, 10, 14
 
--- the next ticket's query at a place
+-- the next ticket's query in the seat of a number
 abbrev pub seated : Request → Desk → ℕ → Desk
 seated r d i =
     record {
@@ -70,7 +70,7 @@ openOf r d = pick (soundOf d) (openChecked r d (checkOf (r .condition))) (refuse
 
 -- ---- close: 12, 13
 
--- the desk with the seat at a place free again
+-- the desk with the seat of a number free again
 abbrev pub freed : Desk → ℕ → Desk
 freed d i =
     record {
@@ -83,14 +83,14 @@ freed d i =
 unfoldable pub closeOf : ℕ → Desk → After (Unit {0})
 closeOf ticket d =
     pick (soundOf d)
-    (pick (ltb (placeOf d ticket) seatCount)
-    (record { desk = freed d (placeOf d ticket); answer = gives tt })
+    (pick (ltb (seatOf d ticket) seatCount)
+    (record { desk = freed d (seatOf d ticket); answer = gives tt })
     (refused d noTicket))
     (refused d notSound)
 
 -- ---- turn: 12, 11, then the first held seat after the last served, going round, or Idle
 
--- a place was served, and becomes last served
+-- a seat was served, and becomes last served
 abbrev pub afterStep : Desk → ℕ → Step → After Turned
 afterStep d i s =
     record {
@@ -104,7 +104,7 @@ afterStep d i s =
       answer = gives (s .answer);
     }
 
--- j is the place found, counted on past the last one: 17 after the last served where no seat is held
+-- j is the number found, counted on past the last one: 17 after the last served where no seat is held
 abbrev pub turnAt : Files → Desk → ℕ → After Turned
 turnAt f d j =
     pick (ltb j (d .«last_served» + 1 + seatCount))

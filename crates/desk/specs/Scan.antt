@@ -4,9 +4,9 @@ use Prim.Native.Nat.{ℕ, zero, suc}
 use Rattle.basis.specs.Choice.{pick, both}
 
 -- the first of i, i + 1, .. (n of them) that passes p; i + n where none does
-unfoldable pub first : (ℕ → Bool) → ℕ → ℕ → ℕ
-first p i zero = i
-first p i (suc n) = pick (p i) i (first p (suc i) n)
+unfoldable pub firstPassing : (ℕ → Bool) → ℕ → ℕ → ℕ
+firstPassing p i zero = i
+firstPassing p i (suc n) = pick (p i) i (firstPassing p (suc i) n)
 
 -- whether every number below n passes p
 unfoldable pub all : (ℕ → Bool) → ℕ → Bool

@@ -5,29 +5,29 @@ use Prim.Native.Nat.{ℕ, _%_}
 use lib.Dec.{eqb}
 use lib.ListN.{getD}
 use Rattle.basis.specs.Choice.{both}
-use Rattle.seat.specs.declared.Seat.{Seat}
+use Rattle.desk_seat.specs.declared.Seat.{Seat}
 use Rattle.desk.specs.Bounds.{seatCount}
-use Rattle.desk.specs.Scan.{first}
+use Rattle.desk.specs.Scan.{firstPassing}
 use Rattle.desk.specs.declared.Desk.{Desk}
 
--- the seat at a place; past the last place nothing is held
+-- the seat of a number; past the last seat nothing is held
 abbrev pub seatAt : Desk → ℕ → Seat
 seatAt d i =
     getD (d .seats) i
     (record { held = false; ticket = 0; offset = 0; hits = 0; unreadable = 0; «condition_length» = 0; condition = [] })
 
--- whether the seat at a place, counted round, is held, or free
+-- whether the seat of a number, counted round, is held, or free
 abbrev pub heldIs : Desk → Bool → ℕ → Bool
 heldIs d want i = Bool·beq (seatAt d (i % seatCount) .held) want
 
--- the first place from one on, going round, whose seat is held, or free; 16 further where there is none
+-- the number of the first seat from one on, going round, that is held, or free; 16 further where there is none
 abbrev pub firstFrom : Desk → Bool → ℕ → ℕ
-firstFrom d want i = first (heldIs d want) i seatCount
+firstFrom d want i = firstPassing (heldIs d want) i seatCount
 
--- whether the seat at a place is held with the ticket
+-- whether the seat of a number is held with the ticket
 abbrev pub hasTicket : Desk → ℕ → ℕ → Bool
 hasTicket d ticket i = both (seatAt d i .held) (eqb (seatAt d i .ticket) ticket)
 
 -- the first held seat with the ticket; 16 where none has it
-abbrev pub placeOf : Desk → ℕ → ℕ
-placeOf d ticket = first (hasTicket d ticket) 0 seatCount
+abbrev pub seatOf : Desk → ℕ → ℕ
+seatOf d ticket = firstPassing (hasTicket d ticket) 0 seatCount

@@ -1,7 +1,7 @@
 // The bounds of the desk, as constants of the records and as numbers of the definitions, are the same.
 use crate::Desk;
 ghost use mathlib.Core.Path.{_≡_};
-ghost use Rattle.seat.specs.Bounds.{maxTimetable};
+ghost use Rattle.desk_seat.specs.Bounds.{maxTimetable};
 ghost use Rattle.desk.specs.Bounds.{seatCount, lastTicket};
 
 pub fn seats() -> usize

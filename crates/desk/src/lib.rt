@@ -1,17 +1,17 @@
 // The desk: sixteen seats, open, close and turn (document 01, "Timetable, seats and turns"). Every call takes the desk by
 // value and hands the next one back beside its answer; a refused call hands back the desk it got. One seat by itself is the
-// crate `seat`.
+// crate `desk_seat`.
 use condition::Checked;
-use seat::Seat;
-use seat::TurnAnswer;
+use desk_seat::Seat;
+use desk_seat::TurnAnswer;
 use value::Refusal;
 ghost use mathlib.Core.Path.{_≡_};
 ghost use mathlib.Core.Bool.{true, false};
 ghost use Prim.Native.Nat.{_+_, _≤_, _<_};
-ghost use Rattle.seat.specs.Files.{over};
-ghost use Rattle.seat.specs.Request.{asking};
+ghost use Rattle.desk_seat.specs.Files.{over};
+ghost use Rattle.desk_seat.specs.Request.{asking};
 ghost use Rattle.desk.specs.Bounds.{seatCount};
-ghost use Rattle.desk.specs.Seats.{firstFrom, placeOf};
+ghost use Rattle.desk.specs.Seats.{firstFrom, seatOf};
 ghost use Rattle.desk.specs.Soundness.{soundOf};
 ghost use Rattle.desk.specs.Desk.{freshOf, openOf, closeOf, haveLengths, turnOf, nextOf};
 ghost use Rattle.desk.specs.Answers.{afterFresh, afterOpen, afterClose, afterTurn};
@@ -64,7 +64,7 @@ pub struct AfterTurn {
 pub fn fresh(timetable_length: usize) -> AfterFresh
     ensures { λ r. ⌜ afterFresh r ≡ freshOf «timetable_length» ⌝ }
 {
-    let seat = seat::free();
+    let seat = desk_seat::free();
     if Desk::MAX_TIMETABLE < timetable_length {
         return AfterFresh {
             desk: Desk {
@@ -96,7 +96,7 @@ impl Desk {
 
     pub const LAST_TICKET: u32 = 4_294_967_295;
 
-    // The first place from `start` round whose seat is held, or free, as `want` says; 16 further where there is none.
+    // The number of the first seat from `start` round that is held, or free, as `want` says; 16 further where there is none.
     fn find(self, want: bool, start: usize) -> usize
         requires { ⌜ start ≤ seatCount ⌝ }
         ensures { λ r. ⌜ (r ≡ firstFrom self want start) × (r ≤ start + seatCount) ⌝ }
@@ -113,9 +113,9 @@ impl Desk {
         j
     }
 
-    // The place of the held seat with the ticket, or 16.
-    fn place(self, ticket: u32) -> usize
-        ensures { λ r. ⌜ (r ≡ placeOf self ticket) × (r ≤ seatCount) ⌝ }
+    // The number of the held seat with the ticket, or 16.
+    fn seat_of(self, ticket: u32) -> usize
+        ensures { λ r. ⌜ (r ≡ seatOf self ticket) × (r ≤ seatCount) ⌝ }
     {
         let mut i = 0;
         while i < Desk::SEATS {
@@ -155,7 +155,7 @@ impl Desk {
                     }
                     k += 1;
                 }
-                if !seat::sound(s, self.issued, self.timetable_length) {
+                if !desk_seat::sound(s, self.issued, self.timetable_length) {
                     return false;
                 }
             }
@@ -184,7 +184,7 @@ impl Desk {
         }
         let ticket = self.issued + 1;
         let mut next = self;
-        next.seats[i] = seat::taken(ticket, text);
+        next.seats[i] = desk_seat::taken(ticket, text);
         next.issued = ticket;
         AfterOpen {
             desk: next,
@@ -213,7 +213,7 @@ impl Desk {
                 }),
             };
         }
-        let i = self.place(ticket);
+        let i = self.seat_of(ticket);
         if Desk::SEATS <= i {
             return AfterClose {
                 desk: self,
@@ -223,7 +223,7 @@ impl Desk {
             };
         }
         let mut next = self;
-        next.seats[i] = seat::free();
+        next.seats[i] = desk_seat::free();
         AfterClose {
             desk: next,
             answer: CloseAnswer::Freed,
@@ -266,7 +266,7 @@ impl Desk {
             };
         }
         let i = j % Desk::SEATS;
-        let served = seat::served(self.seats[i], t);
+        let served = desk_seat::served(self.seats[i], t);
         let seat = served.seat;
         let answer = served.answer;
         let mut next = self;

@@ -8,17 +8,17 @@ use Prim.Native.Nat.{ℕ, _+_, _-_, _^_, _≤_, _<_}
 use lib.Dec.{T}
 use lib.ListN.{length}
 use Rattle.basis.specs.Choice.{both}
-use Rattle.timetable.specs.Lines.{Line, lineAt, lineEnd, nextLine, linesFrom, placedLines}
+use Rattle.timetable.specs.Lines.{Line, lineAt, lineEnd, nextLine, linesFrom, offsetLines}
 use Rattle.timetable.proofs.Offsets.{line-cut, lines-end, lines-next, next-further}
-use Rattle.words.specs.Runs.{between}
-use Rattle.seat.specs.Request.{asking}
+use Rattle.condition_words.specs.Words.{between}
+use Rattle.desk_seat.specs.Request.{asking}
 use Rattle.desk.specs.declared.Desk.{Desk}
-use Rattle.pieces.specs.Pieces.{Piece, openPiece, openedAll}
-use Rattle.pieces.specs.Carried.{openedTold}
+use Rattle.output_pieces.specs.Pieces.{Piece, openPiece, openedAll}
+use Rattle.output_pieces.specs.Carried.{openedTold}
 use Rattle.desk_host.specs.declared.Sent.{Sent}
 use Rattle.desk_host.proofs.Due.{failed, second-fails}
 
--- what was told, and what is still to be told from a place on
+-- what was told, and what is still to be told from an offset on
 abbrev pub toTell : List ℕ → ℕ → Desk → ℕ → ℕ
 toTell t i d k = k + openedTold (linesFrom t i) d
 
@@ -56,12 +56,12 @@ unfolding openedTold
 all-told t i d k m l v = omega (arith, ap (λ (ls : List Line). openedTold ls d) (lines-end t i l))
 
 -- the lines of an input are those from its start on
-pub from-start : (t : List ℕ) (d : Desk) → openedAll (linesFrom t 0) d ≡ openedAll (placedLines t) d
-unfolding placedLines
+pub from-start : (t : List ℕ) (d : Desk) → openedAll (linesFrom t 0) d ≡ openedAll (offsetLines t) d
+unfolding offsetLines
 from-start t d = refl
 
-pub told-from-start : (t : List ℕ) (d : Desk) (k : ℕ) → toTell t 0 d k ≡ k + openedTold (placedLines t) d
-unfolding placedLines
+pub told-from-start : (t : List ℕ) (d : Desk) (k : ℕ) → toTell t 0 d k ≡ k + openedTold (offsetLines t) d
+unfolding offsetLines
 told-from-start t d k = refl
 
 -- where more is not due after a condition, its write failed

@@ -6,36 +6,36 @@ use mathlib.Core.List.{List}
 use Prim.Native.Nat.{ℕ, _+_, _^_, _≤_, _<_}
 use lib.ListN.{length, drop, length-append}
 use Rattle.basis.specs.Choice.{both}
-use Rattle.seat.specs.Files.{Files}
-use Rattle.seat.specs.Request.{asking}
+use Rattle.desk_seat.specs.Files.{Files}
+use Rattle.desk_seat.specs.Request.{asking}
 use Rattle.desk.specs.declared.Desk.{Desk}
 use Rattle.output_lines.specs.Text.{lineRoom}
-use Rattle.pieces.specs.Bounds.{roomSize}
-use Rattle.pieces.specs.Pieces.{Piece, openPiece, turnsPiece, Leaves}
-use Rattle.pieces.specs.declared.Part.{Part}
+use Rattle.output_pieces.specs.Bounds.{roomSize}
+use Rattle.output_pieces.specs.Pieces.{Piece, openPiece, turnsPiece, Leaves}
+use Rattle.output_pieces.specs.declared.PieceEnd.{PieceEnd}
 use Rattle.desk_host.specs.declared.Sent.{Sent}
 
 -- the bytes of a piece are within the room that it was left in
-pub left-within : {p : Piece} {a : Part} {before after : List ℕ} → Leaves p a before after → a .count ≤ length after
+pub left-within : {p : Piece} {a : PieceEnd} {before after : List ℕ} → Leaves p a before after → a .count ≤ length after
 left-within {p} {a} {before} {after} e = omega (arith, e .count, ap length (e .room), length-append (p .text) (drop (length (p .text)) before))
 
 -- the write of a part that was left says what is due by the piece
-pub sent-by : {p : Piece} {a : Part} {before after : List ℕ} (z : Sent) → Leaves p a before after → z .more ≡ both (z .through) (a .more) → z .more ≡ both (z .through) (p .more)
+pub sent-by : {p : Piece} {a : PieceEnd} {before after : List ℕ} (z : Sent) → Leaves p a before after → z .more ≡ both (z .through) (a .more) → z .more ≡ both (z .through) (p .more)
 sent-by {p} {a} {before} {after} z e c = c ∙ ap (λ (x : Bool). both (z .through) x) (e .more)
 
 -- and how many bytes it was handed so far
-told-by : {p : Piece} {a : Part} {before after : List ℕ} (k : ℕ) (z : Sent) → Leaves p a before after → z .told ≡ k + a .count → z .told ≡ k + length (p .text)
+told-by : {p : Piece} {a : PieceEnd} {before after : List ℕ} (k : ℕ) (z : Sent) → Leaves p a before after → z .told ≡ k + a .count → z .told ≡ k + length (p .text)
 told-by k z e c = c ∙ ap (λ (x : ℕ). k + x) (e .count)
 
-pub first-told : {p : Piece} {a : Part} {before after : List ℕ} (z : Sent) → Leaves p a before after → z .told ≡ 0 + a .count → z .told ≡ length (p .text)
+pub first-told : {p : Piece} {a : PieceEnd} {before after : List ℕ} (z : Sent) → Leaves p a before after → z .told ≡ 0 + a .count → z .told ≡ length (p .text)
 first-told z e c = omega (arith, c, e .count)
 
 -- ---- turns, with a room of the program's size
-pub some-goes : (k : ℕ) (f : Files) (h : Desk) (a : Part) (before after : List ℕ) → length before ≡ roomSize → Leaves (turnsPiece f h (length before)) a before after
+pub some-goes : (k : ℕ) (f : Files) (h : Desk) (a : PieceEnd) (before after : List ℕ) → length before ≡ roomSize → Leaves (turnsPiece f h (length before)) a before after
     → k + length (turnsPiece f h roomSize .text) < 2 ^ 64 → (a .count ≤ length after) × (k + a .count < 2 ^ 64)
 some-goes k f h a before after n e l = (left-within e, omega (arith, e .count, ap (λ (m : ℕ). length (turnsPiece f h m .text)) n))
 
-pub some-sent : (k : ℕ) (f : Files) (h d : Desk) (a : Part) (z : Sent) (before after : List ℕ) → length before ≡ roomSize
+pub some-sent : (k : ℕ) (f : Files) (h d : Desk) (a : PieceEnd) (z : Sent) (before after : List ℕ) → length before ≡ roomSize
     → (d ≡ turnsPiece f h (length before) .desk) × Leaves (turnsPiece f h (length before)) a before after → (z .more ≡ both (z .through) (a .more)) × (z .told ≡ k + a .count)
     → (d ≡ turnsPiece f h roomSize .desk) × (z .more ≡ both (z .through) (turnsPiece f h roomSize .more)) × (z .told ≡ k + length (turnsPiece f h roomSize .text))
 some-sent k f h d a z before after n e c = (
@@ -45,11 +45,11 @@ some-sent k f h d a z before after n e c = (
 )
 
 -- ---- a condition that was cut out of the input
-pub one-goes : (k : ℕ) (w x : List ℕ) (h : Desk) (a : Part) (before after : List ℕ) → w ≡ x → Leaves (openPiece (asking w) h) a before after
+pub one-goes : (k : ℕ) (w x : List ℕ) (h : Desk) (a : PieceEnd) (before after : List ℕ) → w ≡ x → Leaves (openPiece (asking w) h) a before after
     → k + length (openPiece (asking x) h .text) < 2 ^ 64 → (a .count ≤ length after) × (k + a .count < 2 ^ 64)
 one-goes k w x h a before after p e l = (left-within e, omega (arith, e .count, ap (λ (c : List ℕ). length (openPiece (asking c) h .text)) p))
 
-pub one-sent : (k : ℕ) (w x : List ℕ) (h d : Desk) (a : Part) (z : Sent) (before after : List ℕ) → w ≡ x
+pub one-sent : (k : ℕ) (w x : List ℕ) (h d : Desk) (a : PieceEnd) (z : Sent) (before after : List ℕ) → w ≡ x
     → (d ≡ openPiece (asking w) h .desk) × Leaves (openPiece (asking w) h) a before after → (z .more ≡ both (z .through) (a .more)) × (z .told ≡ k + a .count)
     → (d ≡ openPiece (asking x) h .desk) × (z .more ≡ both (z .through) true) × (z .told ≡ k + length (openPiece (asking x) h .text))
 one-sent k w x h d a z before after p e c =

@@ -7,28 +7,28 @@ use mathlib.Core.List.{List}
 use Prim.Native.Nat.{ℕ, _+_, _^_, _<_}
 use lib.ListN.{length}
 use Rattle.basis.specs.Choice.{both}
-use Rattle.timetable.specs.Lines.{placedLines}
-use Rattle.seat.specs.Files.{Files, over}
+use Rattle.timetable.specs.Lines.{offsetLines}
+use Rattle.desk_seat.specs.Files.{Files, over}
 use Rattle.desk.specs.declared.Desk.{Desk}
-use Rattle.pieces.specs.Pieces.{startPiece, openedAll, untilIdle, mostTurns, servedAll, deskAtEnd}
-use Rattle.pieces.specs.Carried.{openedTold, untilIdleTold, servedTold, toldAtEnd}
+use Rattle.output_pieces.specs.Pieces.{startPiece, openedAll, untilIdle, mostTurns, servedAll, deskAtEnd}
+use Rattle.output_pieces.specs.Carried.{openedTold, untilIdleTold, servedTold, toldAtEnd}
 use Rattle.output.specs.Output.{outputOf}
 use Rattle.output.proofs.Amounts.{told-is-the-output, bounded}
 use Rattle.desk_host.specs.declared.Progress.{Progress}
 use Rattle.desk_host.proofs.Due.{not-true, not-false, second-holds, second-fails}
 
 -- the conditions are opened, then the turns taken
-pub both-served : (f : Files) (input : List ℕ) (D d h : Desk) (k k₁ k₂ : ℕ) → (d ≡ openedAll (placedLines input) D) × (k₁ ≡ k + openedTold (placedLines input) D)
+pub both-served : (f : Files) (input : List ℕ) (D d h : Desk) (k k₁ k₂ : ℕ) → (d ≡ openedAll (offsetLines input) D) × (k₁ ≡ k + openedTold (offsetLines input) D)
     → (h ≡ untilIdle f mostTurns d) × (k₂ ≡ k₁ + untilIdleTold f mostTurns d) → (h ≡ servedAll f input D) × (k₂ ≡ k + servedTold f input D)
 both-served f input D d h k k₁ k₂ a b =
     (b .0 ∙ ap (untilIdle f mostTurns) (a .0), omega (arith, a .1, b .1, ap (untilIdleTold f mostTurns) (a .0)))
 
 -- the bytes of the conditions are within what is still to be told
-pub opens-within : (f : Files) (input : List ℕ) (D : Desk) (k : ℕ) → k + servedTold f input D < 2 ^ 64 → k + openedTold (placedLines input) D < 2 ^ 64
+pub opens-within : (f : Files) (input : List ℕ) (D : Desk) (k : ℕ) → k + servedTold f input D < 2 ^ 64 → k + openedTold (offsetLines input) D < 2 ^ 64
 opens-within f input D k w = omega arith
 
 -- the bytes of the turns are within what is still to be told
-pub turns-within : (f : Files) (input : List ℕ) (D d : Desk) (k k₁ : ℕ) → (d ≡ openedAll (placedLines input) D) × (k₁ ≡ k + openedTold (placedLines input) D)
+pub turns-within : (f : Files) (input : List ℕ) (D d : Desk) (k k₁ : ℕ) → (d ≡ openedAll (offsetLines input) D) × (k₁ ≡ k + openedTold (offsetLines input) D)
     → k + servedTold f input D < 2 ^ 64 → k₁ + untilIdleTold f mostTurns d < 2 ^ 64
 turns-within f input D d k k₁ a w = omega (arith, a .1, ap (untilIdleTold f mostTurns) (a .0))
 

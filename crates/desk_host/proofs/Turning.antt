@@ -6,11 +6,11 @@ use Prim.Native.Nat.{ℕ, suc, _+_, _-_, _<_, _≤_, _^_}
 use lib.Dec.{T}
 use lib.ListN.{length}
 use Rattle.basis.specs.Choice.{pick, both}
-use Rattle.seat.specs.Files.{Files}
+use Rattle.desk_seat.specs.Files.{Files}
 use Rattle.desk.specs.declared.Desk.{Desk}
-use Rattle.pieces.specs.Bounds.{roomSize}
-use Rattle.pieces.specs.Pieces.{turnsPiece, untilIdle, mostTurns}
-use Rattle.pieces.specs.Carried.{untilIdleTold}
+use Rattle.output_pieces.specs.Bounds.{roomSize}
+use Rattle.output_pieces.specs.Pieces.{turnsPiece, untilIdle, mostTurns}
+use Rattle.output_pieces.specs.Carried.{untilIdleTold}
 use Rattle.desk_host.specs.declared.Sent.{Sent}
 use Rattle.desk_host.proofs.Due.{held, failed, second-holds, second-fails}
 

@@ -1,29 +1,29 @@
 // The desk program (document 01, "The desk program"): it reads the timetable and the conditions, opens the conditions in order,
 // and takes turns until Idle. It keeps one desk for its whole life, in one variable of `live`, and has it updated where
 // it stands: its loops go through `desk_in_place::open_in` and `output_turns::turns_in`. What it writes are the pieces of crate
-// `pieces`, each as it was left, and their bytes are counted; after a write that failed it writes nothing more.
+// `output_pieces`, each as it was left, and their bytes are counted; after a write that failed it writes nothing more.
+use condition_words::cut;
 use desk::Desk;
 use libc::STDIN_FILENO;
 use libc::STDOUT_FILENO;
-use line_reader::moved;
-use line_reader::next;
 use output_lines::LineText;
-use pieces::Part;
-use words::cut;
+use output_pieces::PieceEnd;
+use timetable_reader::moved;
+use timetable_reader::next;
 ghost use mathlib.Core.Path.{_≡_};
 ghost use mathlib.Core.Bool.{true};
 ghost use Prim.Native.Nat.{_+_, _^_, _≤_, _<_};
 ghost use lib.ListN.{length};
 ghost use Rattle.io.specs.Counts.{Counts};
 ghost use Rattle.basis.specs.Choice.{both};
-ghost use Rattle.timetable.specs.Lines.{placedLines};
-ghost use Rattle.words.specs.Runs.{between};
-ghost use Rattle.seat.specs.Bounds.{maxTimetable};
-ghost use Rattle.seat.specs.Files.{over};
-ghost use Rattle.seat.specs.Request.{asking};
-ghost use Rattle.pieces.specs.Bounds.{maxInput, roomSize};
-ghost use Rattle.pieces.specs.Pieces.{startPiece, openPiece, turnsPiece, openedAll, untilIdle, mostTurns, servedAll, deskAtEnd};
-ghost use Rattle.pieces.specs.Carried.{openedTold, untilIdleTold, servedTold};
+ghost use Rattle.timetable.specs.Lines.{offsetLines};
+ghost use Rattle.condition_words.specs.Words.{between};
+ghost use Rattle.desk_seat.specs.Bounds.{maxTimetable};
+ghost use Rattle.desk_seat.specs.Files.{over};
+ghost use Rattle.desk_seat.specs.Request.{asking};
+ghost use Rattle.output_pieces.specs.Bounds.{maxInput, roomSize};
+ghost use Rattle.output_pieces.specs.Pieces.{startPiece, openPiece, turnsPiece, openedAll, untilIdle, mostTurns, servedAll, deskAtEnd};
+ghost use Rattle.output_pieces.specs.Carried.{openedTold, untilIdleTold, servedTold};
 ghost use Rattle.output.specs.Output.{outputOf};
 
 // The bytes of lines that are written at once.
@@ -48,7 +48,7 @@ struct Progress {
 }
 
 // Writes a piece as it stands in the room, after so many bytes before it. Nothing more is due after a write that failed.
-fn send(part: Part, room: &[u8], before: usize) -> Sent
+fn send(part: PieceEnd, room: &[u8], before: usize) -> Sent
     requires { ⌜ (part .count ≤ length (now room)) × (before + part .count < 2 ^ 64) ⌝ }
     ensures { λ r. ⌜ (r .more ≡ both (r .through) (part .more)) × (r .told ≡ before + part .count) ⌝ }
 {
@@ -73,21 +73,21 @@ fn start(timetable_length: usize, input_length: usize) -> Progress
     ensures { λ r. ⌜ (r .desk ≡ startPiece «timetable_length» «input_length» .desk) × (r .sent .more ≡ both (r .sent .through) (startPiece «timetable_length» «input_length» .more)) × (r .sent .told ≡ length (startPiece «timetable_length» «input_length» .text)) ⌝ }
 {
     let mut room = [0; LineText::ROOM];
-    let begun = pieces::begin(timetable_length, input_length, &mut room);
+    let begun = output_pieces::begin(timetable_length, input_length, &mut room);
     let desk = begun.desk;
     let part = begun.part;
     let sent = send(part, &room, 0);
     Progress { desk, sent }
 }
 
-// The piece of the condition between two places of the input.
+// The piece of the condition between two offsets of the input.
 fn open_at_in(desk: &mut Desk, input: &[u8], at: usize, end: usize, told: usize) -> Sent
     requires { ⌜ told + length (openPiece (asking (between (now input) at end)) (now desk) .text) < 2 ^ 64 ⌝ }
     ensures { λ r. ⌜ (now (desk .exit) ≡ openPiece (asking (between (now (input .entry)) at end)) (now (desk .entry)) .desk) × (r .more ≡ both (r .through) true) × (r .told ≡ told + length (openPiece (asking (between (now (input .entry)) at end)) (now (desk .entry)) .text)) ⌝ }
 {
     let condition = cut(input, at, end);
     let mut room = [0; LineText::ROOM];
-    let part = pieces::open_piece_in(desk, condition, &mut room);
+    let part = output_pieces::open_piece_in(desk, condition, &mut room);
     send(part, &room, told)
 }
 
@@ -97,17 +97,17 @@ fn take_some_in(desk: &mut Desk, t: &[u8], told: usize) -> Sent
     ensures { λ r. ⌜ (now (desk .exit) ≡ turnsPiece (over (now (t .entry))) (now (desk .entry)) roomSize .desk) × (r .more ≡ both (r .through) (turnsPiece (over (now (t .entry))) (now (desk .entry)) roomSize .more)) × (r .told ≡ told + length (turnsPiece (over (now (t .entry))) (now (desk .entry)) roomSize .text)) ⌝ }
 {
     let mut room = [0; ROOM];
-    let part = pieces::turns_piece_in(desk, t, &mut room);
+    let part = output_pieces::turns_piece_in(desk, t, &mut room);
     send(part, &room, told)
 }
 
 // Opens the conditions in order, until a write fails.
 fn open_all(desk: &mut Desk, input: &[u8], before: usize) -> Sent
-    requires { ⌜ before + openedTold (placedLines (now input)) (now desk) < 2 ^ 64 ⌝ }
-    ensures { λ r. ⌜ (r .through ≡ true → (now (desk .exit) ≡ openedAll (placedLines (now (input .entry))) (now (desk .entry))) × (r .told ≡ before + openedTold (placedLines (now (input .entry))) (now (desk .entry)))) ⌝ }
+    requires { ⌜ before + openedTold (offsetLines (now input)) (now desk) < 2 ^ 64 ⌝ }
+    ensures { λ r. ⌜ (r .through ≡ true → (now (desk .exit) ≡ openedAll (offsetLines (now (input .entry))) (now (desk .entry))) × (r .told ≡ before + openedTold (offsetLines (now (input .entry))) (now (desk .entry)))) ⌝ }
 {
     let mut told = before;
-    let mut reader = line_reader::new(input, 0);
+    let mut reader = timetable_reader::new(input, 0);
     while reader.at < input.len() {
         let line = next(reader);
         let sent = open_at_in(desk, input, reader.at, line.end, told);
@@ -199,9 +199,9 @@ fn read_input(descriptor: i32, buffer: &mut [u8]) -> usize
 
 // The program over the timetable of a name and the conditions that a descriptor hands out, to its end.
 pub fn run_over(name: &[u8], conditions: i32) {
-    let mut timetable = pieces::timetable_buffer();
+    let mut timetable = output_pieces::timetable_buffer();
     let long = read_file(name, &mut timetable);
-    let mut input = pieces::input_buffer();
+    let mut input = output_pieces::input_buffer();
     let given = read_input(conditions, &mut input);
     play(&timetable[..long], &input[..given]);
 }

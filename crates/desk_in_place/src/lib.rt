@@ -3,11 +3,11 @@
 use desk::CloseAnswer;
 use desk::Desk;
 use desk::OpenAnswer;
-use seat::TurnAnswer;
+use desk_seat::TurnAnswer;
 ghost use mathlib.Core.Path.{_≡_};
-ghost use Rattle.seat.specs.Files.{over};
-ghost use Rattle.seat.specs.Request.{asking};
-ghost use Rattle.seat.specs.Answers.{turnMeaning};
+ghost use Rattle.desk_seat.specs.Files.{over};
+ghost use Rattle.desk_seat.specs.Request.{asking};
+ghost use Rattle.desk_seat.specs.Answers.{turnMeaning};
 ghost use Rattle.desk.specs.Answers.{openMeaning, closeMeaning};
 ghost use Rattle.desk.specs.Desk.{openOf, closeOf, turnOf};
 

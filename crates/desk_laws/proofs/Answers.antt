@@ -2,7 +2,7 @@
 use mathlib.Core.Path.{_≡_, refl, ap}
 use Prim.Native.Nat.{ℕ}
 use Rattle.basis.specs.Answer.{Answer, gives, refuses}
-use Rattle.seat.specs.Answers.{Turned, idle, hitAt, missAt, unreadableAt, doneWith, turnMeaning}
+use Rattle.desk_seat.specs.Answers.{Turned, idle, hitAt, missAt, unreadableAt, doneWith, turnMeaning}
 use Rattle.desk.specs.Answers.{After, freshMeaning, openMeaning, closeMeaning, afterFresh, afterOpen, afterClose, afterTurn}
 use Rattle.desk.specs.declared.FreshAnswer.{FreshAnswer}
 use Rattle.desk.specs.declared.FreshAnswer.the-variants as FV
@@ -10,8 +10,8 @@ use Rattle.desk.specs.declared.OpenAnswer.{OpenAnswer}
 use Rattle.desk.specs.declared.OpenAnswer.the-variants as OV
 use Rattle.desk.specs.declared.CloseAnswer.{CloseAnswer}
 use Rattle.desk.specs.declared.CloseAnswer.the-variants as CV
-use Rattle.seat.specs.declared.TurnAnswer.{TurnAnswer}
-use Rattle.seat.specs.declared.TurnAnswer.the-variants as TV
+use Rattle.desk_seat.specs.declared.TurnAnswer.{TurnAnswer}
+use Rattle.desk_seat.specs.declared.TurnAnswer.the-variants as TV
 use Rattle.desk.specs.declared.AfterFresh.{AfterFresh}
 use Rattle.desk.specs.declared.AfterOpen.{AfterOpen}
 use Rattle.desk.specs.declared.AfterClose.{AfterClose}

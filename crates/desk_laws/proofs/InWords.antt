@@ -8,18 +8,18 @@ use lib.Dec.{leb, ltb}
 use Rattle.basis.specs.Choice.{both}
 use Rattle.basis.specs.Answer.{Answer, gives, refuses}
 use Rattle.value.specs.Refusals.{noSeat, wrongTimetable, notSound, noTicket, noMoreTickets}
-use Rattle.seat.specs.Files.{Files}
-use Rattle.seat.specs.Request.{Request}
-use Rattle.seat.specs.Bounds.{maxTimetable}
-use Rattle.seat.specs.Query.{accepted, checkOf}
-use Rattle.seat.specs.Answers.{idle, ticketOf}
-use Rattle.seat.specs.Serving.{serveOf}
-use Rattle.seat.proofs.Conditions.{accepted-checked, checked-accepted}
-use Rattle.seat.proofs.Soundness.{servable}
-use Rattle.seat.proofs.Serving.{served-answer}
+use Rattle.desk_seat.specs.Files.{Files}
+use Rattle.desk_seat.specs.Request.{Request}
+use Rattle.desk_seat.specs.Bounds.{maxTimetable}
+use Rattle.desk_seat.specs.Conditions.{accepted, checkOf}
+use Rattle.desk_seat.specs.Answers.{idle, ticketOf}
+use Rattle.desk_seat.specs.Serving.{serveOf}
+use Rattle.desk_seat.proofs.Conditions.{accepted-checked, checked-accepted}
+use Rattle.desk_seat.proofs.Soundness.{servable}
+use Rattle.desk_seat.proofs.Serving.{served-answer}
 use Rattle.desk.specs.Bounds.{seatCount, lastTicket}
-use Rattle.desk.specs.Scan.{first}
-use Rattle.desk.specs.Seats.{seatAt, heldIs, firstFrom, hasTicket, placeOf}
+use Rattle.desk.specs.Scan.{firstPassing}
+use Rattle.desk.specs.Seats.{seatAt, heldIs, firstFrom, hasTicket, seatOf}
 use Rattle.desk.specs.Soundness.{soundOf}
 use Rattle.desk.specs.Desk.{noDesk, freshOf, openOf, closeOf, nextOf, haveLengths, turnOf}
 use Rattle.desk.specs.declared.Desk.{Desk}
@@ -28,7 +28,7 @@ use Rattle.desk.proofs.Soundness.{sound-last, sound-seat}
 use Rattle.desk.proofs.Lengths.{lengths-same, same-lengths, other-lengths, lengths-other}
 use Rattle.desk_laws.specs.InWords.{AllHeld, NoneHeld, SomeFree, NoneHas, LowestFree, onFrom, NextHeld, OfItsLength, FreshInWords, OpenInWords, CloseInWords, TurnInWords, HandsBack, RefusedAltersNothing}
 use Rattle.desk_laws.proofs.OwnNumbers.{own-low}
-use Rattle.desk_laws.proofs.Sound.{own-place, place-found}
+use Rattle.desk_laws.proofs.Sound.{own-seat, seat-found}
 use Rattle.desk_laws.proofs.NewDesk.{no-desk-sound}
 
 -- ---- one answer, one number
@@ -49,7 +49,7 @@ refused-no e f = true≢false (sym (ap isGiven f) ∙ e)
 
 -- ---- which seat it is
 module _ (d : Desk) where
-  -- free seats, from the first place on
+  -- free seats, from the first seat on
   none-free : AllHeld d → firstFrom d false 0 ≡ seatCount
   none-free h =
       first-none (heldIs d false) 0 seatCount
@@ -73,35 +73,35 @@ module _ (d : Desk) where
   found-free : firstFrom d false 0 < seatCount → SomeFree d
   found-free l =
       let i = firstFrom d false 0 in
-      let m : first (heldIs d false) 0 seatCount < 0 + seatCount = l in
+      let m : firstPassing (heldIs d false) 0 seatCount < 0 + seatCount = l in
       let e : i % seatCount ≡ i = omega arith in
       (i, l, rw e at (beq-false (seatAt d (i % seatCount) .held) (first-found (heldIs d false) 0 seatCount m)))
 
   lowest : (i : ℕ) → LowestFree d i → firstFrom d false 0 ≡ i
   lowest i w =
-      let m = w .place in
+      let m = w .among in
       let e : i % seatCount ≡ i = omega arith in
       let h : heldIs d false i ≡ true = rw (e, w .free) in
       first-is (heldIs d false) 0 seatCount i (omega arith) (omega arith) h
       (λ j l b. (let f : j % seatCount ≡ j = omega arith in rw (f, w .below j b)))
 
   -- a ticket's seat
-  none-has : (k : ℕ) → seatCount ≤ placeOf d k → NoneHas d k
+  none-has : (k : ℕ) → seatCount ≤ seatOf d k → NoneHas d k
   unfolding both
   none-has k l i m h e =
       let t : hasTicket d k i ≡ true = rw h (eq-eqb _ _ e) in
       let b = first-le (hasTicket d k) 0 seatCount i (omega arith) t in
       omega arith
 
-  has-none : (k : ℕ) → NoneHas d k → ltb (placeOf d k) seatCount ≡ false
-  has-none k h = go (ltb (placeOf d k) seatCount) refl
+  has-none : (k : ℕ) → NoneHas d k → ltb (seatOf d k) seatCount ≡ false
+  has-none k h = go (ltb (seatOf d k) seatCount) refl
     where
-      go : (b : Bool) → ltb (placeOf d k) seatCount ≡ b → ltb (placeOf d k) seatCount ≡ false
+      go : (b : Bool) → ltb (seatOf d k) seatCount ≡ b → ltb (seatOf d k) seatCount ≡ false
       go false e = e
       go true e =
-          let l = ltb-true (placeOf d k) seatCount e in
-          let f = place-found d k l in
-          absurd (h (placeOf d k) l (f .0) (f .1))
+          let l = ltb-true (seatOf d k) seatCount e in
+          let f = seat-found d k l in
+          absurd (h (seatOf d k) l (f .0) (f .1))
 
   -- the round after the last served
   module _ (last : d .«last_served» < seatCount) where
@@ -223,7 +223,7 @@ module _ (r : Request) (d : Desk) where
           always = λ w. rw (w .0, accepted-checked (r .condition) (w .1), lt-ltb _ _ (free-found d (w .2)), le-ltb _ _ (w .3));
         };
         takes = λ i s g w l.
-            let m = w .place in
+            let m = w .among in
             rw (s, accepted-checked (r .condition) g, lowest d i w, lt-ltb i seatCount m, lt-ltb _ _ l);
       }
 
@@ -231,27 +231,27 @@ module _ (r : Request) (d : Desk) where
 module _ (k : ℕ) (d : Desk) where
   close-unsound : closeOf k d .answer ≡ refuses notSound → soundOf d ≡ false
   unfolding closeOf
-  close-unsound h = go (soundOf d) (ltb (placeOf d k) seatCount) refl refl
+  close-unsound h = go (soundOf d) (ltb (seatOf d k) seatCount) refl refl
     where
-      go : (a b : Bool) → soundOf d ≡ a → ltb (placeOf d k) seatCount ≡ b → soundOf d ≡ false
+      go : (a b : Bool) → soundOf d ≡ a → ltb (seatOf d k) seatCount ≡ b → soundOf d ≡ false
       go false b e f = e
       go true false e f = absurd (omega (arith, same-number noTicket notSound (rw (e, f)) h))
       go true true e f = absurd (given-no (rw (e, f)) h)
 
   close-nobody : closeOf k d .answer ≡ refuses noTicket → (soundOf d ≡ true) × NoneHas d k
   unfolding closeOf
-  close-nobody h = go (soundOf d) (ltb (placeOf d k) seatCount) refl refl
+  close-nobody h = go (soundOf d) (ltb (seatOf d k) seatCount) refl refl
     where
-      go : (a b : Bool) → soundOf d ≡ a → ltb (placeOf d k) seatCount ≡ b → (soundOf d ≡ true) × NoneHas d k
+      go : (a b : Bool) → soundOf d ≡ a → ltb (seatOf d k) seatCount ≡ b → (soundOf d ≡ true) × NoneHas d k
       go false b e f = absurd (omega (arith, same-number notSound noTicket (rw e) h))
       go true false e f = (e, none-has d k (ltb-false _ _ f))
       go true true e f = absurd (given-no (rw (e, f)) h)
 
   close-back : HandsBack d (closeOf k d)
   unfolding closeOf
-  close-back n h = go (soundOf d) (ltb (placeOf d k) seatCount) refl refl
+  close-back n h = go (soundOf d) (ltb (seatOf d k) seatCount) refl refl
     where
-      go : (a b : Bool) → soundOf d ≡ a → ltb (placeOf d k) seatCount ≡ b → closeOf k d .desk ≡ d
+      go : (a b : Bool) → soundOf d ≡ a → ltb (seatOf d k) seatCount ≡ b → closeOf k d .desk ≡ d
       go false b e f = rw e
       go true false e f = rw (e, f)
       go true true e f = absurd (given-no (rw (e, f)) h)
@@ -263,8 +263,8 @@ module _ (k : ℕ) (d : Desk) where
         unsound = record { only = close-unsound; always = λ e. rw e };
         nobody = record { only = close-nobody; always = λ w. rw (w .0, has-none d k (w .1)) };
         frees = λ i s w.
-            let m = w .place in
-            let e : placeOf d k ≡ i = ap (placeOf d) (sym (w .has)) ∙ own-place d s i m (w .held) in
+            let m = w .among in
+            let e : seatOf d k ≡ i = ap (seatOf d) (sym (w .has)) ∙ own-seat d s i m (w .held) in
             rw (s, e, lt-ltb i seatCount m);
       }
 
@@ -277,7 +277,7 @@ module _ (f : Files) (d : Desk) where
   served-not-idle s l e h =
       let j = firstFrom d true (d .«last_served» + 1) in
       let i = j % seatCount in
-      let m : first (heldIs d true) (d .«last_served» + 1) seatCount < d .«last_served» + 1 + seatCount = l in
+      let m : firstPassing (heldIs d true) (d .«last_served» + 1) seatCount < d .«last_served» + 1 + seatCount = l in
       let held = beq-true (seatAt d i .held) (first-found (heldIs d true) (d .«last_served» + 1) seatCount m) in
       let some = servable _ _ _ (sound-seat d s i (omega arith) held) .numbered in
       let q : gives (serveOf f (seatAt d i) .answer) ≡ gives idle = sym e ∙ h in

@@ -7,19 +7,19 @@ use Prim.Native.Nat.{ℕ, _+_, _%_, _<_}
 use native.Mathlib.Omega.{arith}
 use lib.ListN.{length}
 use Rattle.basis.specs.Answer.{gives}
-use Rattle.seat.specs.Files.{Files}
-use Rattle.seat.specs.Request.{Request}
-use Rattle.seat.specs.Answers.{Turned, ticketOf}
-use Rattle.seat.specs.Seat.{freeSeat, seatFor}
-use Rattle.seat.specs.Serving.{serveOf}
-use Rattle.seat.proofs.Serving.{served-answer}
+use Rattle.desk_seat.specs.Files.{Files}
+use Rattle.desk_seat.specs.Request.{Request}
+use Rattle.desk_seat.specs.Answers.{Turned, ticketOf}
+use Rattle.desk_seat.specs.Seat.{freeSeat, seatFor}
+use Rattle.desk_seat.specs.Serving.{serveOf}
+use Rattle.desk_seat.proofs.Serving.{served-answer}
 use Rattle.desk.specs.Bounds.{seatCount}
 use Rattle.desk.specs.Answers.{After}
-use Rattle.desk.specs.Seats.{seatAt, firstFrom, placeOf}
+use Rattle.desk.specs.Seats.{seatAt, firstFrom, seatOf}
 use Rattle.desk.specs.Soundness.{soundOf}
 use Rattle.desk.specs.Desk.{openOf, closeOf, turnOf}
 use Rattle.desk.specs.declared.Desk.{Desk}
-use Rattle.desk_laws.proofs.Sound.{Sound, sound-in, sound-out, place-found, at-other}
+use Rattle.desk_laws.proofs.Sound.{Sound, sound-in, sound-out, seat-found, at-other}
 use Rattle.desk_laws.proofs.Steps.{open-cases, was-free, opened-sound, close-cases, closed-sound, turn-cases, turned-sound, turn-refused}
 
 module _ (d : Desk) (o : Sound d) where
@@ -27,7 +27,7 @@ module _ (d : Desk) (o : Sound d) where
   open-lasts r = ⊎-elim (λ n. rw (n .1) o) (λ w. rw (w .is) (opened-sound r d o w)) (open-cases r d)
 
   pub close-lasts : (k : ℕ) → Sound (closeOf k d .desk)
-  close-lasts k = ⊎-elim (λ n. rw n o) (λ w. rw (w .1) (closed-sound d o (placeOf d k) (w .0))) (close-cases k d)
+  close-lasts k = ⊎-elim (λ n. rw n o) (λ w. rw (w .1) (closed-sound d o (seatOf d k) (w .0))) (close-cases k d)
 
   pub turn-lasts : (f : Files) → Sound (turnOf f d .desk)
   turn-lasts f =
@@ -59,8 +59,8 @@ module _ (d : Desk) (o : Sound d) (i : ℕ) (li : i < seatCount) (held : seatAt 
   close-alters-no-other k nk =
       ⊎-elim (λ n. rw n)
       (λ w.
-      let p = placeOf d k in
-      let ne : i ≡ p → ⊥ = λ q. nk (ap (λ (x : ℕ). seatAt d x .ticket) q ∙ place-found d k (w .0) .1) in
+      let p = seatOf d k in
+      let ne : i ≡ p → ⊥ = λ q. nk (ap (λ (x : ℕ). seatAt d x .ticket) q ∙ seat-found d k (w .0) .1) in
       rw (w .1) (at-other d o p (w .0) freeSeat (d .«last_served») (d .issued) i ne))
       (close-cases k d)
 

@@ -9,14 +9,14 @@ use lib.ListN.{length}
 use Rattle.basis.specs.Choice.{both, every}
 use Rattle.basis.specs.Answer.{gives}
 use Rattle.value.specs.Refusals.{wrongTimetable, notSound}
-use Rattle.seat.specs.Files.{Files}
-use Rattle.seat.specs.Request.{Request}
-use Rattle.seat.specs.Bounds.{maxTimetable}
-use Rattle.seat.proofs.Conditions.{accepted-checked}
+use Rattle.desk_seat.specs.Files.{Files}
+use Rattle.desk_seat.specs.Request.{Request}
+use Rattle.desk_seat.specs.Bounds.{maxTimetable}
+use Rattle.desk_seat.proofs.Conditions.{accepted-checked}
 use Rattle.desk.specs.Bounds.{seatCount}
-use Rattle.desk.specs.Scan.{first, all}
+use Rattle.desk.specs.Scan.{firstPassing, all}
 use Rattle.desk.specs.Seats.{firstFrom}
-use Rattle.desk.specs.Soundness.{placeSound, soundOf}
+use Rattle.desk.specs.Soundness.{soundAt, soundOf}
 use Rattle.desk.specs.Desk.{refused, freshDesk, noDesk, freshOf, freshFor, openOf, closeOf, haveLengths, turnOf}
 use Rattle.desk.specs.declared.Desk.{Desk}
 use Rattle.desk.proofs.Lengths.{lengths-same, same-lengths}
@@ -24,11 +24,11 @@ use Rattle.desk_laws.proofs.Sound.{Sound}
 use Rattle.desk_laws.proofs.Steps.{Seated}
 
 pub fresh-sound : (n : ℕ) → n ≤ maxTimetable → soundOf (freshDesk n) ≡ true
-unfolding soundOf every both all placeSound
+unfolding soundOf every both all soundAt
 fresh-sound n l = rw (le-leb n maxTimetable l)
 
 pub fresh-free : (n : ℕ) → firstFrom (freshDesk n) false 0 ≡ 0
-unfolding first
+unfolding firstPassing
 fresh-free n = refl
 
 -- ---- for files that have a sound desk's lengths

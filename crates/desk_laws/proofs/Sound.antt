@@ -12,20 +12,20 @@ use lib.Seq.{getD-set-same, getD-set-other}
 use Rattle.basis.specs.Choice.{pick, both, every}
 use Rattle.basis.proofs.Tests.{both-left, both-right}
 use Rattle.timetable.proofs.Offsets.{next-within, next-further}
-use Rattle.seat.specs.Files.{Files}
-use Rattle.seat.specs.Bounds.{maxTimetable}
-use Rattle.seat.specs.Query.{Result, hit, miss, unreadable}
-use Rattle.seat.specs.Soundness.{seatSound}
-use Rattle.seat.specs.Serving.{hasLine, afterLine, judgedAs}
-use Rattle.seat.specs.declared.Seat.{Seat}
-use Rattle.seat.proofs.Soundness.{every-at}
+use Rattle.desk_seat.specs.Files.{Files}
+use Rattle.desk_seat.specs.Bounds.{maxTimetable}
+use Rattle.desk_seat.specs.Conditions.{Result, hit, miss, unreadable}
+use Rattle.desk_seat.specs.Soundness.{seatSound}
+use Rattle.desk_seat.specs.Serving.{hasLine, afterLine, judgedAs}
+use Rattle.desk_seat.specs.declared.Seat.{Seat}
+use Rattle.desk_seat.proofs.Soundness.{every-at}
 use Rattle.desk.specs.Bounds.{seatCount}
-use Rattle.desk.specs.Scan.{first}
-use Rattle.desk.specs.Seats.{seatAt, hasTicket, placeOf}
-use Rattle.desk.specs.Soundness.{placeSound, soundOf}
+use Rattle.desk.specs.Scan.{firstPassing}
+use Rattle.desk.specs.Seats.{seatAt, hasTicket, seatOf}
+use Rattle.desk.specs.Soundness.{soundAt, soundOf}
 use Rattle.desk.specs.declared.Desk.{Desk}
 use Rattle.desk.proofs.Scans.{all-make, first-le, first-found}
-use Rattle.desk.proofs.Soundness.{sound-last, sound-length, sound-place, sound-seat}
+use Rattle.desk.proofs.Soundness.{sound-last, sound-length, sound-at, sound-seat}
 
 pub record Sound (d : Desk) : Type 0 where
   pub size : length (d .seats) ≡ seatCount
@@ -37,12 +37,12 @@ pub record Sound (d : Desk) : Type 0 where
 
 module _ (d : Desk) (h : soundOf d ≡ true) where
   -- a held seat of a sound desk is the first with its ticket
-  pub own-place : (i : ℕ) → i < seatCount → seatAt d i .held ≡ true → placeOf d (seatAt d i .ticket) ≡ i
-  unfolding placeSound
-  own-place i l e =
+  pub own-seat : (i : ℕ) → i < seatCount → seatAt d i .held ≡ true → seatOf d (seatAt d i .ticket) ≡ i
+  unfolding soundAt
+  own-seat i l e =
       eqb-true _ _
-      (both-left (eqb (placeOf d (seatAt d i .ticket)) i) (seatSound (d .issued) (d .«timetable_length») (seatAt d i))
-      (rw e at (sound-place d h i l)))
+      (both-left (eqb (seatOf d (seatAt d i .ticket)) i) (seatSound (d .issued) (d .«timetable_length») (seatAt d i))
+      (rw e at (sound-at d h i l)))
 
 module _ (d : Desk) (z : length (d .seats) ≡ seatCount) (h : soundOf d ≡ true) where
   pub sound-in : Sound d
@@ -52,40 +52,40 @@ module _ (d : Desk) (z : length (d .seats) ≡ seatCount) (h : soundOf d ≡ tru
         lastIn = sound-last d h;
         short = sound-length d h;
         seat = sound-seat d h;
-        apart = λ i j li lj hi hj e. sym (own-place d h i li hi) ∙ ap (placeOf d) e ∙ own-place d h j lj hj;
+        apart = λ i j li lj hi hj e. sym (own-seat d h i li hi) ∙ ap (seatOf d) e ∙ own-seat d h j lj hj;
       }
 
--- the first held place with a ticket is a held place with that ticket
-pub place-found : (d : Desk) (k : ℕ) → placeOf d k < seatCount → (seatAt d (placeOf d k) .held ≡ true) × (seatAt d (placeOf d k) .ticket ≡ k)
-place-found d k l =
-    let i = placeOf d k in
-    let m : first (hasTicket d k) 0 seatCount < 0 + seatCount = l in
+-- the first held seat with a ticket is a held seat with that ticket
+pub seat-found : (d : Desk) (k : ℕ) → seatOf d k < seatCount → (seatAt d (seatOf d k) .held ≡ true) × (seatAt d (seatOf d k) .ticket ≡ k)
+seat-found d k l =
+    let i = seatOf d k in
+    let m : firstPassing (hasTicket d k) 0 seatCount < 0 + seatCount = l in
     let a = first-found (hasTicket d k) 0 seatCount m in
     (both-left (seatAt d i .held) (eqb (seatAt d i .ticket) k) a, eqb-true _ _ (both-right (seatAt d i .held) (eqb (seatAt d i .ticket) k) a))
 
 module _ (d : Desk) (s : Sound d) where
-  place-is : (i : ℕ) → i < seatCount → seatAt d i .held ≡ true → placeOf d (seatAt d i .ticket) ≡ i
+  seat-is : (i : ℕ) → i < seatCount → seatAt d i .held ≡ true → seatOf d (seatAt d i .ticket) ≡ i
   unfolding both
-  place-is i l e =
+  seat-is i l e =
       let k = seatAt d i .ticket in
       let here : hasTicket d k i ≡ true = rw e (eq-eqb k k refl) in
-      let le : placeOf d k ≤ i = first-le (hasTicket d k) 0 seatCount i (omega arith) here in
-      let lt : placeOf d k < seatCount = omega arith in
-      let f = place-found d k lt in
-      s .apart (placeOf d k) i lt l (f .0) e (f .1)
+      let le : seatOf d k ≤ i = first-le (hasTicket d k) 0 seatCount i (omega arith) here in
+      let lt : seatOf d k < seatCount = omega arith in
+      let f = seat-found d k lt in
+      s .apart (seatOf d k) i lt l (f .0) e (f .1)
 
-  place-ok : (i : ℕ) → i < seatCount → placeSound d i ≡ true
-  unfolding placeSound both
-  place-ok i l = go (seatAt d i .held) refl
+  seat-ok : (i : ℕ) → i < seatCount → soundAt d i ≡ true
+  unfolding soundAt both
+  seat-ok i l = go (seatAt d i .held) refl
     where
       go : (b : Bool) → seatAt d i .held ≡ b
-          → pick (seatAt d i .held) (both (eqb (placeOf d (seatAt d i .ticket)) i) (seatSound (d .issued) (d .«timetable_length») (seatAt d i))) true ≡ true
-      go true e = rw (e, eq-eqb _ _ (place-is i l e), s .seat i l e)
+          → pick (seatAt d i .held) (both (eqb (seatOf d (seatAt d i .ticket)) i) (seatSound (d .issued) (d .«timetable_length») (seatAt d i))) true ≡ true
+      go true e = rw (e, eq-eqb _ _ (seat-is i l e), s .seat i l e)
       go false e = rw e
 
   pub sound-out : soundOf d ≡ true
   unfolding soundOf every both
-  sound-out = simp (lt-ltb _ _ (s .lastIn), le-leb _ _ (s .short), all-make (placeSound d) seatCount place-ok)
+  sound-out = simp (lt-ltb _ _ (s .lastIn), le-leb _ _ (s .short), all-make (soundAt d) seatCount seat-ok)
 
 -- ---- a seat is replaced
 -- more tickets issued
@@ -112,7 +112,7 @@ module _ (d : Desk) (o : Sound d) (i : ℕ) (li : i < seatCount) (s : Seat) (las
   pub at-other : (j : ℕ) → (j ≡ i → ⊥) → seatAt (replaced d i s last issued) j ≡ seatAt d j
   at-other j ne = getD-set-other (d .seats) i j s _ ne
 
-  -- a place has the new seat, or what it had
+  -- a seat has the new seat, or what it had
   pub which : (j : ℕ) → ((j ≡ i) × (seatAt (replaced d i s last issued) j ≡ s)) ⊎ ((j ≡ i → ⊥) × (seatAt (replaced d i s last issued) j ≡ seatAt d j))
   which j = elim (ℕ-discrete j i) [ yes q ↦ inl (q, ap (seatAt (replaced d i s last issued)) q ∙ at-same) | no n ↦ inr (n, at-other j n) ]
 

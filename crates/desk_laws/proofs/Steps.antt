@@ -12,21 +12,21 @@ use lib.Seq.{take-append-seam}
 use Rattle.basis.specs.Choice.{both, every}
 use Rattle.basis.specs.Answer.{Answer, gives, refuses}
 use Rattle.value.specs.Refusals.{noSeat, wrongTimetable, notSound, noMoreTickets}
-use Rattle.seat.specs.Files.{Files}
-use Rattle.seat.specs.Request.{Request}
-use Rattle.seat.specs.Bounds.{conditionRoom}
-use Rattle.seat.specs.Query.{accepted, checkOf}
-use Rattle.seat.specs.Answers.{idle}
-use Rattle.seat.specs.Seat.{freeSeat, seatFor}
-use Rattle.seat.specs.Soundness.{seatSound}
-use Rattle.seat.specs.Serving.{resultOf, serveOf}
-use Rattle.seat.specs.declared.Seat.{Seat}
-use Rattle.seat.proofs.Conditions.{checked-accepted, accepted-fits}
-use Rattle.seat.proofs.Soundness.{every-at}
-use Rattle.seat.proofs.Serving.{line-or-done, serve-line, off-free, served-ticket}
+use Rattle.desk_seat.specs.Files.{Files}
+use Rattle.desk_seat.specs.Request.{Request}
+use Rattle.desk_seat.specs.Bounds.{conditionRoom}
+use Rattle.desk_seat.specs.Conditions.{accepted, checkOf}
+use Rattle.desk_seat.specs.Answers.{idle}
+use Rattle.desk_seat.specs.Seat.{freeSeat, seatFor}
+use Rattle.desk_seat.specs.Soundness.{seatSound}
+use Rattle.desk_seat.specs.Serving.{seatResult, serveOf}
+use Rattle.desk_seat.specs.declared.Seat.{Seat}
+use Rattle.desk_seat.proofs.Conditions.{checked-accepted, accepted-fits}
+use Rattle.desk_seat.proofs.Soundness.{every-at}
+use Rattle.desk_seat.proofs.Serving.{line-or-done, serve-line, off-free, served-ticket}
 use Rattle.desk.specs.Bounds.{seatCount, lastTicket}
-use Rattle.desk.specs.Scan.{first}
-use Rattle.desk.specs.Seats.{seatAt, heldIs, firstFrom, placeOf}
+use Rattle.desk.specs.Scan.{firstPassing}
+use Rattle.desk.specs.Seats.{seatAt, heldIs, firstFrom, seatOf}
 use Rattle.desk.specs.Soundness.{soundOf}
 use Rattle.desk.specs.Desk.{refused, openOf, closeOf, afterStep, turnAt, nextOf, haveLengths, turnOf}
 use Rattle.desk.specs.declared.Desk.{Desk}
@@ -38,7 +38,7 @@ use Rattle.desk_laws.proofs.Sound.{Sound, sound-out, replaced, replaced
 served-good : (f : Files) (s : Seat) (k : ℕ) → seatSound k (length (f .timetable)) s ≡ true → serveOf f s .seat .held ≡ true
     → seatSound k (length (f .timetable)) (serveOf f s .seat) ≡ true
 served-good f s k h e =
-    ⊎-elim (λ l. rw (serve-line f s l) (judged-sound f k s (resultOf f s) l h)) (λ l. absurd (true≢false (sym e ∙ off-free f s l)))
+    ⊎-elim (λ l. rw (serve-line f s l) (judged-sound f k s (seatResult f s) l h)) (λ l. absurd (true≢false (sym e ∙ off-free f s l)))
     (line-or-done f s)
 
 -- ---- open
@@ -73,11 +73,11 @@ unfolding seatSound
 old-ticket d o j lj hj = leb-true _ _ (every-at _ 1 (o .seat j lj hj))
 
 module _ (r : Request) (d : Desk) (o : Sound d) (w : Seated r d) where
-  -- the place that open takes was free
+  -- the seat that open takes was free
   pub was-free : seatAt d (firstFrom d false 0) .held ≡ false
   was-free =
       let i = firstFrom d false 0 in
-      let m : first (heldIs d false) 0 seatCount < 0 + seatCount = w .free in
+      let m : firstPassing (heldIs d false) 0 seatCount < 0 + seatCount = w .free in
       let h = beq-false (seatAt d (i % seatCount) .held) (first-found (heldIs d false) 0 seatCount m) in
       let l = w .free in
       let e : i % seatCount ≡ i = omega arith in
@@ -103,12 +103,12 @@ module _ (r : Request) (d : Desk) (o : Sound d) (w : Seated r d) where
 
 -- ---- close
 pub close-cases : (k : ℕ) (d : Desk) → (closeOf k d .desk ≡ d)
-    ⊎ ((placeOf d k < seatCount) × (closeOf k d .desk ≡ replaced d (placeOf d k) freeSeat (d .«last_served») (d .issued)))
+    ⊎ ((seatOf d k < seatCount) × (closeOf k d .desk ≡ replaced d (seatOf d k) freeSeat (d .«last_served») (d .issued)))
 unfolding closeOf
-close-cases k d = go (soundOf d) (ltb (placeOf d k) seatCount) refl refl
+close-cases k d = go (soundOf d) (ltb (seatOf d k) seatCount) refl refl
   where
-    go : (a b : Bool) → soundOf d ≡ a → ltb (placeOf d k) seatCount ≡ b → (closeOf k d .desk ≡ d)
-        ⊎ ((placeOf d k < seatCount) × (closeOf k d .desk ≡ replaced d (placeOf d k) freeSeat (d .«last_served») (d .issued)))
+    go : (a b : Bool) → soundOf d ≡ a → ltb (seatOf d k) seatCount ≡ b → (closeOf k d .desk ≡ d)
+        ⊎ ((seatOf d k < seatCount) × (closeOf k d .desk ≡ replaced d (seatOf d k) freeSeat (d .«last_served») (d .issued)))
     go false b e f = inl (rw e)
     go true false e f = inl (rw (e, f))
     go true true e f = inr (ltb-true _ _ f, rw (e, f))
@@ -137,7 +137,7 @@ module _ (f : Files) (d : Desk) (o : Sound d) (e : haveLengths f d ≡ true) whe
   pub turns-if : firstFrom d true (d .«last_served» + 1) < d .«last_served» + 1 + seatCount → Turns
   turns-if l =
       let j = firstFrom d true (d .«last_served» + 1) in
-      let m : first (heldIs d true) (d .«last_served» + 1) seatCount < d .«last_served» + 1 + seatCount = omega arith in
+      let m : firstPassing (heldIs d true) (d .«last_served» + 1) seatCount < d .«last_served» + 1 + seatCount = omega arith in
       let g : d .«last_served» + 1 ≤ j = first-ge (heldIs d true) (d .«last_served» + 1) seatCount in
       record {
         from = omega arith;

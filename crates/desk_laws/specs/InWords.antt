@@ -1,5 +1,5 @@
 -- Document 01, "Timetable, seats and turns" and "Refusal numbers", in its own words. The definitions of the calls (crate
--- `desk`, Desk.antt) look for a seat by its place; here is said of the sixteen seats which one that is, and of each number
+-- `desk`, Desk.antt) look for a seat by its number; here is said of the sixteen seats which one that is, and of each number
 -- of the table that it is given exactly when the table says. The theorems are `fresh-in-words`, `open-in-words`,
 -- `close-in-words`, `turn-in-words` and `refused-alters-nothing` (proofs/InWords.antt).
 use mathlib.Core.Path.{_≡_}
@@ -9,12 +9,12 @@ use lib.ListN.{length}
 use Rattle.basis.specs.Answer.{gives, refuses}
 use Rattle.basis.specs.Exactly.{Exactly}
 use Rattle.value.specs.Refusals.{noSeat, wrongTimetable, notSound, noTicket, noMoreTickets}
-use Rattle.seat.specs.Files.{Files}
-use Rattle.seat.specs.Request.{Request}
-use Rattle.seat.specs.Bounds.{maxTimetable}
-use Rattle.seat.specs.Query.{accepted, checkOf}
-use Rattle.seat.specs.Answers.{idle}
-use Rattle.seat.specs.Serving.{serveOf}
+use Rattle.desk_seat.specs.Files.{Files}
+use Rattle.desk_seat.specs.Request.{Request}
+use Rattle.desk_seat.specs.Bounds.{maxTimetable}
+use Rattle.desk_seat.specs.Conditions.{accepted, checkOf}
+use Rattle.desk_seat.specs.Answers.{idle}
+use Rattle.desk_seat.specs.Serving.{serveOf}
 use Rattle.desk.specs.Bounds.{seatCount, lastTicket}
 use Rattle.desk.specs.Answers.{After}
 use Rattle.desk.specs.Seats.{seatAt}
@@ -40,23 +40,23 @@ SomeFree d = (i : ℕ) × (i < seatCount) × (seatAt d i .held ≡ false)
 abbrev pub NoneHas : Desk → ℕ → Type 0
 NoneHas d ticket = (i : ℕ) → i < seatCount → seatAt d i .held ≡ true → seatAt d i .ticket ≡ ticket → ⊥
 
--- "the lowest free seat" is at place i
+-- "the lowest free seat" is number i
 pub record LowestFree (d : Desk) (i : ℕ) : Type 0 where
-  pub place : i < seatCount
+  pub among : i < seatCount
   pub free : seatAt d i .held ≡ false
   pub below : (j : ℕ) → j < i → seatAt d j .held ≡ true
 
--- "the ticket's seat" is at place i
+-- "the ticket's seat" is number i
 pub record SeatOf (d : Desk) (ticket i : ℕ) : Type 0 where
-  pub place : i < seatCount
+  pub among : i < seatCount
   pub held : seatAt d i .held ≡ true
   pub has : seatAt d i .ticket ≡ ticket
 
--- the place n places after the last served, going round
+-- the number n seats after the last served, going round
 abbrev pub onFrom : Desk → ℕ → ℕ
 onFrom d n = (d .«last_served» + n) % seatCount
 
--- "the first held seat after the last served, going round" is n places after it: 1 to 16, since the round ends with the last
+-- "the first held seat after the last served, going round" is n seats after it: 1 to 16, since the round ends with the last
 -- served seat itself
 pub record NextHeld (d : Desk) (n : ℕ) : Type 0 where
   pub from : 1 ≤ n

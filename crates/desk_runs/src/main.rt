@@ -1,10 +1,10 @@
 // Stored runs of the desk program: standard input names a timetable and a file of conditions a line, and the program is run over
 // each pair (docs/LINES.md, "Desk runs"). It only reads and writes; the answers are those of crate `desk_host`.
+use condition_words::cut;
 use libc::STDIN_FILENO;
 use libc::STDOUT_FILENO;
-use line_reader::read_line;
 use timetable::fields::field;
-use words::cut;
+use timetable_reader::read_line;
 
 // Runs the program over the two files that a line names, below that line.
 fn run_case(line: &[u8]) {

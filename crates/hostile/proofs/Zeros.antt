@@ -8,7 +8,7 @@ use borrow.Author.Tests.{leb-true, leb-false}
 use native.Mathlib.Omega.{arith}
 use lib.Dec.{leb}
 use lib.ListN.{length, getD}
-use Rattle.hostile.specs.Shown.{Kept}
+use Rattle.hostile.specs.Shown.{KeptBytes}
 
 le-or-lt : (a b : ℕ) → (a ≤ b) ⊎ (b < a)
 le-or-lt a b = go (leb a b) refl
@@ -33,12 +33,12 @@ one-more s r z h e =
     before-is : (i : ℕ) → i < r → r - 1 ≤ i → i ≡ r - 1
     before-is i b m = omega arith
 
-pub last-kept : (s : List ℕ) (r : ℕ) → Zeros s r → (getD s (r - 1) 0 ≡ 0 → ⊥) → Kept s r
+pub last-kept : (s : List ℕ) (r : ℕ) → Zeros s r → (getD s (r - 1) 0 ≡ 0 → ⊥) → KeptBytes s r
 last-kept s r z n = record { within = z .within; zeros = z .zeros; last = λ h e. n e }
 
-pub none-kept : (s : List ℕ) (r : ℕ) → Zeros s r → r ≤ 0 → Kept s r
+pub none-kept : (s : List ℕ) (r : ℕ) → Zeros s r → r ≤ 0 → KeptBytes s r
 none-kept s r z h = record { within = z .within; zeros = z .zeros; last = λ l e. omega arith }
 
 -- the number of bytes that are kept is determined
-pub one-kept : (s : List ℕ) (r q : ℕ) → Kept s r → Kept s q → r ≡ q
+pub one-kept : (s : List ℕ) (r q : ℕ) → KeptBytes s r → KeptBytes s q → r ≡ q
 one-kept s r q a b = ⊎-elim (λ l. ⊎-elim (λ m. omega arith) (λ m. absurd (b .last (omega arith) (a .zeros (q - 1) (omega (arith, b .within)) (omega arith)))) (le-or-lt q r)) (λ l. absurd (a .last (omega arith) (b .zeros (r - 1) (omega (arith, a .within)) (omega arith)))) (le-or-lt r q)

@@ -21,9 +21,9 @@ pub enum SeatNumber {
     ConditionLength(usize),
 }
 
-// An event, with its numbers. `Seat` and `Condition` have the seat's place first. The texts of `Open` and `Condition`
+// An event, with its numbers. `Seat` and `Condition` have the number of the seat first. The texts of `Open` and `Condition`
 // stay in the line.
-pub enum Event {
+pub enum ScriptEvent {
     Fresh(usize),
     Part(usize),
     Open,

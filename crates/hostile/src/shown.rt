@@ -3,7 +3,7 @@ ghost use Rattle.hostile.specs.Shown as the;
 
 // The number of bytes up to the last that is not zero.
 pub fn kept(s: &[u8]) -> usize
-    ensures { λ r. ⌜ the.Kept (now (s .entry)) r ⌝ }
+    ensures { λ r. ⌜ the.KeptBytes (now (s .entry)) r ⌝ }
 {
     let mut long = s.len();
     while 0 < long {

@@ -6,8 +6,8 @@ use Prim.Native.Nat.{ℕ}
 use lib.ListN.{length}
 use Rattle.basis.specs.Answer.{refuses}
 use Rattle.value.specs.Refusals.{wrongTimetable, notSound}
-use Rattle.seat.specs.Files.{Files}
-use Rattle.seat.specs.Answers.{Turned, turnMeaning}
+use Rattle.desk_seat.specs.Files.{Files}
+use Rattle.desk_seat.specs.Answers.{Turned, turnMeaning}
 use Rattle.desk.specs.Bounds.{seatCount}
 use Rattle.desk.specs.Answers.{After, afterTurn}
 use Rattle.desk.specs.Soundness.{soundOf}

@@ -1,16 +1,16 @@
 // What the hostile desks answer (docs/LINES.md, "Hostile desks"), written to standard output.
+use condition_words::cut;
 use desk::CloseAnswer;
 use desk::Desk;
 use desk::FreshAnswer;
+use desk_seat::Seat;
 use hostile::shown::kept;
 use libc::STDOUT_FILENO;
 use output_lines::LineText;
 use output_lines::refused_line;
 use output_lines::turn_line;
 use output_turns::TurnsAnswer;
-use seat::Seat;
 use value::Refusal;
-use words::cut;
 
 // The largest room of many turns.
 const ROOM: usize = 4_096;
@@ -88,7 +88,7 @@ fn tell_bytes(s: &[u8]) {
 }
 
 // Writes the line of a seat, unless it is free and all zeros.
-fn show_seat(place: usize, s: Seat) {
+fn show_seat(index: usize, s: Seat) {
     let condition = s.condition;
     let bytes: &[u8] = &condition;
     let text = cut(bytes, 0, kept(bytes));
@@ -103,7 +103,7 @@ fn show_seat(place: usize, s: Seat) {
         return;
     }
     tell(b"seat");
-    tell_number(place);
+    tell_number(index);
     tell_number(s.held as usize);
     tell_number(s.ticket as usize);
     tell_number(s.offset);

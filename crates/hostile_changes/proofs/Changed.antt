@@ -6,8 +6,8 @@ use native.Mathlib.Omega.{arith}
 use borrow.Author.Tests.{le-leb, lt-leb, lt-ltb, le-ltb}
 use lib.ListN.{length, take, drop, set, replicate}
 use lib.Seq.{take-all}
-use Rattle.seat.specs.Bounds.{conditionRoom}
-use Rattle.seat.specs.declared.Seat.{Seat}
+use Rattle.desk_seat.specs.Bounds.{conditionRoom}
+use Rattle.desk_seat.specs.declared.Seat.{Seat}
 use Rattle.desk.specs.Bounds.{seatCount}
 use Rattle.desk.specs.declared.Desk.{Desk}
 use Rattle.hostile_changes.specs.Changes.{conditionWith, withSeat}
@@ -31,12 +31,12 @@ module _ (s : Seat) (text : List ℕ) where
       rw (le-leb (length text) conditionRoom h)
       (λ i. record { held = s .held; ticket = s .ticket; offset = s .offset; hits = s .hits; unreadable = s .unreadable; «condition_length» = s .«condition_length»; condition = w i })
 
-module _ (d : Desk) (place : ℕ) where
-  pub no-place : (s : Seat) → seatCount ≤ place → d ≡ withSeat d place s
-  no-place s h = rw (le-ltb place seatCount h)
+module _ (d : Desk) (index : ℕ) where
+  pub no-seat : (s : Seat) → seatCount ≤ index → d ≡ withSeat d index s
+  no-seat s h = rw (le-ltb index seatCount h)
 
-  pub seat-changed : {x s : Seat} → x ≡ s → place < seatCount
-      → record { seats = set (d .seats) place x; «last_served» = d .«last_served»; «timetable_length» = d .«timetable_length»; issued = d .issued } ≡ withSeat d place s
+  pub seat-changed : {x s : Seat} → x ≡ s → index < seatCount
+      → record { seats = set (d .seats) index x; «last_served» = d .«last_served»; «timetable_length» = d .«timetable_length»; issued = d .issued } ≡ withSeat d index s
   seat-changed e h =
-      rw (lt-ltb place seatCount h)
-      (λ i. record { seats = set (d .seats) place (e i); «last_served» = d .«last_served»; «timetable_length» = d .«timetable_length»; issued = d .issued })
+      rw (lt-ltb index seatCount h)
+      (λ i. record { seats = set (d .seats) index (e i); «last_served» = d .«last_served»; «timetable_length» = d .«timetable_length»; issued = d .issued })

@@ -4,8 +4,8 @@ use Prim.Native.Nat.{ℕ, _-_}
 use lib.Dec.{ltb, leb}
 use lib.ListN.{length, set, replicate}
 use Rattle.basis.specs.Choice.{pick}
-use Rattle.seat.specs.Bounds.{conditionRoom}
-use Rattle.seat.specs.declared.Seat.{Seat}
+use Rattle.desk_seat.specs.Bounds.{conditionRoom}
+use Rattle.desk_seat.specs.declared.Seat.{Seat}
 use Rattle.desk.specs.Bounds.{seatCount}
 use Rattle.desk.specs.Seats.{seatAt}
 use Rattle.desk.specs.declared.Desk.{Desk}
@@ -20,7 +20,7 @@ deskWith d (D.LastServed n) = record { seats = d .seats; «last_served» = n; «
 deskWith d (D.Length n) = record { seats = d .seats; «last_served» = d .«last_served»; «timetable_length» = n; issued = d .issued }
 deskWith d (D.Issued n) = record { seats = d .seats; «last_served» = d .«last_served»; «timetable_length» = d .«timetable_length»; issued = n }
 
--- `seat→I→NAME→N`: "that number of the seat at place I becomes N"
+-- `seat→I→NAME→N`: "that number of the seat at number I becomes N"
 abbrev pub seatWith : Seat → SeatNumber → Seat
 seatWith s (S.Held h) = record { held = h; ticket = s .ticket; offset = s .offset; hits = s .hits; unreadable = s .unreadable; «condition_length» = s .«condition_length»; condition = s .condition }
 seatWith s (S.Ticket n) = record { held = s .held; ticket = n; offset = s .offset; hits = s .hits; unreadable = s .unreadable; «condition_length» = s .«condition_length»; condition = s .condition }
@@ -36,15 +36,15 @@ conditionWith s text =
     (record { held = s .held; ticket = s .ticket; offset = s .offset; hits = s .hits; unreadable = s .unreadable; «condition_length» = s .«condition_length»; condition = text ++ replicate (conditionRoom - length text) 0 })
     s
 
--- the desk with another seat at a place
+-- the desk with another seat of a number
 abbrev pub withSeat : Desk → ℕ → Seat → Desk
-withSeat d place s =
-    pick (ltb place seatCount)
-    (record { seats = set (d .seats) place s; «last_served» = d .«last_served»; «timetable_length» = d .«timetable_length»; issued = d .issued })
+withSeat d index s =
+    pick (ltb index seatCount)
+    (record { seats = set (d .seats) index s; «last_served» = d .«last_served»; «timetable_length» = d .«timetable_length»; issued = d .issued })
     d
 
 abbrev pub numberAt : Desk → ℕ → SeatNumber → Desk
-numberAt d place number = withSeat d place (seatWith (seatAt d place) number)
+numberAt d index number = withSeat d index (seatWith (seatAt d index) number)
 
-abbrev pub conditionAt : Desk → ℕ → List ℕ → Desk
-conditionAt d place text = withSeat d place (conditionWith (seatAt d place) text)
+abbrev pub conditionSet : Desk → ℕ → List ℕ → Desk
+conditionSet d index text = withSeat d index (conditionWith (seatAt d index) text)

@@ -1,8 +1,8 @@
 // The desk after `set` and `seat`: one number of it, or of a seat, or a seat's condition is another.
 use desk::Desk;
+use desk_seat::Seat;
 use hostile::DeskNumber;
 use hostile::SeatNumber;
-use seat::Seat;
 ghost use mathlib.Core.Path.{_≡_};
 ghost use Rattle.hostile_changes.specs.Changes as the;
 
@@ -45,24 +45,24 @@ fn with_condition(mut seat: Seat, text: &[u8]) -> Seat
     seat
 }
 
-// `seat`: a number of the seat at a place. A place past the last alters nothing.
-pub fn set_seat(mut desk: Desk, place: usize, number: SeatNumber) -> Desk
-    ensures { λ r. ⌜ r ≡ the.numberAt desk place number ⌝ }
+// `seat`: a number of the seat of a number. A number past the last alters nothing.
+pub fn set_seat(mut desk: Desk, index: usize, number: SeatNumber) -> Desk
+    ensures { λ r. ⌜ r ≡ the.numberAt desk index number ⌝ }
 {
-    if Desk::SEATS <= place {
+    if Desk::SEATS <= index {
         return desk;
     }
-    desk.seats[place] = with_number(desk.seats[place], number);
+    desk.seats[index] = with_number(desk.seats[index], number);
     desk
 }
 
-// `seat`: the condition of the seat at a place, likewise.
-pub fn set_condition(mut desk: Desk, place: usize, text: &[u8]) -> Desk
-    ensures { λ r. ⌜ r ≡ the.conditionAt desk place (now (text .entry)) ⌝ }
+// `seat`: the condition of the seat of a number, likewise.
+pub fn set_condition(mut desk: Desk, index: usize, text: &[u8]) -> Desk
+    ensures { λ r. ⌜ r ≡ the.conditionSet desk index (now (text .entry)) ⌝ }
 {
-    if Desk::SEATS <= place {
+    if Desk::SEATS <= index {
         return desk;
     }
-    desk.seats[place] = with_condition(desk.seats[place], text);
+    desk.seats[index] = with_condition(desk.seats[index], text);
     desk
 }

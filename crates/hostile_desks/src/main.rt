@@ -1,10 +1,10 @@
 // Hostile desks: a script builds desks, sound or not, and makes the desk's calls on them (docs/LINES.md, "Hostile desks").
 // It only reads and hands on: crate `hostile` says which event a line is, `hostile_changes` has the desk after `set` and
 // `seat`, `desk`, `output_lines` and `output_turns` have the other answers, and `hostile_answers` writes them.
+use condition_words::cut;
 use desk::Desk;
-use hostile::Event;
+use hostile::ScriptEvent;
 use hostile::events::event;
-use line_fields::fields::after_tab;
 use hostile::fields::condition_text;
 use hostile_answers::NO_EVENT;
 use hostile_answers::show;
@@ -20,9 +20,9 @@ use hostile_changes::set_condition;
 use hostile_changes::set_desk;
 use hostile_changes::set_seat;
 use libc::STDIN_FILENO;
-use line_reader::read_line;
+use line_fields::fields::after_tab;
 use output_lines::open_line;
-use words::cut;
+use timetable_reader::read_line;
 
 // The most bytes of a script.
 const MAX_INPUT: usize = 65_536;
@@ -50,36 +50,36 @@ fn close(desk: Desk, ticket: u32) -> Desk {
 }
 
 // The desk after an event.
-fn desk_after(desk: Desk, t: &[u8], line: &[u8], event: Event) -> Desk {
+fn desk_after(desk: Desk, t: &[u8], line: &[u8], event: ScriptEvent) -> Desk {
     match event {
-        Event::Fresh(n) => return fresh(n),
-        Event::Part(_) => tell(b"part\n"),
-        Event::Open => return open(desk, after_tab(line)),
-        Event::Close(ticket) => return close(desk, ticket),
-        Event::Turn => return turn(desk, t),
-        Event::Turns(long) => return turns(desk, t, long),
-        Event::Sound => tell_sound(desk.sound()),
-        Event::Show => show(desk),
-        Event::Set(number) => {
+        ScriptEvent::Fresh(n) => return fresh(n),
+        ScriptEvent::Part(_) => tell(b"part\n"),
+        ScriptEvent::Open => return open(desk, after_tab(line)),
+        ScriptEvent::Close(ticket) => return close(desk, ticket),
+        ScriptEvent::Turn => return turn(desk, t),
+        ScriptEvent::Turns(long) => return turns(desk, t, long),
+        ScriptEvent::Sound => tell_sound(desk.sound()),
+        ScriptEvent::Show => show(desk),
+        ScriptEvent::Set(number) => {
             tell(b"set\n");
             return set_desk(desk, number);
         }
-        Event::Seat(place, number) => {
+        ScriptEvent::Seat(index, number) => {
             tell(b"set\n");
-            return set_seat(desk, place, number);
+            return set_seat(desk, index, number);
         }
-        Event::Condition(place) => {
+        ScriptEvent::Condition(index) => {
             tell(b"set\n");
-            return set_condition(desk, place, condition_text(line));
+            return set_condition(desk, index, condition_text(line));
         }
-        Event::NoEvent => tell_refused(NO_EVENT),
+        ScriptEvent::NoEvent => tell_refused(NO_EVENT),
     }
     desk
 }
 
 // The bytes of the file that are the timetable after an event; `part` alone is about them.
-fn part_after(part: usize, event: Event) -> usize {
-    if let Event::Part(n) = event {
+fn part_after(part: usize, event: ScriptEvent) -> usize {
+    if let ScriptEvent::Part(n) = event {
         return n;
     }
     part

@@ -3,8 +3,8 @@
 use condition::Judged;
 use libc::STDIN_FILENO;
 use libc::STDOUT_FILENO;
-use line_reader::read_line;
 use timetable::fields::field;
+use timetable_reader::read_line;
 ghost use Prim.Native.Nat.{ℕ, _+_, _-_, _≤_, _<_};
 ghost use lib.ListN.{length};
 

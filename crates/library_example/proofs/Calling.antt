@@ -1,4 +1,4 @@
--- The desk after a line, by what the line is, and after the lines from a place on.
+-- The desk after a line, by what the line is, and after the lines from an offset on.
 use mathlib.Core.Path.{_≡_, refl, sym, ap, _∙_}
 use mathlib.Core.Bool.{Bool, true, false}
 use mathlib.Core.List.{List}
@@ -8,14 +8,14 @@ use lib.Dec.{eqb}
 use lib.ListN.{length}
 use borrow.Author.Tests.{eq-eqb, ne-eqb}
 use Rattle.basis.specs.Choice.{pick}
-use Rattle.timetable.specs.Lines.{Line, lineEnd, lineAt, nextLine, linesFrom, placedLines}
+use Rattle.timetable.specs.Lines.{Line, lineEnd, lineAt, nextLine, linesFrom, offsetLines}
 use Rattle.timetable.proofs.Offsets.{line-cut, lines-end, lines-next, next-further}
 use Rattle.line_fields.specs.Fields.{afterTab}
-use Rattle.seat.specs.Files.{Files}
-use Rattle.seat.specs.Request.{asking}
+use Rattle.desk_seat.specs.Files.{Files}
+use Rattle.desk_seat.specs.Request.{asking}
 use Rattle.desk.specs.Desk.{openOf, closeOf, turnOf}
 use Rattle.desk.specs.declared.Desk.{Desk}
-use Rattle.library_lines.specs.Calls.{lineIn, callIn, callAt, conditionAt, ticketIn, ticketAt}
+use Rattle.library_lines.specs.Calls.{lineFrom, callIn, callAt, conditionAt, ticketIn, ticketAt}
 use Rattle.library_example.specs.After.{afterCall, afterCalls}
 
 -- ---- one line, by the number of its call
@@ -49,27 +49,27 @@ module _ (f : Files) (k : ℕ) (line : List ℕ) (d : Desk) where
   same-is : (k ≡ 1 → ⊥) → (k ≡ 2 → ⊥) → (k ≡ 3 → ⊥) → d ≡ afterCall f k line d
   same-is n₁ n₂ n₃ = sym (λ i. pick (ne-eqb k 3 n₃ i) closed d) ∙ sym (λ i. pick (ne-eqb k 2 n₂ i) opened third) ∙ not-first n₁
 
--- ---- the line at a place
+-- ---- the line at an offset
 abbrev pub Goes : Files → List ℕ → ℕ → Desk → Desk → Type 0
-Goes f input i d h = h ≡ afterCall f (callAt input i) (lineIn input i) d
+Goes f input i d h = h ≡ afterCall f (callAt input i) (lineFrom input i) d
 
 module _ (f : Files) (input : List ℕ) (i : ℕ) (d : Desk) {h : Desk} {k : ℕ} (e : k ≡ callAt input i) where
-  renamed : {x : Desk} → x ≡ afterCall f k (lineIn input i) d → h ≡ x → Goes f input i d h
-  renamed p q = q ∙ p ∙ ap (λ (n : ℕ). afterCall f n (lineIn input i) d) e
+  renamed : {x : Desk} → x ≡ afterCall f k (lineFrom input i) d → h ≡ x → Goes f input i d h
+  renamed p q = q ∙ p ∙ ap (λ (n : ℕ). afterCall f n (lineFrom input i) d) e
 
   pub by-turn : k ≡ 1 → h ≡ turnOf f d .desk → Goes f input i d h
-  by-turn y q = renamed (turned-is f k (lineIn input i) d y) q
+  by-turn y q = renamed (turned-is f k (lineFrom input i) d y) q
 
   pub by-open : k ≡ 2 → {c : List ℕ} → c ≡ conditionAt input i → h ≡ openOf (asking c) d .desk → Goes f input i d h
-  by-open y ec q = renamed (opened-is f k (lineIn input i) d y) (q ∙ ap (λ (x : List ℕ). openOf (asking x) d .desk) ec)
+  by-open y ec q = renamed (opened-is f k (lineFrom input i) d y) (q ∙ ap (λ (x : List ℕ). openOf (asking x) d .desk) ec)
 
   pub by-close : k ≡ 3 → {n : ℕ} → n ≡ ticketAt input i → h ≡ closeOf n d .desk → Goes f input i d h
-  by-close y en q = renamed (closed-is f k (lineIn input i) d y) (q ∙ ap (λ (x : ℕ). closeOf x d .desk) en)
+  by-close y en q = renamed (closed-is f k (lineFrom input i) d y) (q ∙ ap (λ (x : ℕ). closeOf x d .desk) en)
 
   pub by-none : (k ≡ 1 → ⊥) → (k ≡ 2 → ⊥) → (k ≡ 3 → ⊥) → h ≡ d → Goes f input i d h
-  by-none n₁ n₂ n₃ q = renamed (same-is f k (lineIn input i) d n₁ n₂ n₃) q
+  by-none n₁ n₂ n₃ q = renamed (same-is f k (lineFrom input i) d n₁ n₂ n₃) q
 
--- ---- the lines from a place on
+-- ---- the lines from an offset on
 pub goes-on : (f : Files) (input : List ℕ) (i j : ℕ) (d h x : Desk) → i < length input → Goes f input i d h → j ≡ nextLine input i
     → afterCalls f (linesFrom input i) d ≡ x → afterCalls f (linesFrom input j) h ≡ x
 unfolding afterCalls
@@ -83,6 +83,6 @@ pub all-gone : (f : Files) (input : List ℕ) (i : ℕ) (d x : Desk) → length 
 unfolding afterCalls
 all-gone f input i d x l v = sym (ap (λ (ls : List Line). afterCalls f ls d) (lines-end input i l)) ∙ v
 
-pub from-start : (f : Files) (input : List ℕ) (d : Desk) → afterCalls f (linesFrom input 0) d ≡ afterCalls f (placedLines input) d
-unfolding placedLines
+pub from-start : (f : Files) (input : List ℕ) (d : Desk) → afterCalls f (linesFrom input 0) d ≡ afterCalls f (offsetLines input) d
+unfolding offsetLines
 from-start f input d = refl

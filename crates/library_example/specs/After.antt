@@ -6,8 +6,8 @@ use lib.Dec.{eqb}
 use Rattle.basis.specs.Choice.{pick}
 use Rattle.timetable.specs.Lines.{Line}
 use Rattle.line_fields.specs.Fields.{afterTab}
-use Rattle.seat.specs.Files.{Files}
-use Rattle.seat.specs.Request.{asking}
+use Rattle.desk_seat.specs.Files.{Files}
+use Rattle.desk_seat.specs.Request.{asking}
 use Rattle.desk.specs.Desk.{openOf, closeOf, turnOf}
 use Rattle.desk.specs.declared.Desk.{Desk}
 use Rattle.library_lines.specs.Calls.{callIn, ticketIn}

@@ -16,8 +16,8 @@ use library_lines::calls::line_at;
 use library_lines::calls::ticket_at;
 use timetable::lines::next_line;
 ghost use mathlib.Core.Path.{_≡_};
-ghost use Rattle.timetable.specs.Lines.{placedLines};
-ghost use Rattle.seat.specs.Files.{over};
+ghost use Rattle.timetable.specs.Lines.{offsetLines};
+ghost use Rattle.desk_seat.specs.Files.{over};
 ghost use Rattle.library_example.specs.After.{afterCalls};
 
 // The calls that are not about the desk, and a line that is no call.
@@ -27,7 +27,7 @@ fn answer_value(input: &[u8], at: usize) {
 
 // Answers the lines in order.
 fn answer_all(desk: &mut Desk, t: &[u8], input: &[u8])
-    ensures { λ _. ⌜ now (desk .exit) ≡ afterCalls (over (now (t .entry))) (placedLines (now (input .entry))) (now (desk .entry)) ⌝ }
+    ensures { λ _. ⌜ now (desk .exit) ≡ afterCalls (over (now (t .entry))) (offsetLines (now (input .entry))) (now (desk .entry)) ⌝ }
 {
     let mut at: usize = 0;
     while at < input.len() {

@@ -1,13 +1,13 @@
 // The lines that the desk's calls are answered with, a refusal by its number.
 use desk::CloseAnswer;
 use desk::OpenAnswer;
+use desk_seat::At;
+use desk_seat::Totals;
+use desk_seat::TurnAnswer;
 use library_values::told::tell;
 use library_values::told::tell_end;
 use library_values::told::tell_number;
 use library_values::told::tell_refused;
-use seat::At;
-use seat::Totals;
-use seat::TurnAnswer;
 
 pub fn tell_open(answer: OpenAnswer) {
     match answer {

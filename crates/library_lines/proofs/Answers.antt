@@ -2,7 +2,7 @@
 use mathlib.Core.Path.{_≡_, refl, ap}
 use mathlib.Core.Bool.{Bool, true, false}
 use Rattle.basis.specs.Answer.{Answer, gives, refuses}
-use Rattle.library_lines.specs.Late.{meaning}
+use Rattle.library_lines.specs.Late.{latenessMeaning}
 use Rattle.library_lines.specs.declared.late.Lateness.{Lateness}
 use Rattle.library_lines.specs.declared.late.Lateness.the-variants as LV
 
@@ -11,10 +11,10 @@ latenessOf (gives true) = LV.Late
 latenessOf (gives false) = LV.InTime
 latenessOf (refuses n) = LV.Refused (record { number = n })
 
-lateness-back : (a : Lateness) → latenessOf (meaning a) ≡ a
+lateness-back : (a : Lateness) → latenessOf (latenessMeaning a) ≡ a
 lateness-back LV.Late = refl
 lateness-back LV.InTime = refl
 lateness-back (LV.Refused r) = refl
 
-pub lateness-determined : (a b : Lateness) → meaning a ≡ meaning b → a ≡ b
+pub lateness-determined : (a b : Lateness) → latenessMeaning a ≡ latenessMeaning b → a ≡ b
 lateness-determined a b e = cc (ap latenessOf e, lateness-back a, lateness-back b)

@@ -7,16 +7,16 @@ use Rattle.basis.specs.Choice.{pick}
 use Rattle.basis.specs.Letters.{bytes}
 use Rattle.basis.proofs.Tests.{no, yes}
 use Rattle.timetable.specs.Fields.{fieldAt, hasField}
-use Rattle.words.specs.Runs.{same}
+use Rattle.condition_words.specs.Words.{same}
 use Rattle.line_fields.specs.Numbers.{numberOf}
-use Rattle.line_fields.specs.declared.numbers.Number.{Number}
+use Rattle.line_fields.specs.declared.numbers.FieldNumber.{FieldNumber}
 use Rattle.library_lines.specs.Given.{word}
 use Rattle.library_lines.specs.Calls.{closeBy, callBy}
 use Rattle.library_lines.proofs.Fields.{first-of, second-of}
 
-module _ (line : List ℕ) {n : Number} {f : List ℕ} (ef : f ≡ fieldAt line 2) (en : n ≡ numberOf word f) where
+module _ (line : List ℕ) {n : FieldNumber} {f : List ℕ} (ef : f ≡ fieldAt line 2) (en : n ≡ numberOf word f) where
   good : numberOf word (fieldAt line 2) .good ≡ n .good
-  good = ap (λ (x : Number). x .good) (sym (en ∙ ap (numberOf word) ef))
+  good = ap (λ (x : FieldNumber). x .good) (sym (en ∙ ap (numberOf word) ef))
 
   pub no-number : not (n .good) ≡ true → 0 ≡ closeBy line
   unfolding closeBy

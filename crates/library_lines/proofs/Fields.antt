@@ -11,11 +11,11 @@ use Rattle.basis.specs.Letters.{bytes}
 use Rattle.basis.proofs.Tests.{no, yes}
 use Rattle.timetable.specs.Fields.{fieldAt, hasField}
 use Rattle.numerals.specs.Reading.{at}
-use Rattle.words.specs.Runs.{between, same}
-use Rattle.symbols.specs.Symbols.{named}
-use Rattle.symbols.specs.declared.Named.{Named}
+use Rattle.condition_words.specs.Words.{between, same}
+use Rattle.condition_symbols.specs.Symbols.{named}
+use Rattle.condition_symbols.specs.declared.Named.{Named}
 use Rattle.line_fields.specs.Numbers.{greatest, numberOf}
-use Rattle.line_fields.specs.declared.numbers.Number.{Number}
+use Rattle.line_fields.specs.declared.numbers.FieldNumber.{FieldNumber}
 use Rattle.value.specs.declared.Offset.{Offset}
 use Rattle.value.specs.declared.Offset.the-variants.{East, West}
 use Rattle.value.specs.declared.Zone.{Zone}
@@ -24,13 +24,13 @@ use Rattle.value.specs.declared.DateTime.{DateTime}
 use Rattle.value.specs.declared.Kind.{Kind}
 use Rattle.value.specs.declared.Kind.the-variants as KV
 use Rattle.value.specs.declared.Value.the-variants as VV
-use Rattle.library_lines.specs.Given.{short, byte, word, withSign, noSigned, afterSign, signedOf, offsetOf, zoneBy, zoneOf, dayOf, dayAt, partsOf, momentOf, momentAt, ofKind, givenMoment, givenDayTime, givenYearMonth, unlessMore, recordBy, recordNamed, recordAt}
+use Rattle.library_lines.specs.Given.{short, byte, word, withSign, noSigned, afterSign, signedOf, offsetOf, zoneBy, zoneGiven, dayGiven, dayAt, recordParts, momentGiven, momentAt, recordOfKind, givenMoment, givenDayTime, givenYearMonth, unlessMore, recordBy, recordNamed, recordAt}
 use Rattle.library_lines.specs.declared.given.Signed.{Signed}
 use Rattle.library_lines.specs.declared.given.Zoned.{Zoned}
 use Rattle.library_lines.specs.declared.given.Day.{Day}
 use Rattle.library_lines.specs.declared.given.Moment.{Moment}
-use Rattle.library_lines.specs.declared.given.Given.{Given}
-use Rattle.library_lines.specs.declared.given.Given.the-variants as G
+use Rattle.library_lines.specs.declared.given.GivenRecord.{GivenRecord}
+use Rattle.library_lines.specs.declared.given.GivenRecord.the-variants as G
 
 -- a choice whose test is known
 pub first-of : {A : Type 0} {b : Bool} (x y : A) → b ≡ true → x ≡ pick b x y
@@ -40,7 +40,7 @@ pub second-of : {A : Type 0} {b : Bool} (x y : A) → b ≡ false → y ≡ pick
 second-of x y e = sym (λ i. pick (e i) x y)
 
 -- ---- a sign and a number
-module _ (s : List ℕ) (most : ℕ) {sign : ℕ} {n : Number} {t : List ℕ} (eb : sign ≡ at s 0) (et : t ≡ between s 1 (length s)) (en : (n ≡ numberOf most t) × (n .value ≤ most)) where
+module _ (s : List ℕ) (most : ℕ) {sign : ℕ} {n : FieldNumber} {t : List ℕ} (eb : sign ≡ at s 0) (et : t ≡ between s 1 (length s)) (en : (n ≡ numberOf most t) × (n .value ≤ most)) where
   after : n ≡ afterSign most s
   after = en .0 ∙ ap (numberOf most) et
 
@@ -77,41 +77,41 @@ is-east n e = second-of (West (n .value)) (East (n .value)) e
 abbrev zoned : Bool → Zone → Zoned
 zoned g z = record { good = g; zone = z }
 
-pub no-zone : (s : List ℕ) {t : Bool} → t ≡ same s (bytes "none") → t ≡ true → zoned true Absent ≡ zoneOf s
-unfolding zoneOf
+pub no-zone : (s : List ℕ) {t : Bool} → t ≡ same s (bytes "none") → t ≡ true → zoned true Absent ≡ zoneGiven s
+unfolding zoneGiven
 no-zone s et q = first-of (zoned true Absent) (zoneBy (signedOf short s)) (sym et ∙ q)
 
-pub zone-at : (s : List ℕ) {t : Bool} {n : Signed} {o : Offset} → t ≡ same s (bytes "none") → t ≡ false → n ≡ signedOf short s → o ≡ offsetOf n → zoned (n .good) (At o) ≡ zoneOf s
-unfolding zoneOf
+pub zone-at : (s : List ℕ) {t : Bool} {n : Signed} {o : Offset} → t ≡ same s (bytes "none") → t ≡ false → n ≡ signedOf short s → o ≡ offsetOf n → zoned (n .good) (At o) ≡ zoneGiven s
+unfolding zoneGiven
 zone-at s {t} {n} {o} et q en eo =
     ap (λ (x : Offset). zoned (n .good) (At x)) eo ∙ ap zoneBy en ∙ second-of (zoned true Absent) (zoneBy (signedOf short s)) (sym et ∙ q)
 
 -- ---- days and moments
-abbrev dayWith : Bool → Number → Number → Number → Day
+abbrev dayWith : Bool → FieldNumber → FieldNumber → FieldNumber → Day
 dayWith g y m d = record { good = g; year = y .value; month = m .value; day = d .value }
 
-pub day-read : (line : List ℕ) (i : ℕ) {g : Bool} {y m d : Number} {fy fm fd : List ℕ} → g ≡ every (y .good ∷ m .good ∷ d .good ∷ [])
+pub day-read : (line : List ℕ) (i : ℕ) {g : Bool} {y m d : FieldNumber} {fy fm fd : List ℕ} → g ≡ every (y .good ∷ m .good ∷ d .good ∷ [])
     → fy ≡ fieldAt line i → y ≡ numberOf short fy → fm ≡ fieldAt line (i + 1) → m ≡ numberOf byte fm → fd ≡ fieldAt line (i + 2) → d ≡ numberOf byte fd → dayWith g y m d ≡ dayAt line i
 unfolding dayAt
 day-read line i {g} {y} {m} {d} eg efy ey efm em efd ed =
     ap (λ (b : Bool). dayWith b y m d) eg
-    ∙ (λ j. dayOf ((ey ∙ ap (numberOf short) efy) j) ((em ∙ ap (numberOf byte) efm) j) ((ed ∙ ap (numberOf byte) efd) j))
+    ∙ (λ j. dayGiven ((ey ∙ ap (numberOf short) efy) j) ((em ∙ ap (numberOf byte) efm) j) ((ed ∙ ap (numberOf byte) efd) j))
 
 abbrev momentWith : Bool → DateTime → Moment
 momentWith g p = record { good = g; parts = p }
 
-pub moment-read : (line : List ℕ) (i : ℕ) {g : Bool} {p : DateTime} {d : Day} {n : Number} {z : Zoned} {fn fz : List ℕ} → g ≡ every (d .good ∷ n .good ∷ z .good ∷ []) → p ≡ partsOf d (n .value) (z .zone)
-    → d ≡ dayAt line i → fn ≡ fieldAt line (i + 3) → n ≡ numberOf greatest fn → fz ≡ fieldAt line (i + 4) → z ≡ zoneOf fz → momentWith g p ≡ momentAt line i
+pub moment-read : (line : List ℕ) (i : ℕ) {g : Bool} {p : DateTime} {d : Day} {n : FieldNumber} {z : Zoned} {fn fz : List ℕ} → g ≡ every (d .good ∷ n .good ∷ z .good ∷ []) → p ≡ recordParts d (n .value) (z .zone)
+    → d ≡ dayAt line i → fn ≡ fieldAt line (i + 3) → n ≡ numberOf greatest fn → fz ≡ fieldAt line (i + 4) → z ≡ zoneGiven fz → momentWith g p ≡ momentAt line i
 unfolding momentAt
 moment-read line i eg ep ed efn en efz ez =
-    (λ j. momentWith (eg j) (ep j)) ∙ (λ j. momentOf (ed j) ((en ∙ ap (numberOf greatest) efn) j) ((ez ∙ ap zoneOf efz) j))
+    (λ j. momentWith (eg j) (ep j)) ∙ (λ j. momentGiven (ed j) ((en ∙ ap (numberOf greatest) efn) j) ((ez ∙ ap zoneGiven efz) j))
 
 -- ---- records
 pub no-moment : (k : Kind) (m : Moment) → not (m .good) ≡ true → G.No ≡ givenMoment k m
-no-moment k m q = second-of {b = m .good} (ofKind k (m .parts)) G.No (no refl q)
+no-moment k m q = second-of {b = m .good} (recordOfKind k (m .parts)) G.No (no refl q)
 
-pub is-moment : (k′ : Kind) (m : Moment) {k : Kind} → k ≡ k′ → not (m .good) ≡ false → ofKind k′ (m .parts) ≡ givenMoment k m
-is-moment k′ m {k} e q = ap (λ (x : Kind). ofKind x (m .parts)) (sym e) ∙ first-of {b = m .good} (ofKind k (m .parts)) G.No (yes refl q)
+pub is-moment : (k′ : Kind) (m : Moment) {k : Kind} → k ≡ k′ → not (m .good) ≡ false → recordOfKind k′ (m .parts) ≡ givenMoment k m
+is-moment k′ m {k} e q = ap (λ (x : Kind). recordOfKind x (m .parts)) (sym e) ∙ first-of {b = m .good} (recordOfKind k (m .parts)) G.No (yes refl q)
 
 pub no-day-time : (n : Signed) → not (n .good) ≡ true → G.No ≡ givenDayTime n
 no-day-time n q = second-of {b = n .good} (G.Is (VV.DayTime (record { negative = n .negative; micros = n .value }))) G.No (no refl q)
@@ -125,7 +125,7 @@ no-year-month n q = second-of {b = n .good} (G.Is (VV.YearMonth (record { negati
 pub is-year-month : (n : Signed) → not (n .good) ≡ false → G.Is (VV.YearMonth (record { negative = n .negative; months = n .value })) ≡ givenYearMonth n
 is-year-month n q = first-of {b = n .good} (G.Is (VV.YearMonth (record { negative = n .negative; months = n .value }))) G.No (yes refl q)
 
-module _ (line : List ℕ) (i : ℕ) {k : Kind} {r g : Given} {h : Bool} (er : r ≡ unlessMore h g) where
+module _ (line : List ℕ) (i : ℕ) {k : Kind} {r g : GivenRecord} {h : Bool} (er : r ≡ unlessMore h g) where
   module _ {n : Signed} {f : List ℕ} (eh : h ≡ hasField line (i + 1)) (ef : f ≡ fieldAt line i) where
     pub by-day-time : k ≡ KV.DayTimeDuration → n ≡ signedOf greatest f → g ≡ givenDayTime n → r ≡ recordBy k line i
     unfolding recordBy

@@ -6,14 +6,14 @@ use Rattle.basis.specs.Choice.{pick}
 use Rattle.basis.specs.Letters.{bytes}
 use Rattle.timetable.specs.Lines.{lineEnd}
 use Rattle.timetable.specs.Fields.{fieldAt, hasField}
-use Rattle.words.specs.Runs.{between, same}
+use Rattle.condition_words.specs.Words.{between, same}
 use Rattle.line_fields.specs.Fields.{afterTab}
 use Rattle.line_fields.specs.Numbers.{numberOf}
 use Rattle.library_lines.specs.Given.{word}
 
--- the line that starts at a place
-abbrev pub lineIn : List ℕ → ℕ → List ℕ
-lineIn input i = between input i (lineEnd input i)
+-- the line that starts at an offset
+abbrev pub lineFrom : List ℕ → ℕ → List ℕ
+lineFrom input i = between input i (lineEnd input i)
 
 -- the calls by number: 1 is `turn`, 2 `open`, 3 `close`, and 0 none of them
 unfoldable pub closeBy : List ℕ → ℕ
@@ -29,15 +29,15 @@ abbrev pub callIn : List ℕ → ℕ
 callIn line = callBy line (fieldAt line 1)
 
 abbrev pub callAt : List ℕ → ℕ → ℕ
-callAt input i = callIn (lineIn input i)
+callAt input i = callIn (lineFrom input i)
 
 -- "TEXT is all that follows the tab before it"
 abbrev pub conditionAt : List ℕ → ℕ → List ℕ
-conditionAt input i = afterTab (lineIn input i)
+conditionAt input i = afterTab (lineFrom input i)
 
 -- N of `close`
 abbrev pub ticketIn : List ℕ → ℕ
 ticketIn line = numberOf word (fieldAt line 2) .value
 
 abbrev pub ticketAt : List ℕ → ℕ → ℕ
-ticketAt input i = ticketIn (lineIn input i)
+ticketAt input i = ticketIn (lineFrom input i)

@@ -9,12 +9,12 @@ use Rattle.basis.specs.Choice.{pick, every}
 use Rattle.basis.specs.Letters.{bytes}
 use Rattle.timetable.specs.Fields.{fieldAt, hasField}
 use Rattle.numerals.specs.Reading.{at}
-use Rattle.words.specs.Runs.{between, same}
-use Rattle.symbols.specs.Symbols.{named}
-use Rattle.symbols.specs.declared.Named.{Named}
-use Rattle.symbols.specs.declared.Named.the-variants as N
+use Rattle.condition_words.specs.Words.{between, same}
+use Rattle.condition_symbols.specs.Symbols.{named}
+use Rattle.condition_symbols.specs.declared.Named.{Named}
+use Rattle.condition_symbols.specs.declared.Named.the-variants as N
 use Rattle.line_fields.specs.Numbers.{greatest, numberOf}
-use Rattle.line_fields.specs.declared.numbers.Number.{Number}
+use Rattle.line_fields.specs.declared.numbers.FieldNumber.{FieldNumber}
 use Rattle.value.specs.declared.Offset.{Offset}
 use Rattle.value.specs.declared.Offset.the-variants.{East, West}
 use Rattle.value.specs.declared.Zone.{Zone}
@@ -27,8 +27,8 @@ use Rattle.library_lines.specs.declared.given.Signed.{Signed}
 use Rattle.library_lines.specs.declared.given.Zoned.{Zoned}
 use Rattle.library_lines.specs.declared.given.Day.{Day}
 use Rattle.library_lines.specs.declared.given.Moment.{Moment}
-use Rattle.library_lines.specs.declared.given.Given.{Given}
-use Rattle.library_lines.specs.declared.given.Given.the-variants as G
+use Rattle.library_lines.specs.declared.given.GivenRecord.{GivenRecord}
+use Rattle.library_lines.specs.declared.given.GivenRecord.the-variants as G
 
 -- the greatest numbers of one, two and four bytes
 abbrev pub byte : ℕ
@@ -41,14 +41,14 @@ abbrev pub word : ℕ
 word = 4_294_967_295
 
 -- "S is `+` or `-` and directly after it one to twenty digits", at most a bound
-abbrev pub withSign : Bool → Number → Signed
+abbrev pub withSign : Bool → FieldNumber → Signed
 withSign minus n = record { good = n .good; negative = minus; value = n .value }
 
 abbrev pub noSigned : Signed
 noSigned = record { good = false; negative = false; value = 0 }
 
 -- the number after the first byte
-abbrev pub afterSign : ℕ → List ℕ → Number
+abbrev pub afterSign : ℕ → List ℕ → FieldNumber
 afterSign most s = numberOf most (between s 1 (length s))
 
 unfoldable pub signedOf : ℕ → List ℕ → Signed
@@ -63,58 +63,58 @@ offsetOf n = pick (n .negative) (West (n .value)) (East (n .value))
 abbrev pub zoneBy : Signed → Zoned
 zoneBy n = record { good = n .good; zone = At (offsetOf n) }
 
-unfoldable pub zoneOf : List ℕ → Zoned
-zoneOf s = pick (same s (bytes "none")) (record { good = true; zone = Absent }) (zoneBy (signedOf short s))
+unfoldable pub zoneGiven : List ℕ → Zoned
+zoneGiven s = pick (same s (bytes "none")) (record { good = true; zone = Absent }) (zoneBy (signedOf short s))
 
 -- Y, M and D in three fields
-abbrev pub dayOf : Number → Number → Number → Day
-dayOf y m d =
+abbrev pub dayGiven : FieldNumber → FieldNumber → FieldNumber → Day
+dayGiven y m d =
     record { good = every (y .good ∷ m .good ∷ d .good ∷ []); year = y .value; month = m .value; day = d .value }
 
 unfoldable pub dayAt : List ℕ → ℕ → Day
-dayAt line i = dayOf (numberOf short (fieldAt line i)) (numberOf byte (fieldAt line (i + 1))) (numberOf byte (fieldAt line (i + 2)))
+dayAt line i = dayGiven (numberOf short (fieldAt line i)) (numberOf byte (fieldAt line (i + 1))) (numberOf byte (fieldAt line (i + 2)))
 
-abbrev pub partsOf : Day → ℕ → Zone → DateTime
-partsOf d micros zone = record { year = d .year; month = d .month; day = d .day; micros = micros; zone = zone }
+abbrev pub recordParts : Day → ℕ → Zone → DateTime
+recordParts d micros zone = record { year = d .year; month = d .month; day = d .day; micros = micros; zone = zone }
 
 -- Y, M, D, MICROS and Z in five fields
-abbrev pub momentOf : Day → Number → Zoned → Moment
-momentOf d n z = record { good = every (d .good ∷ n .good ∷ z .good ∷ []); parts = partsOf d (n .value) (z .zone) }
+abbrev pub momentGiven : Day → FieldNumber → Zoned → Moment
+momentGiven d n z = record { good = every (d .good ∷ n .good ∷ z .good ∷ []); parts = recordParts d (n .value) (z .zone) }
 
 unfoldable pub momentAt : List ℕ → ℕ → Moment
-momentAt line i = momentOf (dayAt line i) (numberOf greatest (fieldAt line (i + 3))) (zoneOf (fieldAt line (i + 4)))
+momentAt line i = momentGiven (dayAt line i) (numberOf greatest (fieldAt line (i + 3))) (zoneGiven (fieldAt line (i + 4)))
 
 -- the record of a kind that such fields are
-abbrev pub ofKind : Kind → DateTime → Given
-ofKind KV.Date d = G.Is (VV.Date d)
-ofKind KV.Time d = G.Is (VV.Time d)
-ofKind KV.DateTime d = G.Is (VV.DateTime d)
-ofKind KV.DayTimeDuration d = G.No
-ofKind KV.YearMonthDuration d = G.No
+abbrev pub recordOfKind : Kind → DateTime → GivenRecord
+recordOfKind KV.Date d = G.Is (VV.Date d)
+recordOfKind KV.Time d = G.Is (VV.Time d)
+recordOfKind KV.DateTime d = G.Is (VV.DateTime d)
+recordOfKind KV.DayTimeDuration d = G.No
+recordOfKind KV.YearMonthDuration d = G.No
 
-abbrev pub givenMoment : Kind → Moment → Given
-givenMoment k m = pick (m .good) (ofKind k (m .parts)) G.No
+abbrev pub givenMoment : Kind → Moment → GivenRecord
+givenMoment k m = pick (m .good) (recordOfKind k (m .parts)) G.No
 
-abbrev pub givenDayTime : Signed → Given
+abbrev pub givenDayTime : Signed → GivenRecord
 givenDayTime n = pick (n .good) (G.Is (VV.DayTime (record { negative = n .negative; micros = n .value }))) G.No
 
-abbrev pub givenYearMonth : Signed → Given
+abbrev pub givenYearMonth : Signed → GivenRecord
 givenYearMonth n = pick (n .good) (G.Is (VV.YearMonth (record { negative = n .negative; months = n .value }))) G.No
 
 -- "V is the rest of the line": no field stands after it
-abbrev pub unlessMore : Bool → Given → Given
+abbrev pub unlessMore : Bool → GivenRecord → GivenRecord
 unlessMore more g = pick more G.No g
 
-unfoldable pub recordBy : Kind → List ℕ → ℕ → Given
+unfoldable pub recordBy : Kind → List ℕ → ℕ → GivenRecord
 recordBy KV.Date line i = unlessMore (hasField line (i + 5)) (givenMoment KV.Date (momentAt line i))
 recordBy KV.Time line i = unlessMore (hasField line (i + 5)) (givenMoment KV.Time (momentAt line i))
 recordBy KV.DateTime line i = unlessMore (hasField line (i + 5)) (givenMoment KV.DateTime (momentAt line i))
 recordBy KV.DayTimeDuration line i = unlessMore (hasField line (i + 1)) (givenDayTime (signedOf greatest (fieldAt line i)))
 recordBy KV.YearMonthDuration line i = unlessMore (hasField line (i + 1)) (givenYearMonth (signedOf word (fieldAt line i)))
 
-abbrev pub recordNamed : Named → List ℕ → ℕ → Given
+abbrev pub recordNamed : Named → List ℕ → ℕ → GivenRecord
 recordNamed N.No line i = G.No
 recordNamed (N.Is k) line i = recordBy k line i
 
-unfoldable pub recordAt : List ℕ → ℕ → Given
+unfoldable pub recordAt : List ℕ → ℕ → GivenRecord
 recordAt line i = recordNamed (named (fieldAt line i)) line (i + 1)

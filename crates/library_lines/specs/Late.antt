@@ -1,18 +1,18 @@
 -- docs/LINES.md, "Library example", `late`: "the second value less the first is computed .. then compared with D".
 use mathlib.Core.Bool.{Bool, true, false}
 use Rattle.basis.specs.Answer.{Answer, gives, refuses}
-use Rattle.instants.specs.Ticks.{utc}
-use Rattle.ordering.specs.Order.{Order, less, equal, greater, orderIn}
-use Rattle.arithmetic.specs.Sums.{minusIn}
+use Rattle.value_instants.specs.Ticks.{utc}
+use Rattle.operation_ordering.specs.Order.{Order, less, equal, greater, orderIn}
+use Rattle.operation_arithmetic.specs.Sums.{minusIn}
 use Rattle.value.specs.declared.Value.{Value}
 use Rattle.library_lines.specs.declared.late.Lateness.{Lateness}
 use Rattle.library_lines.specs.declared.late.Lateness.the-variants as LV
 
 -- what an answer says: whether it is late, or the number of a refusal
-abbrev pub meaning : Lateness → Answer Bool
-meaning LV.Late = gives true
-meaning LV.InTime = gives false
-meaning (LV.Refused r) = refuses (r .number)
+abbrev pub latenessMeaning : Lateness → Answer Bool
+latenessMeaning LV.Late = gives true
+latenessMeaning LV.InTime = gives false
+latenessMeaning (LV.Refused r) = refuses (r .number)
 
 -- late where the delay is greater than what is allowed
 abbrev pub whether : Answer Order → Answer Bool

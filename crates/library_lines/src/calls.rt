@@ -1,12 +1,12 @@
-// Which call of the desk a line is, and what it holds. The line is the one that starts at a place of the input.
+// Which call of the desk a line is, and what it holds. The line is the one that starts at an offset of the input.
 use crate::given::WORD;
+use condition_words::cut;
+use condition_words::same;
 use line_fields::fields::after_tab;
 use line_fields::numbers::read;
 use timetable::fields::field;
 use timetable::fields::has_field;
 use timetable::lines::line_end;
-use words::cut;
-use words::same;
 ghost use mathlib.Core.Path.{_≡_};
 ghost use Rattle.basis.specs.Choice.{pick};
 ghost use Rattle.library_lines.specs.Calls as the;
@@ -18,9 +18,9 @@ pub const OPEN: usize = 2;
 
 pub const CLOSE: usize = 3;
 
-// The line that starts at a place.
+// The line that starts at an offset.
 pub fn line_at(input: &[u8], at: usize) -> &[u8]
-    ensures { λ r. ⌜ now r ≡ the.lineIn (now (input .entry)) at ⌝ }
+    ensures { λ r. ⌜ now r ≡ the.lineFrom (now (input .entry)) at ⌝ }
 {
     cut(input, at, line_end(input, at))
 }

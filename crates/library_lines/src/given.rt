@@ -1,11 +1,13 @@
 // Numbers with a sign, zones and records, as fields of a line. They are as wide as the records' own numbers, so that those beyond the
 // bounds can be given too: whether a record is within them is for the library to say.
+use condition_symbols::Named;
+use condition_symbols::kind_named;
+use condition_words::cut;
+use condition_words::same;
+use line_fields::numbers::FieldNumber;
 use line_fields::numbers::GREATEST;
-use line_fields::numbers::Number;
 use line_fields::numbers::read;
 use numerals::byte;
-use symbols::Named;
-use symbols::kind_named;
 use timetable::fields::field;
 use timetable::fields::has_field;
 use value::DateTime;
@@ -15,8 +17,6 @@ use value::Offset;
 use value::Value;
 use value::YearMonth;
 use value::Zone;
-use words::cut;
-use words::same;
 ghost use mathlib.Core.Path.{_≡_};
 ghost use mathlib.Core.List.{[], _∷_};
 ghost use Prim.Native.Nat.{_≤_};
@@ -58,12 +58,12 @@ pub struct Moment {
 }
 
 // A record of any kind, if the fields are one.
-pub enum Given {
+pub enum GivenRecord {
     No,
     Is(Value),
 }
 
-fn with_sign(negative: bool, n: Number) -> Signed
+fn with_sign(negative: bool, n: FieldNumber) -> Signed
     ensures { λ r. ⌜ r ≡ the.withSign negative n ⌝ }
 {
     Signed {
@@ -105,7 +105,7 @@ fn offset(n: Signed) -> Offset
 
 // A zone: `none`, or a sign and minutes.
 pub fn zone(s: &[u8]) -> Zoned
-    ensures { λ r. ⌜ r ≡ the.zoneOf (now (s .entry)) ⌝ }
+    ensures { λ r. ⌜ r ≡ the.zoneGiven (now (s .entry)) ⌝ }
 {
     if same(s, b"none") {
         return Zoned {
@@ -148,7 +148,7 @@ pub fn day_at(line: &[u8], at: usize) -> Day
 }
 
 fn parts_of(d: Day, micros: u64, zone: Zone) -> DateTime
-    ensures { λ r. ⌜ r ≡ the.partsOf d micros zone ⌝ }
+    ensures { λ r. ⌜ r ≡ the.recordParts d micros zone ⌝ }
 {
     DateTime {
         year: d.year,
@@ -173,58 +173,58 @@ pub fn moment_at(line: &[u8], at: usize) -> Moment
     Moment { good, parts }
 }
 
-fn given_moment(kind: Kind, m: Moment) -> Given
+fn given_moment(kind: Kind, m: Moment) -> GivenRecord
     ensures { λ r. ⌜ r ≡ the.givenMoment kind m ⌝ }
 {
     if !m.good {
-        return Given::No;
+        return GivenRecord::No;
     }
     let parts = m.parts;
     match kind {
-        Kind::Date => Given::Is(Value::Date(parts)),
-        Kind::Time => Given::Is(Value::Time(parts)),
-        Kind::DateTime => Given::Is(Value::DateTime(parts)),
-        Kind::DayTimeDuration => Given::No,
-        Kind::YearMonthDuration => Given::No,
+        Kind::Date => GivenRecord::Is(Value::Date(parts)),
+        Kind::Time => GivenRecord::Is(Value::Time(parts)),
+        Kind::DateTime => GivenRecord::Is(Value::DateTime(parts)),
+        Kind::DayTimeDuration => GivenRecord::No,
+        Kind::YearMonthDuration => GivenRecord::No,
     }
 }
 
-fn given_day_time(n: Signed) -> Given
+fn given_day_time(n: Signed) -> GivenRecord
     ensures { λ r. ⌜ r ≡ the.givenDayTime n ⌝ }
 {
     if !n.good {
-        return Given::No;
+        return GivenRecord::No;
     }
-    Given::Is(Value::DayTime(DayTime {
+    GivenRecord::Is(Value::DayTime(DayTime {
         negative: n.negative,
         micros: n.value as u64,
     }))
 }
 
-fn given_year_month(n: Signed) -> Given
+fn given_year_month(n: Signed) -> GivenRecord
     requires { ⌜ n .value ≤ the.word ⌝ }
     ensures { λ r. ⌜ r ≡ the.givenYearMonth n ⌝ }
 {
     if !n.good {
-        return Given::No;
+        return GivenRecord::No;
     }
-    Given::Is(Value::YearMonth(YearMonth {
+    GivenRecord::Is(Value::YearMonth(YearMonth {
         negative: n.negative,
         months: n.value as u32,
     }))
 }
 
 // What a field after the last one makes of a record: none.
-fn unless_more(more: bool, g: Given) -> Given
+fn unless_more(more: bool, g: GivenRecord) -> GivenRecord
     ensures { λ r. ⌜ r ≡ the.unlessMore more g ⌝ }
 {
     if more {
-        return Given::No;
+        return GivenRecord::No;
     }
     g
 }
 
-fn record_by(kind: Kind, line: &[u8], at: usize) -> Given
+fn record_by(kind: Kind, line: &[u8], at: usize) -> GivenRecord
     requires { ⌜ at ≤ 5 ⌝ }
     ensures { λ r. ⌜ r ≡ the.recordBy kind (now (line .entry)) at ⌝ }
 {
@@ -253,12 +253,12 @@ fn record_by(kind: Kind, line: &[u8], at: usize) -> Given
 }
 
 // The record in the last fields of a line: a kind's name, and the numbers of that kind.
-pub fn record_at(line: &[u8], at: usize) -> Given
+pub fn record_at(line: &[u8], at: usize) -> GivenRecord
     requires { ⌜ at ≤ 4 ⌝ }
     ensures { λ r. ⌜ r ≡ the.recordAt (now (line .entry)) at ⌝ }
 {
     match kind_named(field(line, at)) {
-        Named::No => Given::No,
+        Named::No => GivenRecord::No,
         Named::Is(kind) => record_by(kind, line, at + 1),
     }
 }

@@ -1,5 +1,6 @@
 // The calls of the library example that are about values (docs/LINES.md, "Library example"): each reads the fields of a line, makes
 // the library's call, and writes what it answered.
+use condition_words::same;
 use makers::make_date;
 use makers::make_date_time;
 use makers::make_day_time;
@@ -11,7 +12,6 @@ use texts::write_record;
 use texts::write_text;
 use timetable::fields::field;
 use told::tell_no_call;
-use words::same;
 
 mod makers; // makers.rt: values made of numbers
 mod texts; // texts.rt: values read from text, written, compared and computed with

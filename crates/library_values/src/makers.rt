@@ -3,13 +3,14 @@ use crate::told::tell;
 use crate::told::tell_end;
 use crate::told::tell_no_call;
 use crate::told::tell_refused;
-use line_fields::numbers::GREATEST;
-use line_fields::numbers::read;
+use condition_words::cut;
 use library_lines::given::WORD;
 use library_lines::given::day_at;
 use library_lines::given::moment_at;
 use library_lines::given::signed_number;
 use library_lines::given::zone;
+use line_fields::numbers::GREATEST;
+use line_fields::numbers::read;
 use text::Written;
 use timetable::fields::field;
 use timetable::fields::has_field;
@@ -18,7 +19,6 @@ use value::DayTime;
 use value::Outcome;
 use value::Value;
 use value::YearMonth;
-use words::cut;
 
 // The longest text of a value has so many bytes.
 const LONGEST: usize = numerals::LONGEST;

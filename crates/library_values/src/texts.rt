@@ -6,13 +6,13 @@ use crate::told::tell_no_call;
 use crate::told::tell_number;
 use crate::told::tell_order;
 use crate::told::tell_refused;
-use line_fields::fields::after_tab;
-use line_fields::numbers::read;
-use library_lines::given::Given;
+use condition_symbols::Named;
+use condition_symbols::kind_named;
+use library_lines::given::GivenRecord;
 use library_lines::given::record_at;
 use library_lines::late::late;
-use symbols::Named;
-use symbols::kind_named;
+use line_fields::fields::after_tab;
+use line_fields::numbers::read;
 use text::Written;
 use timetable::fields::field;
 use timetable::fields::has_field;
@@ -63,8 +63,8 @@ pub fn write_record(line: &[u8]) {
         return;
     }
     match record_at(line, 3) {
-        Given::No => tell_no_call(),
-        Given::Is(v) => write_within(v, long.value),
+        GivenRecord::No => tell_no_call(),
+        GivenRecord::Is(v) => write_within(v, long.value),
     }
 }
 
@@ -101,8 +101,8 @@ fn compare_read(kind: Kind, s: &[u8], v: Value) {
 // `compare→K→T→V`: the record is handed over as it is.
 pub fn compare(line: &[u8]) {
     match record_at(line, 4) {
-        Given::No => tell_no_call(),
-        Given::Is(v) => match kind_named(field(line, 2)) {
+        GivenRecord::No => tell_no_call(),
+        GivenRecord::Is(v) => match kind_named(field(line, 2)) {
             Named::No => tell_no_call(),
             Named::Is(kind) => compare_read(kind, field(line, 3), v),
         },

@@ -1,7 +1,7 @@
 // The lines that are written: what a call answered, a refusal by its number.
 use libc::STDOUT_FILENO;
 use library_lines::late::Lateness;
-use ordering::Compared;
+use operation_ordering::Compared;
 use value::Refusal;
 
 // A line that is no call is refused like a condition that is none.

@@ -10,10 +10,10 @@ use lib.Dec.{ltb, eqb}
 use lib.ListN.{length, getD, drop, drop-of-length-le}
 use lib.Seq.{drop-cons}
 use Rattle.basis.specs.Choice.{pick}
-use Rattle.numerals.specs.Reading.{isDigit, number, run}
+use Rattle.numerals.specs.Reading.{isDigit, number, numeralAt}
 use Rattle.numerals.specs.Reading as reading
-use Rattle.line_fields.specs.Numbers.{maxDigits, noNumber, wholeWithin, numberOf}
-use Rattle.line_fields.specs.declared.numbers.Number.{Number}
+use Rattle.line_fields.specs.Numbers.{maxNumberDigits, noNumber, wholeWithin, numberOf}
+use Rattle.line_fields.specs.declared.numbers.FieldNumber.{FieldNumber}
 
 -- ---- one digit more
 
@@ -42,13 +42,13 @@ grows v k (x ∷ xs) = go (isDigit x) (grows (v * 10 + (x - 48)) (suc k) xs)
 pub record Passed (s : List ℕ) (most i v : ℕ) : Type 0 where
   pub to : i ≤ length s
   pub low : v ≤ most
-  pub rest : number v i (drop i s) ≡ run s 0
+  pub rest : number v i (drop i s) ≡ numeralAt s 0
 
 pub start : (s : List ℕ) (most : ℕ) → Passed s most 0 0
 start s most = record { to = omega arith; low = omega arith; rest = refl }
 
 -- a number that is none, and one within its bound
-pub none-read : (s : List ℕ) (most : ℕ) (r : Number) → r ≡ noNumber → numberOf most s ≡ noNumber → (r ≡ numberOf most s) × (r .value ≤ most)
+pub none-read : (s : List ℕ) (most : ℕ) (r : FieldNumber) → r ≡ noNumber → numberOf most s ≡ noNumber → (r ≡ numberOf most s) × (r .value ≤ most)
 none-read s most r e f = (e ∙ sym f, rw e (omega arith))
 
 pub too-short : (s : List ℕ) (most : ℕ) → length s < 1 → numberOf most s ≡ noNumber
@@ -56,21 +56,21 @@ unfolding numberOf
 too-short s most h = rw (lt-leb 1 (length s) h)
 
 module _ (s : List ℕ) (most : ℕ) (some : 1 ≤ length s) where
-  pub too-long : maxDigits < length s → numberOf most s ≡ noNumber
+  pub too-long : maxNumberDigits < length s → numberOf most s ≡ noNumber
   unfolding numberOf
-  too-long h = rw (le-leb 1 (length s) some, lt-leb (length s) maxDigits h)
+  too-long h = rw (le-leb 1 (length s) some, lt-leb (length s) maxNumberDigits h)
 
-  module _ (few : length s ≤ maxDigits) where
-    is-run : numberOf most s ≡ wholeWithin most (length s) (run s 0)
+  module _ (few : length s ≤ maxNumberDigits) where
+    is-run : numberOf most s ≡ wholeWithin most (length s) (numeralAt s 0)
     unfolding numberOf
-    is-run = rw (le-leb 1 (length s) some, le-leb (length s) maxDigits few)
+    is-run = rw (le-leb 1 (length s) some, le-leb (length s) maxNumberDigits few)
 
     module _ {i v : ℕ} (p : Passed s most i v) where
-      next-run : i < length s → isDigit (getD s i 0) ≡ true → number (v * 10 + (getD s i 0 - 48)) (i + 1) (drop (i + 1) s) ≡ run s 0
+      next-run : i < length s → isDigit (getD s i 0) ≡ true → number (v * 10 + (getD s i 0 - 48)) (i + 1) (drop (i + 1) s) ≡ numeralAt s 0
       unfolding number
       next-run h e =
-          let r : number v i (getD s i 0 ∷ drop (suc i) s) ≡ run s 0 = rw (drop-cons s i 0 h) at (p .rest) in
-          let r2 : number (v * 10 + (getD s i 0 - 48)) (suc i) (drop (suc i) s) ≡ run s 0 = rw (e, number) at r in
+          let r : number v i (getD s i 0 ∷ drop (suc i) s) ≡ numeralAt s 0 = rw (drop-cons s i 0 h) at (p .rest) in
+          let r2 : number (v * 10 + (getD s i 0 - 48)) (suc i) (drop (suc i) s) ≡ numeralAt s 0 = rw (e, number) at r in
           rw add-one r2
 
       pub next : i < length s → isDigit (getD s i 0) ≡ true → v * 10 + (getD s i 0 - 48) ≤ most → Passed s most (i + 1) (v * 10 + (getD s i 0 - 48))
@@ -79,8 +79,8 @@ module _ (s : List ℕ) (most : ℕ) (some : 1 ≤ length s) where
       pub at-other : i < length s → isDigit (getD s i 0) ≡ false → numberOf most s ≡ noNumber
       unfolding number wholeWithin
       at-other h e =
-          let r : number v i (getD s i 0 ∷ drop (suc i) s) ≡ run s 0 = rw (drop-cons s i 0 h) at (p .rest) in
-          let r2 : record { value = v; count = i } ≡ run s 0 = rw (e, number) at r in
+          let r : number v i (getD s i 0 ∷ drop (suc i) s) ≡ numeralAt s 0 = rw (drop-cons s i 0 h) at (p .rest) in
+          let r2 : record { value = v; count = i } ≡ numeralAt s 0 = rw (e, number) at r in
           is-run ∙ ap (wholeWithin most (length s)) (sym r2) ∙ rw (ne-eqb i (length s) (λ q. omega arith))
 
       pub too-great : i < length s → isDigit (getD s i 0) ≡ true → most < v * 10 + (getD s i 0 - 48) → numberOf most s ≡ noNumber
@@ -88,7 +88,7 @@ module _ (s : List ℕ) (most : ℕ) (some : 1 ≤ length s) where
       too-great h e l =
           let g = grows (v * 10 + (getD s i 0 - 48)) (i + 1) (drop (i + 1) s) in
           let r = ap (λ (n : reading.Number). n .value) (next-run h e) in
-          is-run ∙ rw (lt-leb (run s 0 .value) most (omega arith)) (either (eqb (run s 0 .count) (length s)))
+          is-run ∙ rw (lt-leb (numeralAt s 0 .value) most (omega arith)) (either (eqb (numeralAt s 0 .count) (length s)))
         where
           either : (b : Bool) → pick b noNumber noNumber ≡ noNumber
           either true = refl
@@ -97,6 +97,6 @@ module _ (s : List ℕ) (most : ℕ) (some : 1 ≤ length s) where
       pub at-end : length s ≤ i → numberOf most s ≡ record { good = true; value = v }
       unfolding number wholeWithin
       at-end h =
-          let r : record { value = v; count = i } ≡ run s 0 = rw (drop-of-length-le s h, number) at (p .rest) in
+          let r : record { value = v; count = i } ≡ numeralAt s 0 = rw (drop-of-length-le s h, number) at (p .rest) in
           let q = p .to in
           is-run ∙ ap (wholeWithin most (length s)) (sym r) ∙ rw (eq-eqb i (length s) (omega arith), le-leb v most (p .low))

@@ -12,15 +12,15 @@ const DIGITS: usize = 20;
 pub const GREATEST: usize = 18_446_744_073_709_551_615;
 
 // A number that was read. Where the text is none, its value is 0.
-pub struct Number {
+pub struct FieldNumber {
     pub good: bool,
     pub value: usize,
 }
 
-fn none() -> Number
+fn none() -> FieldNumber
     ensures { λ r. ⌜ r ≡ noNumber ⌝ }
 {
-    Number {
+    FieldNumber {
         good: false,
         value: 0,
     }
@@ -36,7 +36,7 @@ fn beyond(v: usize, d: u8, most: usize) -> bool
     most - v * 10 < d as usize
 }
 
-pub fn read(s: &[u8], most: usize) -> Number
+pub fn read(s: &[u8], most: usize) -> FieldNumber
     ensures { λ r. ⌜ (r ≡ numberOf most (now (s .entry))) × (r .value ≤ most) ⌝ }
 {
     if s.len() < 1 {
@@ -59,7 +59,7 @@ pub fn read(s: &[u8], most: usize) -> Number
         v = v * 10 + d as usize;
         i += 1;
     }
-    Number {
+    FieldNumber {
         good: true,
         value: v,
     }

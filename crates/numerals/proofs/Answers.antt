@@ -4,7 +4,7 @@ use mathlib.Core.Path.{_≡_, sym, _∙_}
 use mathlib.Core.List.{List}
 use Prim.Native.Nat.{ℕ}
 use Rattle.numerals.specs.Carried.{Found}
-use Rattle.numerals.specs.declared.Run.{Run}
+use Rattle.numerals.specs.declared.DigitsRead.{DigitsRead}
 
-pub run-determined : (s : List ℕ) (i cap : ℕ) (r r′ : Run) → Found s i cap r → Found s i cap r′ → r ≡ r′
+pub run-determined : (s : List ℕ) (i cap : ℕ) (r r′ : DigitsRead) → Found s i cap r → Found s i cap r′ → r ≡ r′
 run-determined s i cap r r′ f f′ = λ j. record { end = (f .ends ∙ sym (f′ .ends)) j; value = (f .capped ∙ sym (f′ .capped)) j }

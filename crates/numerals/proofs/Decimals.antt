@@ -15,7 +15,7 @@ use Rattle.numerals.specs.Writing.{digits, shortest, decimal}
 use Rattle.numerals.specs.Carried.{Added}
 use Rattle.numerals.specs.declared.Text.{Text}
 use Rattle.numerals.proofs.Powers.{few-digits}
-use Rattle.numerals.proofs.Runs.{pass, stop}
+use Rattle.numerals.proofs.DigitRows.{pass, stop}
 use Rattle.numerals.proofs.Texts.{named}
 
 pub length-digits : (k n : ℕ) → length (digits k n) ≡ k

@@ -9,46 +9,46 @@ use lib.Dec.{eqb, leb, lit≤}
 use lib.ListN.{length, getD, drop}
 use borrow.Author.Tests.{le-leb, lt-leb, leb-true, ne-eqb}
 use Rattle.basis.specs.Choice.{pick}
-use Rattle.numerals.specs.declared.Run.{Run}
+use Rattle.numerals.specs.declared.DigitsRead.{DigitsRead}
 use Rattle.numerals.specs.declared.Kept.{Kept}
 use Rattle.numerals.specs.declared.Text.{Text}
-use Rattle.numerals.specs.Reading.{isDigit, number, run, fractionDigits, fractionOf, fractionAt}
+use Rattle.numerals.specs.Reading.{isDigit, number, numeralAt, fractionDigits, fractionOf, fractionAt}
 use Rattle.numerals.specs.Carried.{Found, Added}
 use Rattle.numerals.specs.Writing.{digits, stripped, fractionText}
 use Rattle.numerals.proofs.Powers.{widened, filled}
-use Rattle.numerals.proofs.Runs.{run-le, run-lt}
+use Rattle.numerals.proofs.DigitRows.{run-le, run-lt}
 use Rattle.numerals.proofs.Decimals.{length-digits, digits-run}
 use Rattle.numerals.proofs.Stripping.{stripped-le, stripped-lt, given-back}
 use Rattle.numerals.proofs.Texts.{then, unchanged, named}
 
 -- what the reader keeps, with a cap that no fraction reaches
-module _ (s : List ℕ) (i : ℕ) {cap : ℕ} (ec : cap ≡ 1 * 10 ^ fractionDigits) (r : Run) (f : Found s i cap r) where
-  count : r .end - i ≡ run s i .count
+module _ (s : List ℕ) (i : ℕ) {cap : ℕ} (ec : cap ≡ 1 * 10 ^ fractionDigits) (r : DigitsRead) (f : Found s i cap r) where
+  count : r .end - i ≡ numeralAt s i .count
   count = omega (arith, f .ends)
 
   pub too-many : fractionDigits < r .end - i → record { ticks = 0; long = true; end = r .end } ≡ fractionAt s i
   unfolding fractionAt
-  too-many h = rw (lt-leb (run s i .count) fractionDigits (omega (arith, count)), f .ends)
+  too-many h = rw (lt-leb (numeralAt s i .count) fractionDigits (omega (arith, count)), f .ends)
 
   module _ (h : r .end - i ≤ fractionDigits) where
-    exact : r .value ≡ run s i .value
-    exact = omega (arith, f .capped, widened (run s i .value) (run s i .count) fractionDigits (omega (arith, count)) (run-lt s i))
+    exact : r .value ≡ numeralAt s i .value
+    exact = omega (arith, f .capped, widened (numeralAt s i .value) (numeralAt s i .count) fractionDigits (omega (arith, count)) (run-lt s i))
 
     pub ticks-fit : r .value * 10 ^ (fractionDigits - (r .end - i)) < 10 ^ fractionDigits
-    ticks-fit = rw (exact, count) (filled (run s i .value) (run s i .count) fractionDigits (omega (arith, count)) (run-lt s i))
+    ticks-fit = rw (exact, count) (filled (numeralAt s i .value) (numeralAt s i .count) fractionDigits (omega (arith, count)) (run-lt s i))
 
     pub some-ticks : {t : ℕ} → t ≡ r .value * 10 ^ (fractionDigits - (r .end - i)) → record { ticks = t; long = false; end = r .end } ≡ fractionAt s i
     unfolding fractionAt
     some-ticks {t} e =
-        let g : t ≡ run s i .value * 10 ^ (fractionDigits - run s i .count) = e ∙ rw (exact, count) in
-        rw (le-leb (run s i .count) fractionDigits (omega (arith, count)), f .ends, g)
+        let g : t ≡ numeralAt s i .value * 10 ^ (fractionDigits - numeralAt s i .count) = e ∙ rw (exact, count) in
+        rw (le-leb (numeralAt s i .count) fractionDigits (omega (arith, count)), f .ends, g)
 
 -- where the digits end
-pub fraction-end : (s : List ℕ) (i : ℕ) → fractionAt s i .end ≡ i + run s i .count
+pub fraction-end : (s : List ℕ) (i : ℕ) → fractionAt s i .end ≡ i + numeralAt s i .count
 unfolding fractionAt
-fraction-end s i = go (leb (run s i .count) fractionDigits) refl
+fraction-end s i = go (leb (numeralAt s i .count) fractionDigits) refl
   where
-    go : (b : Bool) → leb (run s i .count) fractionDigits ≡ b → fractionOf i (run s i) .end ≡ i + run s i .count
+    go : (b : Bool) → leb (numeralAt s i .count) fractionDigits ≡ b → fractionOf i (numeralAt s i) .end ≡ i + numeralAt s i .count
     go true e = rw e
     go false e = rw e
 
@@ -58,10 +58,10 @@ fraction-le s i h = omega (arith, fraction-end s i, run-le s i h)
 -- there are never ticks for a whole second
 pub fraction-lt : (s : List ℕ) (i : ℕ) → fractionAt s i .ticks < 10 ^ fractionDigits
 unfolding fractionAt
-fraction-lt s i = go (leb (run s i .count) fractionDigits) refl
+fraction-lt s i = go (leb (numeralAt s i .count) fractionDigits) refl
   where
-    go : (b : Bool) → leb (run s i .count) fractionDigits ≡ b → fractionOf i (run s i) .ticks < 10 ^ fractionDigits
-    go true e = rw e (filled (run s i .value) (run s i .count) fractionDigits (leb-true _ _ e) (run-lt s i))
+    go : (b : Bool) → leb (numeralAt s i .count) fractionDigits ≡ b → fractionOf i (numeralAt s i) .ticks < 10 ^ fractionDigits
+    go true e = rw e (filled (numeralAt s i .value) (numeralAt s i .count) fractionDigits (leb-true _ _ e) (run-lt s i))
     go false e = rw e (omega arith)
 
 -- the digits of a fraction's text
@@ -86,7 +86,7 @@ unfolding fractionAt
 fraction-back s i u rest h q e =
     let k : ℕ = stripped fractionDigits u .count in
     let w : ℕ = stripped fractionDigits u .value in
-    let r : run s i ≡ record { value = w; count = k } = ap (number 0 0) e ∙ digits-run k w rest (stripped-lt fractionDigits u h) q in
+    let r : numeralAt s i ≡ record { value = w; count = k } = ap (number 0 0) e ∙ digits-run k w rest (stripped-lt fractionDigits u h) q in
     rw (r, le-leb k fractionDigits (stripped-le fractionDigits u), given-back fractionDigits u h, kept-length u)
 
 -- writing it

@@ -1,6 +1,6 @@
-pub mod Places
+pub mod Shares
 pub mod Powers
-pub mod Runs
+pub mod DigitRows
 pub mod Passing
 pub mod Decimals
 pub mod Filling

@@ -1,4 +1,4 @@
--- Carried: what is kept of a run of digits, and what a text holds as it grows. No promise to a caller rests on it: numbers
+-- Carried: what is kept of a stretch of digits, and what a text holds as it grows. No promise to a caller rests on it: numbers
 -- are Reading.antt and Writing.antt.
 use mathlib.Core.Path.{_≡_}
 use mathlib.Core.Bool.{Bool, true}
@@ -7,20 +7,20 @@ use Prim.Native.Nat.{ℕ, _+_, _≤_, min}
 use lib.Dec.{leb}
 use lib.ListN.{length, take}
 use Rattle.basis.specs.Choice.{both}
-use Rattle.numerals.specs.Reading.{run}
-use Rattle.numerals.specs.declared.Run.{Run}
+use Rattle.numerals.specs.Reading.{numeralAt}
+use Rattle.numerals.specs.declared.DigitsRead.{DigitsRead}
 use Rattle.numerals.specs.declared.Text.{Text}
 
 -- what code keeps of the run at i: where it ends, and its number as far as a cap
-pub record Found (s : List ℕ) (i cap : ℕ) (r : Run) : Type 0 where
-  pub ends : r .end ≡ i + run s i .count
-  pub capped : r .value ≡ min cap (run s i .value)
+pub record Found (s : List ℕ) (i cap : ℕ) (r : DigitsRead) : Type 0 where
+  pub ends : r .end ≡ i + numeralAt s i .count
+  pub capped : r .value ≡ min cap (numeralAt s i .value)
   pub within : r .end ≤ length s
 
 -- the letters by which a text is read have no byte 0 among them: past its end every text has a byte 0
-unfoldable pub marked : List ℕ → Bool
-marked [] = true
-marked (c ∷ cs) = both (leb 1 c) (marked cs)
+unfoldable pub withoutZero : List ℕ → Bool
+withoutZero [] = true
+withoutZero (c ∷ cs) = both (leb 1 c) (withoutZero cs)
 
 -- the first `len` bytes of an array are the text w, and w has as many
 pub record Holds (bytes : List ℕ) (len : ℕ) (w : List ℕ) : Type 0 where

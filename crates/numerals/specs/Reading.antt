@@ -1,4 +1,4 @@
--- Document 01, "Reading text": digits, runs of them, and the digits of a fraction. A number that is read has no bound
+-- Document 01, "Reading text": digits, rows of them, and the digits of a fraction. A number that is read has no bound
 -- here, however many digits it has. A byte past the end of a text counts as 0, which is no digit and no punctuation.
 use mathlib.Core.Bool.{Bool, true, false}
 use mathlib.Core.List.{List, [], _∷_}
@@ -9,7 +9,7 @@ use lib.ListN.{getD, drop}
 use Rattle.basis.specs.Choice.{pick, both}
 use Rattle.numerals.specs.declared.Fraction.{Fraction}
 
--- the byte of a text at a place
+-- the byte of a text at an offset
 abbrev pub at : List ℕ → ℕ → ℕ
 at s i = getD s i 0
 
@@ -17,19 +17,19 @@ at s i = getD s i 0
 unfoldable pub isDigit : ℕ → Bool
 isDigit b = both (leb (code "0") b) (leb b (code "9"))
 
--- a run of digits: their number, and how many they are
+-- a stretch of digits: their number, and how many they are
 pub record Number : Type 0 where
   pub value : ℕ
   pub count : ℕ
 
--- the longest run of digits at the head of a list, after k digits of the number v
+-- the longest stretch of digits at the head of a list, after k digits of the number v
 unfoldable pub number : ℕ → ℕ → List ℕ → Number
 number v k [] = record { value = v; count = k }
 number v k (x ∷ xs) = pick (isDigit x) (number (v * 10 + (x - code "0")) (suc k) xs) (record { value = v; count = k })
 
--- the longest run of digits of a text from a place on
-abbrev pub run : List ℕ → ℕ → Number
-run s i = number 0 0 (drop i s)
+-- the longest stretch of digits of a text from an offset on
+abbrev pub numeralAt : List ℕ → ℕ → Number
+numeralAt s i = number 0 0 (drop i s)
 
 -- a fraction has at most so many digits, each a tenth of the one before; the last counts ticks
 abbrev pub fractionDigits : ℕ
@@ -42,4 +42,4 @@ fractionOf i n =
     (record { ticks = 0; long = true; end = i + n .count })
 
 unfoldable pub fractionAt : List ℕ → ℕ → Fraction
-fractionAt s i = fractionOf i (run s i)
+fractionAt s i = fractionOf i (numeralAt s i)

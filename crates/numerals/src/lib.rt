@@ -14,8 +14,8 @@ pub const FRACTION_DIGITS: usize = 6;
 // The longest text has so many bytes.
 pub const LONGEST: usize = 32;
 
-// A run of digits: where it ends, and its number as far as a cap.
-pub struct Run {
+// A stretch of digits: where it ends, and its number as far as a cap.
+pub struct DigitsRead {
     pub end: usize,
     pub value: u64,
 }
@@ -39,7 +39,7 @@ pub struct Text {
     pub len: usize,
 }
 
-// The byte at a place, 0 past the end.
+// The byte at an offset, 0 past the end.
 pub fn byte(s: &[u8], at: usize) -> u8
     ensures { λ r. ⌜ r ≡ the.at (now (s .entry)) at ⌝ }
 {
@@ -64,8 +64,8 @@ fn longer(v: u64, d: u8, cap: u64) -> u64
     if w < cap { w } else { cap }
 }
 
-// The run of digits from a place on. However long it is, its number stops at the cap and never wraps.
-pub fn digits(s: &[u8], at: usize, cap: u64) -> Run
+// The stretch of digits from an offset on. However long it is, its number stops at the cap and never wraps.
+pub fn digits(s: &[u8], at: usize, cap: u64) -> DigitsRead
     requires { ⌜ (at ≤ length (now s)) × (cap * 10 + 9 < 2 ^ 64) ⌝ }
     ensures { λ r. ⌜ Found (now (s .entry)) at cap r ⌝ }
 {
@@ -74,12 +74,12 @@ pub fn digits(s: &[u8], at: usize, cap: u64) -> Run
     while i < s.len() {
         let b = s[i];
         if !digit(b) {
-            return Run { end: i, value: v };
+            return DigitsRead { end: i, value: v };
         }
         v = longer(v, b - b'0', cap);
         i += 1;
     }
-    Run { end: i, value: v }
+    DigitsRead { end: i, value: v }
 }
 
 // v with k zeros after it.

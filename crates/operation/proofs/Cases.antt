@@ -1,23 +1,23 @@
--- Worked cases by computation, beside those of document 01's table (crate `cases`): the order of the refusals, 16, 9, 5, 4.
+-- Worked cases by computation, beside those of document 01's table (crate `calls_cases`): the order of the refusals, 16, 9, 5, 4.
 use mathlib.Core.Path.{_≡_, refl}
 use mathlib.Core.Bool.{Bool, false}
 use Prim.Native.Nat.{ℕ, _+_, _*_}
 use Rattle.basis.specs.Choice.{both, every}
 use Rattle.basis.specs.Answer.{gives, refuses}
-use Rattle.calendar.specs.Calendar.{total, place, dateOf}
+use Rattle.calendar.specs.Calendar.{total, periodOf, dateOf}
 use Rattle.value.specs.Bounds.{minuteTicks, hourTicks}
 use Rattle.value.specs.Values.{okDate, okOffset, okZone, okDateTime, okSigned}
 use Rattle.value.specs.Kinds.{ofKind, okValue}
-use Rattle.instants.specs.Ticks.{utc, localOf, inYears, placedAt}
+use Rattle.value_instants.specs.Ticks.{utc, localOf, inYears, placedAt}
 use Rattle.value.specs.declared.Offset.the-variants.{East}
 use Rattle.value.specs.declared.Zone.{Zone}
 use Rattle.value.specs.declared.Zone.the-variants.{Absent, At}
 use Rattle.value.specs.declared.Value.{Value}
 use Rattle.value.specs.declared.Value.the-variants.{Date, Time, DateTime, DayTime}
-use Rattle.quantities.specs.Results.{atTicks}
-use Rattle.ordering.specs.Order.{orderIn}
-use Rattle.arithmetic.specs.Products.{productOf, timesOf}
-use Rattle.adjusting.specs.Adjustment.{isZone, adjustedFrom, momentTo, operandTo, adjustOf}
+use Rattle.operation_quantities.specs.Results.{atTicks}
+use Rattle.operation_ordering.specs.Order.{orderIn}
+use Rattle.operation_arithmetic.specs.Products.{productOf, timesOf}
+use Rattle.operation_adjusting.specs.Adjustment.{isZone, adjustedFrom, momentTo, operandTo, adjustOf}
 
 abbrev date : ℕ → ℕ → ℕ → Value
 date y m d = Date (record { year = y; month = m; day = d; micros = 0; zone = Absent })
@@ -49,7 +49,7 @@ zone-last :
     × (adjustOf (dateTime 9999 12 31 23 0 (At (East 0))) (lasts false (15 * hourTicks)) ≡ refuses 5)
     × (adjustOf (dateTime 9999 12 31 23 0 (At (East 0))) (lasts false hourTicks) ≡ refuses 4)
     × (adjustOf (dateTime 9999 12 31 22 0 (At (East 0))) (lasts false hourTicks) ≡ gives (dateTime 9999 12 31 23 0 (At (East 60))))
-unfolding adjustOf operandTo momentTo adjustedFrom isZone atTicks placedAt inYears localOf okValue okDateTime okDate okZone okOffset okSigned both every total place dateOf
+unfolding adjustOf operandTo momentTo adjustedFrom isZone atTicks placedAt inYears localOf okValue okDateTime okDate okZone okOffset okSigned both every total periodOf dateOf
 zone-last = (refl, refl, refl, refl)
 
 -- a factor beyond its bound is refused before a kind that has no product

@@ -12,7 +12,7 @@ use Rattle.value.specs.Refusals.{outside, wrongKind, beyondResult}
 use Rattle.value.specs.Durations.{plusHalf, minusHalf, apart, lessTicks, lessMonths}
 use Rattle.value.specs.Values.{okDayTime, okYearMonth}
 use Rattle.value.specs.Kinds.{kindOf, okValue}
-use Rattle.instants.specs.Ticks.{instantOf}
+use Rattle.value_instants.specs.Ticks.{instantOf}
 use Rattle.value.specs.declared.Offset.{Offset}
 use Rattle.value.specs.declared.DateTime.{DateTime}
 use Rattle.value.specs.declared.DayTime as D
@@ -20,15 +20,15 @@ use Rattle.value.specs.declared.YearMonth as Y
 use Rattle.value.specs.declared.Kind.{Kind}
 use Rattle.value.specs.declared.Value.{Value}
 use Rattle.value.specs.declared.Value.the-variants as VV
-use Rattle.quantities.specs.Operands.{operandOf, kindNumber, sameKind}
-use Rattle.quantities.specs.Results.{inTicks, inMonths}
-use Rattle.quantities.specs.declared.Operand.{Operand}
-use Rattle.quantities.specs.declared.Operand.the-variants.{Moment, DayTime, YearMonth}
-use Rattle.quantities.proofs.Given.{given-rest, gives-same}
-use Rattle.arithmetic.specs.Sums.{opposite, oppositeMonths, sumOf, lessMoment, differenceIn, minusIn}
-use Rattle.arithmetic.proofs.Opposites.{plus-opposite, minus-opposite}
-use Rattle.ordering.specs.Order.{Order, less, equal, greater, up, down, order, operandOrder, orderIn}
-use Rattle.ordering.proofs.OrderLaws.{Comparable, ordered, comparable}
+use Rattle.operation_quantities.specs.Operands.{operandOf, kindNumber, sameKind}
+use Rattle.operation_quantities.specs.Results.{inTicks, inMonths}
+use Rattle.operation_quantities.specs.declared.Operand.{Operand}
+use Rattle.operation_quantities.specs.declared.Operand.the-variants.{Moment, DayTime, YearMonth}
+use Rattle.operation_quantities.proofs.Given.{given-rest, gives-same}
+use Rattle.operation_arithmetic.specs.Sums.{opposite, oppositeMonths, sumOf, lessMoment, differenceIn, minusIn}
+use Rattle.operation_arithmetic.proofs.Opposites.{plus-opposite, minus-opposite}
+use Rattle.operation_ordering.specs.Order.{Order, less, equal, greater, up, down, order, operandOrder, orderIn}
+use Rattle.operation_ordering.proofs.OrderLaws.{Comparable, ordered, comparable}
 
 -- how a duration stands to zero, by its sign and magnitude; the other values have neither
 abbrev signOrder : Bool → ℕ → Order

@@ -12,7 +12,7 @@ use Rattle.value.specs.Bounds.{maxZone, minuteTicks, dayTicks}
 use Rattle.value.specs.Refusals.{outside, badZone}
 use Rattle.value.specs.Values.{okDateTime, okOffset}
 use Rattle.value.specs.Kinds.{kept, okValue}
-use Rattle.instants.specs.Ticks.{localOf, atLocal, instantAt, instantOf, offsetIn, east, west}
+use Rattle.value_instants.specs.Ticks.{localOf, atLocal, instantAt, instantOf, offsetIn, east, west}
 use Rattle.value.specs.declared.Offset.{Offset}
 use Rattle.value.specs.declared.Zone.{Zone}
 use Rattle.value.specs.declared.Zone.the-variants.{At}
@@ -22,15 +22,15 @@ use Rattle.value.specs.declared.Kind.{Kind}
 use Rattle.value.specs.declared.Kind.the-variants as KV
 use Rattle.value.specs.declared.Value.{Value}
 use Rattle.value.specs.declared.Value.the-variants as VV
-use Rattle.instants.proofs.Within.{timed, east-to, west-to}
-use Rattle.instants.proofs.Locals.{local-of-placed}
-use Rattle.quantities.specs.Operands.{valueOf}
-use Rattle.quantities.specs.Results.{atTicks}
-use Rattle.quantities.proofs.Shapes.{moment-ok}
-use Rattle.quantities.proofs.Given.{given-test, given-rest}
-use Rattle.shifting.proofs.Undo.{placed-gives, given-in-years}
-use Rattle.adjusting.specs.Adjustment.{isZone, zoneOf, localAt, adjustedFrom, adjustedTo, momentTo, operandTo, adjustOf}
-use Rattle.adjusting.proofs.Zones.{zone-ok, own-zone, instant-reaches}
+use Rattle.value_instants.proofs.Within.{timed, east-to, west-to}
+use Rattle.value_instants.proofs.Locals.{local-of-placed}
+use Rattle.operation_quantities.specs.Operands.{valueOf}
+use Rattle.operation_quantities.specs.Results.{atTicks}
+use Rattle.operation_quantities.proofs.Shapes.{moment-ok}
+use Rattle.operation_quantities.proofs.Given.{given-test, given-rest}
+use Rattle.operation_shifting.proofs.Undo.{placed-gives, given-in-years}
+use Rattle.operation_adjusting.specs.Adjustment.{isZone, zoneOf, localAt, adjustedFrom, adjustedTo, momentTo, operandTo, adjustOf}
+use Rattle.operation_adjusting.proofs.Zones.{zone-ok, own-zone, instant-reaches}
 use Rattle.operation.proofs.Validity.{adjust-within}
 
 -- the instant of a local time is that from which the local time was taken

@@ -1,5 +1,5 @@
 -- The numbers that each call refuses with: comparing, casting and removing a zone 16 and 9; adjustment 16, 9, 5 and 4.
--- (Those of plus, minus and times are in crate `arithmetic`.)
+-- (Those of plus, minus and times are in crate `operation_arithmetic`.)
 use mathlib.Core.Path.{_≡_, refl}
 use mathlib.Core.Bool.{Bool, true, false}
 use mathlib.Core.List.{List, [], _∷_}
@@ -8,7 +8,7 @@ use Rattle.basis.specs.Choice.{pick, both}
 use Rattle.basis.specs.Answer.{Answer, gives, refuses}
 use Rattle.value.specs.Refusals.{outside, wrongKind, badZone, beyondResult}
 use Rattle.value.specs.Kinds.{kindOf, okValue}
-use Rattle.instants.specs.Ticks.{localOf, instantAt}
+use Rattle.value_instants.specs.Ticks.{localOf, instantAt}
 use Rattle.value.specs.declared.Offset.{Offset}
 use Rattle.value.specs.declared.Zone.{Zone}
 use Rattle.value.specs.declared.Zone.the-variants.{Absent, At}
@@ -16,13 +16,13 @@ use Rattle.value.specs.declared.DateTime.{DateTime}
 use Rattle.value.specs.declared.Kind.{Kind}
 use Rattle.value.specs.declared.Value.{Value}
 use Rattle.value.proofs.Numbers.{among, only, only-either, only-refused}
-use Rattle.quantities.specs.Operands.{operandOf, sameKind}
-use Rattle.quantities.specs.declared.Operand.{Operand}
-use Rattle.quantities.specs.declared.Operand.the-variants.{Moment, DayTime, YearMonth}
-use Rattle.quantities.proofs.Numbers.{placed-numbers}
-use Rattle.ordering.specs.Order.{operandOrder, orderIn}
-use Rattle.casting.specs.Casts.{castsTo, castTo, castOf}
-use Rattle.adjusting.specs.Adjustment.{isZone, zoneOf, localAt, adjustedFrom, momentTo, operandTo, adjustOf, withoutZone, unzoneOf}
+use Rattle.operation_quantities.specs.Operands.{operandOf, sameKind}
+use Rattle.operation_quantities.specs.declared.Operand.{Operand}
+use Rattle.operation_quantities.specs.declared.Operand.the-variants.{Moment, DayTime, YearMonth}
+use Rattle.operation_quantities.proofs.Numbers.{placed-numbers}
+use Rattle.operation_ordering.specs.Order.{operandOrder, orderIn}
+use Rattle.operation_casting.specs.Casts.{castsTo, castTo, castOf}
+use Rattle.operation_adjusting.specs.Adjustment.{isZone, zoneOf, localAt, adjustedFrom, momentTo, operandTo, adjustOf, withoutZone, unzoneOf}
 
 abbrev pub kindNumbers : List ℕ
 kindNumbers = outside ∷ wrongKind ∷ []

@@ -16,7 +16,7 @@ use Rattle.value.specs.Refusals.{outside, badZone}
 use Rattle.value.specs.Values.{okOffset}
 use Rattle.value.specs.Durations.{plusHalf, minusHalf}
 use Rattle.value.specs.Kinds.{kept, okValue}
-use Rattle.instants.specs.Ticks.{localOf, atLocal, inYears, instantAt, east, west}
+use Rattle.value_instants.specs.Ticks.{localOf, atLocal, inYears, instantAt, east, west}
 use Rattle.value.specs.declared.Offset.{Offset}
 use Rattle.value.specs.declared.Zone.the-variants.{At}
 use Rattle.value.specs.declared.DateTime.{DateTime}
@@ -24,15 +24,15 @@ use Rattle.value.specs.declared.DayTime as D
 use Rattle.value.specs.declared.Kind.the-variants as KV
 use Rattle.value.specs.declared.Value.the-variants as VV
 use Rattle.value.proofs.Good.{good}
-use Rattle.instants.proofs.Within.{east-to, west-to}
+use Rattle.value_instants.proofs.Within.{east-to, west-to}
 use Rattle.value.proofs.KindParts.{time-good, of-kind-kept}
-use Rattle.shifting.specs.Shifts.{wrapped, shifted}
-use Rattle.shifting.proofs.Undo.{placed-gives}
-use Rattle.arithmetic.specs.Sums.{sumOf, plusOf, differenceIn, minusIn}
-use Rattle.arithmetic.proofs.Opposites.{plus-opposite, minus-opposite}
-use Rattle.adjusting.specs.Adjustment.{isZone, zoneOf, localAt, adjustedFrom, adjustedTo, momentTo, operandTo, adjustOf}
+use Rattle.operation_shifting.specs.Shifts.{wrapped, shifted}
+use Rattle.operation_shifting.proofs.Undo.{placed-gives}
+use Rattle.operation_arithmetic.specs.Sums.{sumOf, plusOf, differenceIn, minusIn}
+use Rattle.operation_arithmetic.proofs.Opposites.{plus-opposite, minus-opposite}
+use Rattle.operation_adjusting.specs.Adjustment.{isZone, zoneOf, localAt, adjustedFrom, adjustedTo, momentTo, operandTo, adjustOf}
 use Rattle.operation.proofs.Keeping.{referenceDay, on-reference}
-use Rattle.adjusting.proofs.Zones.{zone-ok, own-zone}
+use Rattle.operation_adjusting.proofs.Zones.{zone-ok, own-zone}
 
 pub time-plus-given : (d : DateTime) (t : D.DayTime) → okValue (VV.Time d) ≡ true → okValue (VV.DayTime t) ≡ true
     → plusOf (VV.Time d) (VV.DayTime t) ≡ gives (VV.Time (wrapped d (plusHalf (t .negative) (t .micros)) (minusHalf (t .negative) (t .micros))))

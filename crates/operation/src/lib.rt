@@ -1,9 +1,9 @@
 // The operations of document 01 on values: order, sums and differences, products, casts, adjustment to a zone.
 // Each call checks what it is given (16), then the kinds (9), an adjustment's zone (5), and the result (4).
-use arithmetic::products;
-use arithmetic::sums;
-use ordering::Compared;
-use quantities::results;
+use operation_arithmetic::products;
+use operation_arithmetic::sums;
+use operation_ordering::Compared;
+use operation_quantities::results;
 use value::Kind;
 use value::Offset;
 use value::Outcome;
@@ -12,12 +12,12 @@ use value::Value;
 use value::valid;
 ghost use mathlib.Core.Path.{_≡_};
 ghost use Rattle.value.specs.Kinds.{meaning};
-ghost use Rattle.instants.specs.Ticks.{utc};
-ghost use Rattle.ordering.specs.Order as order;
-ghost use Rattle.arithmetic.specs.Sums as sums;
-ghost use Rattle.arithmetic.specs.Products as products;
-ghost use Rattle.casting.specs.Casts as casts;
-ghost use Rattle.adjusting.specs.Adjustment as adjustment;
+ghost use Rattle.value_instants.specs.Ticks.{utc};
+ghost use Rattle.operation_ordering.specs.Order as order;
+ghost use Rattle.operation_arithmetic.specs.Sums as sums;
+ghost use Rattle.operation_arithmetic.specs.Products as products;
+ghost use Rattle.operation_casting.specs.Casts as casts;
+ghost use Rattle.operation_adjusting.specs.Adjustment as adjustment;
 
 // The zone that values without one count in.
 fn zone_for_none() -> Offset
@@ -27,9 +27,9 @@ fn zone_for_none() -> Offset
 }
 
 pub fn compare(a: Value, b: Value) -> Compared
-    ensures { λ r. ⌜ order.meaning r ≡ order.orderIn utc a b ⌝ }
+    ensures { λ r. ⌜ order.comparedMeaning r ≡ order.orderIn utc a b ⌝ }
 {
-    ordering::compare_in(a, b, zone_for_none())
+    operation_ordering::compare_in(a, b, zone_for_none())
 }
 
 pub fn plus(a: Value, b: Value) -> Outcome
@@ -69,10 +69,10 @@ pub fn cast(a: Value, kind: Kind) -> Outcome
     if !valid::value_ok(a) {
         return results::refused(Refusal::OUTSIDE);
     }
-    if !casting::casts_to(a.kind(), kind) {
+    if !operation_casting::casts_to(a.kind(), kind) {
         return results::refused(Refusal::WRONG_KIND);
     }
-    Outcome::Is(casting::cast_to(kind, a))
+    Outcome::Is(operation_casting::cast_to(kind, a))
 }
 
 // To a zone given as a dayTimeDuration.
@@ -85,7 +85,7 @@ pub fn adjust(a: Value, zone: Value) -> Outcome
     if !valid::value_ok(zone) {
         return results::refused(Refusal::OUTSIDE);
     }
-    adjusting::operand_to(a, zone)
+    operation_adjusting::operand_to(a, zone)
 }
 
 // The zone removed; local fields stay.
@@ -95,5 +95,5 @@ pub fn unzone(a: Value) -> Outcome
     if !valid::value_ok(a) {
         return results::refused(Refusal::OUTSIDE);
     }
-    adjusting::without_zone(a)
+    operation_adjusting::without_zone(a)
 }

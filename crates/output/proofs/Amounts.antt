@@ -10,20 +10,20 @@ use borrow.Author.Tests.{ltb-true, ltb-false}
 use lib.Dec.{ltb}
 use lib.ListN.{length, length-append}
 use Rattle.basis.specs.Choice.{pick}
-use Rattle.timetable.specs.Lines.{Line, lineAt, nextLine, linesFrom, placedLines}
+use Rattle.timetable.specs.Lines.{Line, lineAt, nextLine, linesFrom, offsetLines}
 use Rattle.timetable.proofs.Offsets.{line-or-end, lines-end, lines-next, next-further}
 use Rattle.value.specs.Refusals.{badCondition, wrongTimetable}
-use Rattle.seat.specs.Bounds.{maxTimetable}
-use Rattle.seat.specs.Files.{Files}
-use Rattle.seat.specs.Request.{asking}
+use Rattle.desk_seat.specs.Bounds.{maxTimetable}
+use Rattle.desk_seat.specs.Files.{Files}
+use Rattle.desk_seat.specs.Request.{asking}
 use Rattle.desk.specs.Desk.{freshFor, openOf, turnOf}
 use Rattle.desk.specs.declared.Desk.{Desk}
 use Rattle.output_lines.specs.Text.{openLine, turnLine, lineRoom}
 use Rattle.output_turns.specs.Turns.{isIdle}
-use Rattle.pieces.specs.Bounds.{maxInput, roomSize}
-use Rattle.pieces.specs.Pieces.{turnsPiece, mostTurns}
-use Rattle.pieces.specs.Carried.{openedTold, untilIdleTold, toldAtEnd}
-use Rattle.pieces.proofs.Starting.{long-timetable, long-input, both-fit}
+use Rattle.output_pieces.specs.Bounds.{maxInput, roomSize}
+use Rattle.output_pieces.specs.Pieces.{turnsPiece, mostTurns}
+use Rattle.output_pieces.specs.Carried.{openedTold, untilIdleTold, toldAtEnd}
+use Rattle.output_pieces.proofs.Starting.{long-timetable, long-input, both-fit}
 use Rattle.output.specs.Output.{openLines, turnLines, openedFor, outputOf, mostBytes, Bounded}
 use Rattle.output.specs.Carried.{ToldIsTheOutput}
 use Rattle.output.proofs.Lengths.{open-fits, refused-fits}
@@ -68,13 +68,13 @@ told-is-the-output f input = go (ltb maxTimetable (length (f .timetable))) (ltb 
     go false false p q =
         let h = ltb-false maxTimetable (length (f .timetable)) p in
         let l = ltb-false maxInput (length input) q in
-        let o = opened-ready f (placedLines input) (freshFor f .desk) (fresh-ready f h) in
+        let o = opened-ready f (offsetLines input) (freshFor f .desk) (fresh-ready f h) in
         rw (both-fit (length (f .timetable)) (length input) h l, both-told f input h l)
         (omega (
           arith,
-          opened-told (placedLines input) (freshFor f .desk),
+          opened-told (offsetLines input) (freshFor f .desk),
           until-idle-told mostTurns f (openedFor f input) o (enough f (openedFor f input) o),
-          length-append (openLines (placedLines input) (freshFor f .desk)) (turnLines mostTurns f (openedFor f input)),
+          length-append (openLines (offsetLines input) (freshFor f .desk)) (turnLines mostTurns f (openedFor f input)),
         ))
 
 -- ---- a bound
@@ -106,8 +106,8 @@ turn-lines-few (suc n) f d o =
     go true = omega arith
     go false = omega arith
 
-from-start : (input : List ℕ) (d : Desk) → openLines (placedLines input) d ≡ openLines (linesFrom input 0) d
-unfolding placedLines
+from-start : (input : List ℕ) (d : Desk) → openLines (offsetLines input) d ≡ openLines (linesFrom input 0) d
+unfolding offsetLines
 from-start input d = refl
 
 pub bounded : Bounded
@@ -120,11 +120,11 @@ bounded f input = go (ltb maxTimetable (length (f .timetable))) (ltb maxInput (l
     go false false p q =
         let h = ltb-false maxTimetable (length (f .timetable)) p in
         let l = ltb-false maxInput (length input) q in
-        let o = opened-ready f (placedLines input) (freshFor f .desk) (fresh-ready f h) in
+        let o = opened-ready f (offsetLines input) (freshFor f .desk) (fresh-ready f h) in
         rw (both-told f input h l)
         (omega (
           arith,
-          length-append (openLines (placedLines input) (freshFor f .desk)) (turnLines mostTurns f (openedFor f input)),
+          length-append (openLines (offsetLines input) (freshFor f .desk)) (turnLines mostTurns f (openedFor f input)),
           turn-lines-few mostTurns f (openedFor f input) o,
           ap length (from-start input (freshFor f .desk)),
           open-lines-few maxInput input 0 (freshFor f .desk) (omega arith),

@@ -5,23 +5,23 @@ use Prim.Native.Nat.{ℕ, _≤_, _<_}
 use lib.ListN.{length}
 use Rattle.basis.specs.Choice.{both, every}
 use Rattle.basis.specs.Letters.{bytes}
-use Rattle.timetable.specs.Parts.{parted}
-use Rattle.timetable.specs.Lines.{lessEmptyLast, linesOf, placed, linesFrom, placedLines}
+use Rattle.timetable.specs.Parted.{parted}
+use Rattle.timetable.specs.Lines.{lessEmptyLast, linesOf, withOffsets, linesFrom, offsetLines}
 use Rattle.numerals.specs.Writing.{shortest, decimal}
-use Rattle.seat.specs.Bounds.{maxTimetable}
-use Rattle.seat.specs.Files.{Files, over}
-use Rattle.desk.specs.Scan.{first, all}
-use Rattle.desk.specs.Soundness.{placeSound, soundOf}
+use Rattle.desk_seat.specs.Bounds.{maxTimetable}
+use Rattle.desk_seat.specs.Files.{Files, over}
+use Rattle.desk.specs.Scan.{firstPassing, all}
+use Rattle.desk.specs.Soundness.{soundAt, soundOf}
 use Rattle.desk.specs.Desk.{freshOf, nextOf, turnOf}
 use Rattle.output_lines.specs.Text.{numbers, lineWith}
-use Rattle.pieces.specs.Bounds.{maxInput}
-use Rattle.pieces.specs.Pieces.{openedAll}
+use Rattle.output_pieces.specs.Bounds.{maxInput}
+use Rattle.output_pieces.specs.Pieces.{openedAll}
 use Rattle.output.specs.Output.{openLines, turnLines, outputOf}
 use Rattle.output.proofs.Telling.{long-timetable-told, long-input-told}
 
 -- nothing to read: `idle` and byte 10
 pub nothing-read : outputOf (over []) [] ≡ bytes "idle\n"
-unfolding both every parted lessEmptyLast linesOf placed linesFrom placedLines first all placeSound soundOf freshOf nextOf turnOf numbers lineWith openedAll openLines turnLines outputOf
+unfolding both every parted lessEmptyLast linesOf withOffsets linesFrom offsetLines firstPassing all soundAt soundOf freshOf nextOf turnOf numbers lineWith openedAll openLines turnLines outputOf
 nothing-read = refl
 
 -- `refused`, a tab, 11 and byte 10

@@ -9,25 +9,25 @@ use borrow.Author.Tests.{le-leb, le-ltb, lt-ltb, ltb-true, ltb-false}
 use lib.Dec.{leb, ltb}
 use lib.ListN.{length}
 use Rattle.basis.specs.Choice.{pick}
-use Rattle.timetable.specs.Lines.{lineAt, nextLine, linesFrom, placedLines}
+use Rattle.timetable.specs.Lines.{lineAt, nextLine, linesFrom, offsetLines}
 use Rattle.timetable.proofs.Offsets.{line-or-end, lines-end, lines-next, next-further}
 use Rattle.value.specs.Refusals.{badCondition, wrongTimetable}
-use Rattle.seat.specs.Bounds.{maxTimetable}
-use Rattle.seat.specs.Files.{Files}
-use Rattle.seat.specs.Request.{asking}
-use Rattle.seat.specs.Answers.{Turned}
+use Rattle.desk_seat.specs.Bounds.{maxTimetable}
+use Rattle.desk_seat.specs.Files.{Files}
+use Rattle.desk_seat.specs.Request.{asking}
+use Rattle.desk_seat.specs.Answers.{Turned}
 use Rattle.desk.specs.Answers.{After}
 use Rattle.desk.specs.Desk.{freshFor, turnOf, noDesk}
 use Rattle.desk.specs.declared.Desk.{Desk}
 use Rattle.desk_laws.proofs.Sound.{sound-out}
 use Rattle.output_lines.specs.Text.{refusedLine, turnLine}
-use Rattle.output_turns.specs.Turns.{isIdle, none, onto, taken, turnsOf}
-use Rattle.pieces.specs.Bounds.{maxInput, roomSize}
-use Rattle.pieces.specs.Pieces.{Piece, stopped, startPiece, openPiece, turnsPiece, Stage, starting, opening, turning, stageAt, nextStage, pieceOf, openedAll, untilIdle, mostTurns}
-use Rattle.pieces.proofs.Starting.{long-timetable, long-input, both-fit}
+use Rattle.output_turns.specs.Turns.{isIdle, none, ontoTaken, taken, turnsOf}
+use Rattle.output_pieces.specs.Bounds.{maxInput, roomSize}
+use Rattle.output_pieces.specs.Pieces.{Piece, stopped, startPiece, openPiece, turnsPiece, Stage, starting, opening, turning, stageAt, nextStage, pieceOf, openedAll, untilIdle, mostTurns}
+use Rattle.output_pieces.proofs.Starting.{long-timetable, long-input, both-fit}
 use Rattle.output_turns.proofs.Counting.{taken-next}
 use Rattle.output.specs.Output.{openLines, outputOf}
-use Rattle.output.specs.Joined.{pieceAfter, joined, Pieces, PiecesAreTheOutput, EndsIdle}
+use Rattle.output.specs.Joined.{pieceAfter, joinedPieces, Pieces, PiecesAreTheOutput, EndsIdle}
 use Rattle.output.proofs.Left.{deskLeft}
 use Rattle.output.proofs.Ready.{Ready, AtIdle, Works, turn-goes, line-fits, turn-ready, enough, open-ready, opened-ready, fresh-ready}
 use Rattle.output.proofs.TurnLines.{told, Leads, at-most-leads}
@@ -36,19 +36,19 @@ use Rattle.output.proofs.TurnLines.{told, Leads, at-most-leads}
 record From (f : Files) (input : List ℕ) (s : Stage) (d : Desk) (text : List ℕ) (end : Desk) (m : ℕ) : Type 0 where
   earlier : (j : ℕ) → j < m → pieceAfter j f input s d .more ≡ true
   last : pieceAfter m f input s d .more ≡ false
-  whole : joined (suc m) f input s d ≡ text
+  whole : joinedPieces (suc m) f input s d ≡ text
   desk : pieceAfter m f input s d .desk ≡ end
 
 module _ (f : Files) (input : List ℕ) (s : Stage) (d : Desk) where
   -- nothing more is due after this piece
   ends : (text : List ℕ) (end : Desk) → pieceOf f input s d .more ≡ false → pieceOf f input s d .text ≡ text → pieceOf f input s d .desk ≡ end → From f input s d text end 0
-  unfolding pieceAfter joined
+  unfolding pieceAfter joinedPieces
   ends text end e t h = record { earlier = λ j l. absurd (omega arith); last = e; whole = append-nil _ ∙ t; desk = h }
 
   -- more is due after it
   goes : (text rest : List ℕ) (end : Desk) (m : ℕ) → pieceOf f input s d .more ≡ true → pieceOf f input s d .text ++ rest ≡ text
       → From f input (nextStage input s) (pieceOf f input s d .desk) rest end m → From f input s d text end (suc m)
-  unfolding pieceAfter joined
+  unfolding pieceAfter joinedPieces
   goes text rest end m e t r =
       record {
         earlier = before;
@@ -110,7 +110,7 @@ module _ (f : Files) (d : Desk) (o : Ready f d) where
   pub piece-less : turnsPiece f d roomSize .more ≡ true → deskLeft f (turnsPiece f d roomSize .desk) < deskLeft f d
   piece-less h = go (turn-goes f d o)
     where
-      first-is : taken f d roomSize ≡ pick (leb (length line) roomSize) (onto line (pick (isIdle (turnOf f d .answer)) (record { desk = turnOf f d .desk; text = []; idle = true }) (taken f (turnOf f d .desk) (roomSize - length line)))) (none d)
+      first-is : taken f d roomSize ≡ pick (leb (length line) roomSize) (ontoTaken line (pick (isIdle (turnOf f d .answer)) (record { desk = turnOf f d .desk; text = []; idle = true }) (taken f (turnOf f d .desk) (roomSize - length line)))) (none d)
       first-is = taken-next f d roomSize
 
       go : AtIdle f d ⊎ Works f d → deskLeft f (turnsPiece f d roomSize .desk) < deskLeft f d
@@ -196,8 +196,8 @@ module _ (f : Files) (input : List ℕ) where
       (line-or-end input at)
 
 -- ---- the start
-from-start : (f : Files) (input : List ℕ) (d : Desk) → (openLines (linesFrom input 0) d ≡ openLines (placedLines input) d) × (openedAll (linesFrom input 0) d ≡ openedAll (placedLines input) d)
-unfolding placedLines
+from-start : (f : Files) (input : List ℕ) (d : Desk) → (openLines (linesFrom input 0) d ≡ openLines (offsetLines input) d) × (openedAll (linesFrom input 0) d ≡ openedAll (offsetLines input) d)
+unfolding offsetLines
 from-start f input d = (refl, refl)
 
 module _ (f : Files) (input : List ℕ) where
@@ -252,6 +252,6 @@ until-idle (suc n) f d o l =
 pub ends-idle : EndsIdle
 ends-idle f input l h =
     let e = both-fit (length (f .timetable)) (length input) l h in
-    let o = opened-ready f (placedLines input) (freshFor f .desk) (fresh-ready f l) in
-    let i = until-idle mostTurns f (openedAll (placedLines input) (freshFor f .desk)) o (enough f _ o) in
+    let o = opened-ready f (offsetLines input) (freshFor f .desk) (fresh-ready f l) in
+    let i = until-idle mostTurns f (openedAll (offsetLines input) (freshFor f .desk)) o (enough f _ o) in
     rw e (ap (λ (x : After Turned). x .answer) i)

@@ -8,13 +8,13 @@ use mathlib.Core.Logic.{⊎-elim}
 use Prim.Native.Nat.{ℕ, zero, suc, _+_, _*_, _≤_, _<_}
 use lib.ListN.{length, getD, set}
 use Rattle.basis.specs.Choice.{pick}
-use Rattle.seat.specs.Bounds.{maxTimetable}
-use Rattle.seat.specs.Files.{Files}
-use Rattle.seat.specs.Serving.{serveOf}
-use Rattle.seat.specs.TurnsLeft.{turnsLeft}
-use Rattle.seat.specs.declared.Seat.{Seat}
-use Rattle.seat.proofs.Serving.{line-or-done, on-held, off-free}
-use Rattle.seat.proofs.TurnsLeft.{left-on, left-few}
+use Rattle.desk_seat.specs.Bounds.{maxTimetable}
+use Rattle.desk_seat.specs.Files.{Files}
+use Rattle.desk_seat.specs.Serving.{serveOf}
+use Rattle.desk_seat.specs.TurnsLeft.{turnsLeft}
+use Rattle.desk_seat.specs.declared.Seat.{Seat}
+use Rattle.desk_seat.proofs.Serving.{line-or-done, on-held, off-free}
+use Rattle.desk_seat.proofs.TurnsLeft.{left-on, left-few}
 use Rattle.desk.specs.Seats.{seatAt}
 use Rattle.desk.specs.declared.Desk.{Desk}
 
@@ -63,7 +63,7 @@ unfolding seatsLeft
 left-bounded f [] l = omega arith
 left-bounded f (s ∷ ss) l = omega (arith, seat-bounded f s l, left-bounded f ss l)
 
--- a desk whose seats are those of another but for one place, where a held seat was served, has less left
+-- a desk whose seats are those of another but for one offset, where a held seat was served, has less left
 pub serving-less : (f : Files) (d h : Desk) (i : ℕ) → i < length (d .seats) → seatAt d i .held ≡ true → h .seats ≡ set (d .seats) i (serveOf f (seatAt d i) .seat)
     → deskLeft f h < deskLeft f d
 unfolding deskLeft

@@ -16,16 +16,16 @@ use Rattle.timetable.specs.Lines.{newline, lineAt}
 use Rattle.numerals.specs.Writing.{decimal}
 use Rattle.value.specs.Refusals.{noSeat, notSound, noMoreTickets}
 use Rattle.condition.proofs.Readable.{Readable, accepted-readable}
-use Rattle.results.proofs.Numbers.{atLine}
-use Rattle.seat.specs.Bounds.{maxTimetable}
-use Rattle.seat.specs.Files.{Files}
-use Rattle.seat.specs.Request.{Request}
-use Rattle.seat.specs.Query.{Result, hit, miss, unreadable, checkOf}
-use Rattle.seat.specs.Seat.{conditionOf}
-use Rattle.seat.specs.Serving.{serveOf, judgedAs, resultOf, afterLine}
-use Rattle.seat.specs.declared.Seat.{Seat}
-use Rattle.seat.proofs.Soundness.{Servable}
-use Rattle.seat.proofs.Serving.{line-or-done, serve-line, serve-done}
+use Rattle.condition_parts.proofs.Numbers.{atLine}
+use Rattle.desk_seat.specs.Bounds.{maxTimetable}
+use Rattle.desk_seat.specs.Files.{Files}
+use Rattle.desk_seat.specs.Request.{Request}
+use Rattle.desk_seat.specs.Conditions.{Result, hit, miss, unreadable, checkOf}
+use Rattle.desk_seat.specs.Seat.{conditionOf}
+use Rattle.desk_seat.specs.Serving.{serveOf, judgedAs, seatResult, afterLine}
+use Rattle.desk_seat.specs.declared.Seat.{Seat}
+use Rattle.desk_seat.proofs.Soundness.{Servable}
+use Rattle.desk_seat.proofs.Serving.{line-or-done, serve-line, serve-done}
 use Rattle.desk.specs.Bounds.{seatCount, lastTicket}
 use Rattle.desk.specs.Seats.{firstFrom}
 use Rattle.desk.specs.Soundness.{soundOf}
@@ -83,7 +83,7 @@ pub served-fits : (f : Files) (long : ℕ) (s : Seat) → Servable long s → lo
 served-fits f long s v l k =
     let w = v .within in
     let c = v .counts in
-    ⊎-elim (λ b. rw (serve-line f s b) (judged-fits (afterLine f s) s (resultOf f s) (accepted-readable (conditionOf s) (lineAt (f .timetable) (s .offset) .text) (v .good)) k (omega arith)))
+    ⊎-elim (λ b. rw (serve-line f s b) (judged-fits (afterLine f s) s (seatResult f s) (accepted-readable (conditionOf s) (lineAt (f .timetable) (s .offset) .text) (v .good)) k (omega arith)))
     (λ b. rw (serve-done f s b) (three-fit (bytes "done") (s .ticket) (s .hits) (s .unreadable) (leb-true (length (bytes "done")) 10 refl) k (omega arith) (omega arith)))
     (line-or-done f s)
 

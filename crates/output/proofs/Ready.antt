@@ -11,14 +11,14 @@ use lib.Dec.{ltb}
 use lib.ListN.{length}
 use Rattle.basis.specs.Answer.{Answer, gives, refuses}
 use Rattle.timetable.specs.Lines.{Line}
-use Rattle.seat.specs.Bounds.{maxTimetable}
-use Rattle.seat.specs.Files.{Files}
-use Rattle.seat.specs.Request.{Request, asking}
-use Rattle.seat.specs.Query.{checkOf}
-use Rattle.seat.specs.Answers.{Turned, idle, hitAt, missAt, unreadableAt, doneWith, ticketOf}
-use Rattle.seat.specs.Serving.{serveOf}
-use Rattle.seat.proofs.Soundness.{servable}
-use Rattle.seat.proofs.Serving.{served-answer}
+use Rattle.desk_seat.specs.Bounds.{maxTimetable}
+use Rattle.desk_seat.specs.Files.{Files}
+use Rattle.desk_seat.specs.Request.{Request, asking}
+use Rattle.desk_seat.specs.Conditions.{checkOf}
+use Rattle.desk_seat.specs.Answers.{Turned, idle, hitAt, missAt, unreadableAt, doneWith, ticketOf}
+use Rattle.desk_seat.specs.Serving.{serveOf}
+use Rattle.desk_seat.proofs.Soundness.{servable}
+use Rattle.desk_seat.proofs.Serving.{served-answer}
 use Rattle.desk.specs.Bounds.{seatCount, lastTicket}
 use Rattle.desk.specs.Seats.{seatAt, firstFrom}
 use Rattle.desk.specs.Soundness.{soundOf}
@@ -30,7 +30,7 @@ use Rattle.desk_laws.proofs.Steps.{old-ticket, Turns, turn-cases, turn-lengths,
 use Rattle.desk_laws.proofs.Lasting.{open-lasts, turn-lasts}
 use Rattle.output_lines.specs.Text.{turnLine, lineRoom}
 use Rattle.output_turns.specs.Turns.{isIdle}
-use Rattle.pieces.specs.Pieces.{openedAll, mostTurns}
+use Rattle.output_pieces.specs.Pieces.{openedAll, mostTurns}
 use Rattle.output.proofs.Lengths.{idle-fits, served-fits}
 use Rattle.output.proofs.Left.{deskLeft, serving-less, desk-bounded}
 

@@ -10,16 +10,16 @@ use lib.Dec.{ltb}
 use lib.ListN.{length, take, length-take}
 use lib.Seq.{take-all}
 use Rattle.basis.specs.Answer.{Answer, gives}
-use Rattle.timetable.specs.Lines.{placedLines}
+use Rattle.timetable.specs.Lines.{offsetLines}
 use Rattle.value.specs.Refusals.{badCondition, wrongTimetable}
-use Rattle.seat.specs.Bounds.{maxTimetable}
-use Rattle.seat.specs.Files.{Files, over}
-use Rattle.seat.specs.Answers.{Turned, idle}
+use Rattle.desk_seat.specs.Bounds.{maxTimetable}
+use Rattle.desk_seat.specs.Files.{Files, over}
+use Rattle.desk_seat.specs.Answers.{Turned, idle}
 use Rattle.desk.specs.Desk.{freshFor}
 use Rattle.output_lines.specs.Text.{refusedLine, turnLine}
 use Rattle.output_turns.specs.Turns.{linesOfTurns}
-use Rattle.pieces.specs.Bounds.{maxInput}
-use Rattle.pieces.specs.Pieces.{mostTurns}
+use Rattle.output_pieces.specs.Bounds.{maxInput}
+use Rattle.output_pieces.specs.Pieces.{mostTurns}
 use Rattle.output.specs.Output.{openLines, turnLines, openedFor, outputOf, GoesToIdle, LastIsIdle, ReadsEnough}
 use Rattle.output.proofs.Ready.{opened-ready, fresh-ready, enough}
 use Rattle.output.proofs.TurnLines.{idles, lines-last}
@@ -35,18 +35,18 @@ module _ (f : Files) (input : List ℕ) where
     unfolding outputOf
     long-input-told l = rw (le-ltb maxTimetable (length (f .timetable)) h, lt-ltb maxInput (length input) l)
 
-    pub both-told : length input ≤ maxInput → outputOf f input ≡ openLines (placedLines input) (freshFor f .desk) ++ turnLines mostTurns f (openedFor f input)
+    pub both-told : length input ≤ maxInput → outputOf f input ≡ openLines (offsetLines input) (freshFor f .desk) ++ turnLines mostTurns f (openedFor f input)
     unfolding outputOf
     both-told l = rw (le-ltb maxTimetable (length (f .timetable)) h, le-ltb maxInput (length input) l)
 
 -- ---- to Idle
 pub goes-to-idle : GoesToIdle
 goes-to-idle f input l h =
-    let o = opened-ready f (placedLines input) (freshFor f .desk) (fresh-ready f l) in
+    let o = opened-ready f (offsetLines input) (freshFor f .desk) (fresh-ready f l) in
     let r = idles mostTurns f (openedFor f input) o (enough f (openedFor f input) o) in (
       r .0,
       record {
-        whole = both-told f input l h ∙ ap (λ (x : List ℕ). openLines (placedLines input) (freshFor f .desk) ++ x) (r .1 .whole);
+        whole = both-told f input l h ∙ ap (λ (x : List ℕ). openLines (offsetLines input) (freshFor f .desk) ++ x) (r .1 .whole);
         earlier = r .1 .earlier;
         last = r .1 .last;
       },
@@ -55,11 +55,11 @@ goes-to-idle f input l h =
 pub last-is-idle : LastIsIdle
 last-is-idle f input l h =
     let r = goes-to-idle f input l h in
-    let a = openLines (placedLines input) (freshFor f .desk) in
+    let a = openLines (offsetLines input) (freshFor f .desk) in
     let b = linesOfTurns (r .0) f (openedFor f input) in (
       a ++ b,
       r .1 .whole
-          ∙ ap (λ (x : List ℕ). openLines (placedLines input) (freshFor f .desk) ++ x)
+          ∙ ap (λ (x : List ℕ). openLines (offsetLines input) (freshFor f .desk) ++ x)
           (lines-last (r .0) f (openedFor f input) ∙ ap (λ (x : Answer Turned). linesOfTurns (r .0) f (openedFor f input) ++ turnLine x) (r .1 .last))
           ∙ sym (append-assoc a b (turnLine (gives idle))),
     )

@@ -10,14 +10,14 @@ use lib.Dec.{leb}
 use lib.ListN.{length}
 use Rattle.basis.specs.Choice.{pick}
 use Rattle.basis.specs.Answer.{gives}
-use Rattle.seat.specs.Files.{Files}
-use Rattle.seat.specs.Answers.{Turned, idle}
+use Rattle.desk_seat.specs.Files.{Files}
+use Rattle.desk_seat.specs.Answers.{Turned, idle}
 use Rattle.desk.specs.Answers.{After}
 use Rattle.desk.specs.Desk.{turnOf}
 use Rattle.desk.specs.declared.Desk.{Desk}
 use Rattle.output_lines.specs.Text.{turnLine}
 use Rattle.output_turns.specs.Turns.{isIdle, Taken, none, atMost, deskAfter, linesOfTurns, answerAfter}
-use Rattle.pieces.specs.Pieces.{mostTurns}
+use Rattle.output_pieces.specs.Pieces.{mostTurns}
 use Rattle.output.specs.Output.{turnLines}
 use Rattle.output.proofs.Left.{deskLeft}
 use Rattle.output.proofs.Ready.{Ready, AtIdle, Works, turn-goes, turn-ready, enough}

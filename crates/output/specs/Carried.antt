@@ -4,8 +4,8 @@ use mathlib.Core.Path.{_≡_}
 use mathlib.Core.List.{List}
 use Prim.Native.Nat.{ℕ}
 use lib.ListN.{length}
-use Rattle.seat.specs.Files.{Files}
-use Rattle.pieces.specs.Carried.{toldAtEnd}
+use Rattle.desk_seat.specs.Files.{Files}
+use Rattle.output_pieces.specs.Carried.{toldAtEnd}
 use Rattle.output.specs.Output.{outputOf}
 
 -- the bytes of the pieces, counted stage by stage, are as many as the output has

@@ -6,13 +6,13 @@ use mathlib.Core.List.{List, [], _++_}
 use Prim.Native.Nat.{ℕ, zero, suc, _+_, _≤_, _<_}
 use lib.ListN.{length}
 use Rattle.basis.specs.Answer.{gives}
-use Rattle.seat.specs.Bounds.{maxTimetable}
-use Rattle.seat.specs.Files.{Files}
-use Rattle.seat.specs.Answers.{idle}
+use Rattle.desk_seat.specs.Bounds.{maxTimetable}
+use Rattle.desk_seat.specs.Files.{Files}
+use Rattle.desk_seat.specs.Answers.{idle}
 use Rattle.desk.specs.Desk.{noDesk, turnOf}
 use Rattle.desk.specs.declared.Desk.{Desk}
-use Rattle.pieces.specs.Bounds.{maxInput}
-use Rattle.pieces.specs.Pieces.{Piece, Stage, starting, nextStage, pieceOf, mostTurns, deskAtEnd}
+use Rattle.output_pieces.specs.Bounds.{maxInput}
+use Rattle.output_pieces.specs.Pieces.{Piece, Stage, starting, nextStage, pieceOf, mostTurns, deskAtEnd}
 use Rattle.output.specs.Output.{outputOf}
 
 -- the piece after n others, from a stage and a desk
@@ -21,9 +21,9 @@ pieceAfter zero f input s d = pieceOf f input s d
 pieceAfter (suc n) f input s d = pieceAfter n f input (nextStage input s) (pieceOf f input s d .desk)
 
 -- the bytes of n pieces, joined
-unfoldable pub joined : ℕ → Files → List ℕ → Stage → Desk → List ℕ
-joined zero f input s d = []
-joined (suc n) f input s d = pieceOf f input s d .text ++ joined n f input (nextStage input s) (pieceOf f input s d .desk)
+unfoldable pub joinedPieces : ℕ → Files → List ℕ → Stage → Desk → List ℕ
+joinedPieces zero f input s d = []
+joinedPieces (suc n) f input s d = pieceOf f input s d .text ++ joinedPieces n f input (nextStage input s) (pieceOf f input s d .desk)
 
 -- the pieces of the program, from its start, where there is no desk yet
 abbrev pub piece : ℕ → Files → List ℕ → Piece
@@ -38,7 +38,7 @@ pub record Pieces (f : Files) (input : List ℕ) (m : ℕ) : Type 0 where
   pub within : m < pieceCount
   pub earlier : (j : ℕ) → j < m → piece j f input .more ≡ true
   pub last : piece m f input .more ≡ false
-  pub whole : joined (suc m) f input starting noDesk ≡ outputOf f input
+  pub whole : joinedPieces (suc m) f input starting noDesk ≡ outputOf f input
   pub desk : piece m f input .desk ≡ deskAtEnd f input
 
 abbrev pub PiecesAreTheOutput : Type 0

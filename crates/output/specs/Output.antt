@@ -13,18 +13,18 @@ use lib.Dec.{ltb}
 use lib.ListN.{length, take}
 use Rattle.basis.specs.Choice.{pick}
 use Rattle.basis.specs.Answer.{gives}
-use Rattle.timetable.specs.Lines.{Line, placedLines}
+use Rattle.timetable.specs.Lines.{Line, offsetLines}
 use Rattle.value.specs.Refusals.{badCondition, wrongTimetable}
-use Rattle.seat.specs.Bounds.{maxTimetable}
-use Rattle.seat.specs.Files.{Files, over}
-use Rattle.seat.specs.Request.{asking}
-use Rattle.seat.specs.Answers.{idle}
+use Rattle.desk_seat.specs.Bounds.{maxTimetable}
+use Rattle.desk_seat.specs.Files.{Files, over}
+use Rattle.desk_seat.specs.Request.{asking}
+use Rattle.desk_seat.specs.Answers.{idle}
 use Rattle.desk.specs.Desk.{freshFor, openOf, turnOf}
 use Rattle.desk.specs.declared.Desk.{Desk}
 use Rattle.output_lines.specs.Text.{refusedLine, openLine, turnLine, lineRoom}
 use Rattle.output_turns.specs.Turns.{isIdle, linesOfTurns, answerAfter}
-use Rattle.pieces.specs.Bounds.{maxInput}
-use Rattle.pieces.specs.Pieces.{openedAll, mostTurns}
+use Rattle.output_pieces.specs.Bounds.{maxInput}
+use Rattle.output_pieces.specs.Pieces.{openedAll, mostTurns}
 
 -- "opens them in order": a line for each condition
 unfoldable pub openLines : List Line → Desk → List ℕ
@@ -39,7 +39,7 @@ turnLines (suc n) f d =
 
 -- the desk with the conditions opened
 abbrev pub openedFor : Files → List ℕ → Desk
-openedFor f input = openedAll (placedLines input) (freshFor f .desk)
+openedFor f input = openedAll (offsetLines input) (freshFor f .desk)
 
 -- what the program prints: a timetable too long stops it, otherwise an input too long does, otherwise it opens the conditions
 -- and takes the turns
@@ -47,12 +47,12 @@ unfoldable pub outputOf : Files → List ℕ → List ℕ
 outputOf f input =
     pick (ltb maxTimetable (length (f .timetable))) (refusedLine wrongTimetable)
     (pick (ltb maxInput (length input)) (refusedLine badCondition)
-    (openLines (placedLines input) (freshFor f .desk) ++ turnLines mostTurns f (openedFor f input)))
+    (openLines (offsetLines input) (freshFor f .desk) ++ turnLines mostTurns f (openedFor f input)))
 
 -- ---- the count of turns is enough: without it, the output is the conditions' lines and the lines of m turns and one more,
 -- the last, which is Idle, and none before it is
 pub record ToIdle (f : Files) (input : List ℕ) (m : ℕ) : Type 0 where
-  pub whole : outputOf f input ≡ openLines (placedLines input) (freshFor f .desk) ++ linesOfTurns (suc m) f (openedFor f input)
+  pub whole : outputOf f input ≡ openLines (offsetLines input) (freshFor f .desk) ++ linesOfTurns (suc m) f (openedFor f input)
   pub earlier : (j : ℕ) → j < m → isIdle (answerAfter j f (openedFor f input)) ≡ false
   pub last : answerAfter m f (openedFor f input) ≡ gives idle
 

@@ -1,4 +1,4 @@
--- A line put into the room from a place on: the bytes before it and after it stay.
+-- A line put into the room from an offset on: the bytes before it and after it stay.
 use mathlib.Core.Path.{_≡_}
 use mathlib.Core.List.{List, _++_, append-nil}
 use Prim.Native.Nat.{ℕ, _+_, _-_, _≤_}

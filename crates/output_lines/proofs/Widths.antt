@@ -4,7 +4,7 @@ use native.Mathlib.Omega.{arith}
 use lib.ListN.{length}
 use Rattle.numerals.specs.Writing.{decimal}
 use Rattle.numerals.proofs.Decimals.{decimal-le}
-use Rattle.seat.specs.Bounds.{maxTimetable}
+use Rattle.desk_seat.specs.Bounds.{maxTimetable}
 use Rattle.desk.specs.Bounds.{lastTicket}
 
 pub ten-digits : (n : ℕ) → n ≤ lastTicket → length (decimal n) ≤ 10

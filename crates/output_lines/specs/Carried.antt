@@ -5,8 +5,8 @@ use mathlib.Core.List.{List, _++_}
 use Prim.Native.Nat.{ℕ, _+_, _≤_}
 use lib.ListN.{length, take}
 use Rattle.basis.specs.Answer.{Answer, gives, refuses}
-use Rattle.seat.specs.Bounds.{maxTimetable}
-use Rattle.seat.specs.Answers.{Turned, idle, hitAt, missAt, unreadableAt, doneWith}
+use Rattle.desk_seat.specs.Bounds.{maxTimetable}
+use Rattle.desk_seat.specs.Answers.{Turned, idle, hitAt, missAt, unreadableAt, doneWith}
 use Rattle.output_lines.specs.declared.LineText.{LineText}
 
 -- the bytes of a line that grows

@@ -7,7 +7,7 @@ use Rattle.basis.specs.Letters.{bytes}
 use Rattle.timetable.specs.Fields.{tab}
 use Rattle.timetable.specs.Lines.{newline}
 use Rattle.numerals.specs.Writing.{decimal}
-use Rattle.seat.specs.Answers.{Turned, idle, hitAt, missAt, unreadableAt, doneWith}
+use Rattle.desk_seat.specs.Answers.{Turned, idle, hitAt, missAt, unreadableAt, doneWith}
 
 -- numbers in decimal without leading zeros, a tab before each
 unfoldable pub numbers : List ℕ → List ℕ

@@ -1,6 +1,6 @@
 // The lines that the desk program writes: a word, numbers in decimal with a tab before each, and byte 10.
 use desk::OpenAnswer;
-use seat::TurnAnswer;
+use desk_seat::TurnAnswer;
 ghost use mathlib.Core.Path.{_≡_};
 ghost use mathlib.Core.List.{[], _∷_, _++_};
 ghost use Prim.Native.Nat.{_+_, _≤_, _<_};
@@ -10,8 +10,8 @@ ghost use Rattle.timetable.specs.Lines.{newline};
 ghost use Rattle.numerals.specs.Writing.{decimal};
 ghost use Rattle.numerals.specs.Carried.{Holds};
 ghost use Rattle.numerals.specs.Writing as its;
-ghost use Rattle.seat.specs.Bounds.{maxTimetable};
-ghost use Rattle.seat.specs.Answers.{turnMeaning};
+ghost use Rattle.desk_seat.specs.Bounds.{maxTimetable};
+ghost use Rattle.desk_seat.specs.Answers.{turnMeaning};
 ghost use Rattle.desk.specs.Answers.{openMeaning};
 ghost use Rattle.output_lines.specs.Text.{refusedLine, openLine, turnLine, lineRoom};
 ghost use Rattle.output_lines.specs.Carried.{lineIn, Grown, Within};

@@ -3,12 +3,12 @@ use mathlib.Core.Path.{_≡_, refl, ap}
 use Rattle.basis.specs.Answer.{Answer, gives, refuses}
 use Rattle.desk.specs.Answers.{After}
 use Rattle.output_turns.specs.Turns.{turnsMeaning, afterTurns}
-use Rattle.output_turns.specs.declared.Written.{Written}
+use Rattle.output_turns.specs.declared.WrittenTurns.{WrittenTurns}
 use Rattle.output_turns.specs.declared.TurnsAnswer.{TurnsAnswer}
 use Rattle.output_turns.specs.declared.TurnsAnswer.the-variants as TV
 use Rattle.output_turns.specs.declared.AfterTurns.{AfterTurns}
 
-abbrev turnsFrom : Answer Written → TurnsAnswer
+abbrev turnsFrom : Answer WrittenTurns → TurnsAnswer
 turnsFrom (gives w) = TV.Wrote w
 turnsFrom (refuses n) = TV.Refused (record { number = n })
 
@@ -21,5 +21,5 @@ turns-determined a b e = cc (ap turnsFrom e, turns-back a, turns-back b)
 
 pub after-turns-determined : (a b : AfterTurns) → afterTurns a ≡ afterTurns b → a ≡ b
 after-turns-determined a b e =
-    let q = turns-determined (a .answer) (b .answer) (ap (λ (x : After Written). x .answer) e) in
+    let q = turns-determined (a .answer) (b .answer) (ap (λ (x : After WrittenTurns). x .answer) e) in
     λ i. record { desk = e i .desk; answer = q i }

@@ -6,14 +6,14 @@ use mathlib.Core.Logic.{⊎-elim}
 use Prim.Native.Nat.{ℕ, _+_, _%_, _≤_}
 use native.Mathlib.Omega.{arith}
 use Rattle.basis.specs.Answer.{gives}
-use Rattle.seat.specs.Files.{Files}
-use Rattle.seat.specs.Bounds.{maxTimetable}
-use Rattle.seat.specs.Query.{Result, hit, miss, unreadable}
-use Rattle.seat.specs.Answers.{Turned, turnMeaning}
-use Rattle.seat.specs.Serving.{afterLine, resultOf, judgedAs, serveOf}
-use Rattle.seat.specs.declared.Seat.{Seat}
-use Rattle.seat.proofs.Soundness.{Servable, servable}
-use Rattle.seat.proofs.Serving.{line-or-done, serve-line, serve-done}
+use Rattle.desk_seat.specs.Files.{Files}
+use Rattle.desk_seat.specs.Bounds.{maxTimetable}
+use Rattle.desk_seat.specs.Conditions.{Result, hit, miss, unreadable}
+use Rattle.desk_seat.specs.Answers.{Turned, turnMeaning}
+use Rattle.desk_seat.specs.Serving.{afterLine, seatResult, judgedAs, serveOf}
+use Rattle.desk_seat.specs.declared.Seat.{Seat}
+use Rattle.desk_seat.proofs.Soundness.{Servable, servable}
+use Rattle.desk_seat.proofs.Serving.{line-or-done, serve-line, serve-done}
 use Rattle.desk.specs.Bounds.{seatCount}
 use Rattle.desk.specs.Answers.{After, afterTurn}
 use Rattle.desk.specs.Seats.{seatAt, firstFrom}
@@ -33,7 +33,7 @@ served-within : (f : Files) (long : ℕ) (s : Seat) → Servable long s → long
 served-within f long s v l =
     let w = v .within in
     let c = v .counts in
-    ⊎-elim (λ b. rw (serve-line f s b) (judged-within (afterLine f s) s (resultOf f s) (omega arith)))
+    ⊎-elim (λ b. rw (serve-line f s b) (judged-within (afterLine f s) s (seatResult f s) (omega arith)))
     (λ b. rw (serve-done f s b) (omega arith, omega arith))
     (line-or-done f s)
 

@@ -10,16 +10,16 @@ use lib.ListN.{length, drop, length-append, length-map}
 use Rattle.basis.specs.Choice.{pick}
 use Rattle.basis.specs.Answer.{gives}
 use Rattle.value.specs.Refusals.{noRoom}
-use Rattle.seat.specs.Files.{Files}
+use Rattle.desk_seat.specs.Files.{Files}
 use Rattle.desk.specs.Answers.{After}
 use Rattle.desk.specs.Soundness.{soundOf}
 use Rattle.desk.specs.Desk.{refused, haveLengths, turnOf}
 use Rattle.desk.specs.declared.Desk.{Desk}
 use Rattle.output_lines.specs.Text.{turnLine}
-use Rattle.output_turns.specs.Turns.{isIdle, Taken, none, onto, taken, wrote, turnsOf, roomAfter}
-use Rattle.output_turns.specs.Carried.{Ran}
-use Rattle.output_turns.specs.declared.Run.{Run}
-use Rattle.output_turns.specs.declared.Written.{Written}
+use Rattle.output_turns.specs.Turns.{isIdle, Taken, none, ontoTaken, taken, wrote, turnsOf, roomAfter}
+use Rattle.output_turns.specs.Carried.{Progressed}
+use Rattle.output_turns.specs.declared.Progress.{Progress}
+use Rattle.output_turns.specs.declared.WrittenTurns.{WrittenTurns}
 use Rattle.output_turns.proofs.Counting.{line-some, taken-next}
 
 -- what is as long as its image
@@ -32,7 +32,7 @@ module _ (f : Files) (d : Desk) (size : ℕ) where
       let rest : Taken = pick (isIdle (turnOf f d .answer)) (record { desk = turnOf f d .desk; text = []; idle = true })
       (taken f (turnOf f d .desk) (size - length (turnLine (turnOf f d .answer)))) in
       let is : taken f d size
-      ≡ onto (turnLine (turnOf f d .answer))
+      ≡ ontoTaken (turnLine (turnOf f d .answer))
       (pick (isIdle (turnOf f d .answer)) (record { desk = turnOf f d .desk; text = []; idle = true })
       (taken f (turnOf f d .desk) (size - length (turnLine (turnOf f d .answer))))) =
       taken-next f d size ∙ rw e in
@@ -72,6 +72,6 @@ unfolding roomAfter
 room-after f d room h e = rw (h, e)
 
 -- what the loop handed back, as an answer
-pub ran-wrote : (r : Run) (k : Taken) (before after : List ℕ) → Ran r k before after
-    → _≡_ {A = After Written} (record { desk = r .desk; answer = gives (r .written) }) (wrote k)
+pub ran-wrote : (r : Progress) (k : Taken) (before after : List ℕ) → Progressed r k before after
+    → _≡_ {A = After WrittenTurns} (record { desk = r .desk; answer = gives (r .written) }) (wrote k)
 ran-wrote r k before after x = λ i. record { desk = x .desk i; answer = gives (record { count = x .count i; idle = x .idle i }) }

@@ -11,12 +11,12 @@ use lib.ListN.{length, length-append}
 use Rattle.basis.specs.Choice.{pick}
 use Rattle.basis.specs.Answer.{Answer, gives, refuses}
 use Rattle.timetable.specs.Lines.{newline}
-use Rattle.seat.specs.Files.{Files}
-use Rattle.seat.specs.Answers.{Turned, idle, hitAt, missAt, unreadableAt, doneWith}
+use Rattle.desk_seat.specs.Files.{Files}
+use Rattle.desk_seat.specs.Answers.{Turned, idle, hitAt, missAt, unreadableAt, doneWith}
 use Rattle.desk.specs.Desk.{turnOf}
 use Rattle.desk.specs.declared.Desk.{Desk}
 use Rattle.output_lines.specs.Text.{numbers, lineWith, turnLine}
-use Rattle.output_turns.specs.Turns.{isIdle, Taken, none, onto, atMost, taken}
+use Rattle.output_turns.specs.Turns.{isIdle, Taken, none, ontoTaken, atMost, taken}
 
 line-with-some : (w ns : List ℕ) → 1 ≤ length (lineWith w ns)
 unfolding lineWith
@@ -31,7 +31,7 @@ line-some (gives (doneWith k h u)) = line-with-some _ _
 line-some (refuses n) = line-with-some _ _
 
 abbrev then-on : Bool → Bool → List ℕ → Desk → Desk → Taken → Taken
-then-on fits stops line d next rest = pick fits (onto line (pick stops (record { desk = next; text = []; idle = true }) rest)) (none d)
+then-on fits stops line d next rest = pick fits (ontoTaken line (pick stops (record { desk = next; text = []; idle = true }) rest)) (none d)
 
 -- with as many as bytes are left, more change nothing
 enough : (n m : ℕ) (f : Files) (d : Desk) (left : ℕ) → left ≤ n → left ≤ m → atMost n f d left ≡ atMost m f d left
@@ -53,7 +53,7 @@ enough (suc n) (suc m) f d left a b =
 pub taken-next : (f : Files) (d : Desk) (left : ℕ)
     → taken f d left
     ≡ pick (leb (length (turnLine (turnOf f d .answer))) left)
-    (onto (turnLine (turnOf f d .answer))
+    (ontoTaken (turnLine (turnOf f d .answer))
     (pick (isIdle (turnOf f d .answer)) (record { desk = turnOf f d .desk; text = []; idle = true })
     (taken f (turnOf f d .desk) (left - length (turnLine (turnOf f d .answer))))))
     (none d)

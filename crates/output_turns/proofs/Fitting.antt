@@ -1,4 +1,4 @@
--- A line put into the room from a place on, where it fits: the bytes before it and after it stay.
+-- A line put into the room from an offset on, where it fits: the bytes before it and after it stay.
 use mathlib.Core.Path.{_≡_, refl, _∙_}
 use mathlib.Core.Bool.{Bool, true, false}
 use mathlib.Core.List.{List, _++_}
@@ -11,7 +11,7 @@ use Rattle.basis.specs.Choice.{pick}
 use Rattle.output_lines.specs.Carried.{lineIn}
 use Rattle.output_lines.specs.declared.LineText.{LineText}
 
--- the room with a line from a place on
+-- the room with a line from an offset on
 abbrev pub withLine : ℕ → LineText → List ℕ → List ℕ
 withLine at line room = take at room ++ (lineIn line ++ drop (at + line .len) room)
 

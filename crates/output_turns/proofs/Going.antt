@@ -7,14 +7,14 @@ use native.Mathlib.Omega.{arith}
 use borrow.Author.Tests.{le-leb, lt-leb}
 use lib.ListN.{length, take, drop, length-append, length-drop}
 use lib.Seq.{take-at, drop-at, length-take-le, drop-drop}
-use Rattle.seat.specs.Files.{Files}
-use Rattle.seat.specs.Answers.{idle}
+use Rattle.desk_seat.specs.Files.{Files}
+use Rattle.desk_seat.specs.Answers.{idle}
 use Rattle.desk.specs.Desk.{turnOf}
 use Rattle.desk.specs.declared.Desk.{Desk}
 use Rattle.output_lines.specs.Text.{turnLine}
-use Rattle.output_turns.specs.Turns.{isIdle, none, onto, taken}
-use Rattle.output_turns.specs.Carried.{Ran}
-use Rattle.output_turns.specs.declared.Run.{Run}
+use Rattle.output_turns.specs.Turns.{isIdle, none, ontoTaken, taken}
+use Rattle.output_turns.specs.Carried.{Progressed}
+use Rattle.output_turns.specs.declared.Progress.{Progress}
 use Rattle.output_turns.proofs.Counting.{line-some, taken-next}
 
 -- from the desk d₀ and the room before, the loop stands at a desk, with so many bytes written
@@ -22,7 +22,7 @@ pub record Going (f : Files) (d₀ : Desk) (before : List ℕ) (d : Desk) (at : 
   pub within : at ≤ length before
   pub size : length room ≡ length before
   pub rest : drop at room ≡ drop at before
-  pub so : taken f d₀ (length before) ≡ onto (take at room) (taken f d (length before - at))
+  pub so : taken f d₀ (length before) ≡ ontoTaken (take at room) (taken f d (length before - at))
 
 module _ (f : Files) (d₀ : Desk) (before : List ℕ) where
   pub going-starts : Going f d₀ before d₀ 0 before
@@ -39,8 +39,8 @@ module _ (f : Files) (d₀ : Desk) (before : List ℕ) where
     written = length-take-le at room (omega (arith, g .within, g .size))
 
     -- no line fits any more
-    pub going-stops : length before - at < length (turnLine (turnOf f d .answer)) → (r : Run) → r .desk ≡ d → r .written .count ≡ at → r .written .idle ≡ false
-        → Ran r (taken f d₀ (length before)) before room
+    pub going-stops : length before - at < length (turnLine (turnOf f d .answer)) → (r : Progress) → r .desk ≡ d → r .written .count ≡ at → r .written .idle ≡ false
+        → Progressed r (taken f d₀ (length before)) before room
     going-stops l r rd rc ri =
         let e : taken f d (length before - at) ≡ none d = taken-next f d (length before - at) ∙ rw (lt-leb _ _ l) in
         let all : taken f d₀ (length before) ≡ record { desk = d; text = take at room; idle = false } = g .so ∙ rw (e, append-nil) in
@@ -48,8 +48,8 @@ module _ (f : Files) (d₀ : Desk) (before : List ℕ) where
         rw all (record { desk = rd; count = rc ∙ sym w; idle = ri; room = whole ∙ rw w })
 
     -- the room is full
-    pub going-full : length before ≤ at → (r : Run) → r .desk ≡ d → r .written .count ≡ at → r .written .idle ≡ false
-        → Ran r (taken f d₀ (length before)) before room
+    pub going-full : length before ≤ at → (r : Progress) → r .desk ≡ d → r .written .count ≡ at → r .written .idle ≡ false
+        → Progressed r (taken f d₀ (length before)) before room
     going-full l = going-stops (omega (arith, line-some (turnOf f d .answer)))
 
     module _ (line : List ℕ) (is : line ≡ turnLine (turnOf f d .answer)) (fits : at + length line ≤ length before)
@@ -74,14 +74,14 @@ module _ (f : Files) (d₀ : Desk) (before : List ℕ) where
           rw room-is
           (omega (arith, length-append (take at room ++ line) (drop (at + length line) room), length-drop (at + length line) room, end-is, g .size))
 
-      goes-so : taken f d₀ (length before) ≡ onto (take at room) (taken f d (length before - at))
+      goes-so : taken f d₀ (length before) ≡ ontoTaken (take at room) (taken f d (length before - at))
       goes-so = g .so
 
       pub going-on : isIdle (turnOf f d .answer) ≡ false → Going f d₀ before (turnOf f d .desk) (at + length line) room′
       going-on more =
           let fit : length (turnLine (turnOf f d .answer)) ≤ length before - at = omega (arith, ap length is) in
           let e : taken f d (length before - at)
-          ≡ onto (turnLine (turnOf f d .answer)) (taken f (turnOf f d .desk) (length before - at - length (turnLine (turnOf f d .answer)))) =
+          ≡ ontoTaken (turnLine (turnOf f d .answer)) (taken f (turnOf f d .desk) (length before - at - length (turnLine (turnOf f d .answer)))) =
           taken-next f d (length before - at) ∙ rw (le-leb _ _ fit, more) in
           let z : length before - at - length (turnLine (turnOf f d .answer)) ≡ length before - (at + length line) = omega (arith, ap length is) in
           record {
@@ -91,12 +91,12 @@ module _ (f : Files) (d₀ : Desk) (before : List ℕ) where
             so = goes-so ∙ rw (e, z, took, is, append-assoc);
           }
 
-      pub going-idle : isIdle (turnOf f d .answer) ≡ true → (r : Run) → r .desk ≡ turnOf f d .desk → r .written .count ≡ at + length line
-          → r .written .idle ≡ true → Ran r (taken f d₀ (length before)) before room′
+      pub going-idle : isIdle (turnOf f d .answer) ≡ true → (r : Progress) → r .desk ≡ turnOf f d .desk → r .written .count ≡ at + length line
+          → r .written .idle ≡ true → Progressed r (taken f d₀ (length before)) before room′
       going-idle last r rd rc ri =
           let fit : length (turnLine (turnOf f d .answer)) ≤ length before - at = omega (arith, ap length is) in
           let e : taken f d (length before - at)
-          ≡ onto (turnLine (turnOf f d .answer)) (record { desk = turnOf f d .desk; text = []; idle = true }) =
+          ≡ ontoTaken (turnLine (turnOf f d .answer)) (record { desk = turnOf f d .desk; text = []; idle = true }) =
           taken-next f d (length before - at) ∙ rw (le-leb _ _ fit, last) in
           let all : taken f d₀ (length before) ≡ record { desk = turnOf f d .desk; text = take at room ++ line; idle = true } =
           goes-so ∙ rw (e, is, append-nil) in

@@ -10,9 +10,9 @@ use lib.Dec.{ltb}
 use lib.ListN.{length, take, drop}
 use Rattle.basis.specs.Answer.{gives}
 use Rattle.numerals.specs.Carried.{Holds}
-use Rattle.seat.specs.Files.{Files}
-use Rattle.seat.specs.Answers.{turnMeaning, idle}
-use Rattle.seat.specs.declared.TurnAnswer.the-variants as TV
+use Rattle.desk_seat.specs.Files.{Files}
+use Rattle.desk_seat.specs.Answers.{turnMeaning, idle}
+use Rattle.desk_seat.specs.declared.TurnAnswer.the-variants as TV
 use Rattle.desk.specs.Answers.{afterTurn}
 use Rattle.desk.specs.Desk.{nextOf, haveLengths, turnOf}
 use Rattle.desk.specs.declared.Desk.{Desk}
@@ -24,7 +24,7 @@ use Rattle.output_lines.specs.Text.{turnLine}
 use Rattle.output_lines.specs.Carried.{lineIn}
 use Rattle.output_lines.specs.declared.LineText.{LineText}
 use Rattle.output_turns.specs.Turns.{isIdle, taken}
-use Rattle.output_turns.specs.Carried.{Ran}
+use Rattle.output_turns.specs.Carried.{Progressed}
 use Rattle.output_turns.proofs.Counting.{line-some}
 use Rattle.output_turns.proofs.Bounded.{next-desk, next-answer}
 use Rattle.output_turns.proofs.Fitting.{Put, put-fits, put-end, put-room, put-lacks, put-stays, put-nothing}
@@ -38,7 +38,7 @@ pub record Loop (f : Files) (before : List ℕ) (d₀ : Desk) (room : List ℕ) 
 
 module _ {f : Files} {before room : List ℕ} {d₀ d : Desk} {at : ℕ} (g : Loop f before d₀ room d at) where
   -- the room is full
-  pub ran-full : length room ≤ at → Ran (record { desk = d; written = record { count = at; idle = false } }) (taken f d₀ (length before)) before room
+  pub ran-full : length room ≤ at → Progressed (record { desk = d; written = record { count = at; idle = false } }) (taken f d₀ (length before)) before room
   ran-full l = going-full f d₀ before d at room (g .going) (omega (arith, g .going .size)) _ refl refl refl
 
   -- a turn of the desk, and the line of its answer, put where it fits
@@ -60,7 +60,7 @@ module _ {f : Files} {before room : List ℕ} {d₀ d : Desk} {at : ℕ} (g : Lo
     has-byte = omega (arith, hl .size, line-some (turnMeaning (r .answer)))
 
     -- its line does not fit
-    pub ran-out : end ≤ at → Ran (record { desk = d; written = record { count = at; idle = false } }) (taken f d₀ (length before)) before room′
+    pub ran-out : end ≤ at → Progressed (record { desk = d; written = record { count = at; idle = false } }) (taken f d₀ (length before)) before room′
     ran-out l =
         let m = put-lacks at line room p has-byte l in
         rw (put-nothing at line room p has-byte l)
@@ -88,7 +88,7 @@ module _ {f : Files} {before room : List ℕ} {d₀ d : Desk} {at : ℕ} (g : Lo
           })
 
       ran-last : isIdle (turnMeaning (r .answer)) ≡ true
-          → Ran (record { desk = r .desk; written = record { count = end; idle = true } }) (taken f d₀ (length before)) before room′
+          → Progressed (record { desk = r .desk; written = record { count = end; idle = true } }) (taken f d₀ (length before)) before room′
       ran-last is-idle =
           let q = rw answer-is at is-idle in
           going-idle f d₀ before d at room (g .going) (lineIn line) line-is in-room room′ put-is q _ desk-is end-is refl
@@ -96,10 +96,10 @@ module _ {f : Files} {before room : List ℕ} {d₀ d : Desk} {at : ℕ} (g : Lo
   -- at Idle it stops, whether the line fits or not
   module _ (h : afterTurn (record { desk = d; answer = TV.Idle }) ≡ nextOf f d) (line : LineText) (hl : Holds (line .bytes) (line .len) (turnLine (gives idle)))
       {end : ℕ} {room′ : List ℕ} (p : Put at line room end room′) where
-    pub ran-idle : Ran (record { desk = d; written = record { count = end; idle = ltb at end } }) (taken f d₀ (length before)) before room′
+    pub ran-idle : Progressed (record { desk = d; written = record { count = end; idle = ltb at end } }) (taken f d₀ (length before)) before room′
     ran-idle = go (ltb at end) refl
       where
-        go : (b : Bool) → ltb at end ≡ b → Ran (record { desk = d; written = record { count = end; idle = ltb at end } }) (taken f d₀ (length before)) before room′
+        go : (b : Bool) → ltb at end ≡ b → Progressed (record { desk = d; written = record { count = end; idle = ltb at end } }) (taken f d₀ (length before)) before room′
         go true e = rw e (ran-last (record { desk = d; answer = TV.Idle }) h line hl p (ltb-true _ _ e) refl)
         go false e =
             let l : end ≤ at = ltb-false _ _ e in

@@ -8,20 +8,20 @@ use native.Mathlib.Omega.{arith}
 use borrow.Author.Tests.{lt-ltb, le-ltb}
 use lib.ListN.{length}
 use Rattle.basis.specs.Answer.{gives}
-use Rattle.seat.specs.Files.{Files}
-use Rattle.seat.specs.Bounds.{maxTimetable}
-use Rattle.seat.specs.Query.{Result, hit, miss, unreadable}
-use Rattle.seat.specs.Answers.{turnMeaning}
-use Rattle.seat.specs.Soundness.{seatSound}
-use Rattle.seat.specs.Serving.{afterLine, resultOf, judgedAs, serveOf}
-use Rattle.seat.specs.Carried.{Steps}
-use Rattle.seat.specs.declared.Seat.{Seat}
-use Rattle.seat.specs.declared.AfterServing.{AfterServing}
-use Rattle.seat.specs.declared.TurnAnswer.the-variants as TV
-use Rattle.seat.proofs.Serving.{line-or-done, serve-line, serve-done}
+use Rattle.desk_seat.specs.Files.{Files}
+use Rattle.desk_seat.specs.Bounds.{maxTimetable}
+use Rattle.desk_seat.specs.Conditions.{Result, hit, miss, unreadable}
+use Rattle.desk_seat.specs.Answers.{turnMeaning}
+use Rattle.desk_seat.specs.Soundness.{seatSound}
+use Rattle.desk_seat.specs.Serving.{afterLine, seatResult, judgedAs, serveOf}
+use Rattle.desk_seat.specs.Carried.{Steps}
+use Rattle.desk_seat.specs.declared.Seat.{Seat}
+use Rattle.desk_seat.specs.declared.AfterServing.{AfterServing}
+use Rattle.desk_seat.specs.declared.TurnAnswer.the-variants as TV
+use Rattle.desk_seat.proofs.Serving.{line-or-done, serve-line, serve-done}
 use Rattle.desk.specs.Bounds.{seatCount}
 use Rattle.desk.specs.Answers.{afterTurn}
-use Rattle.desk.specs.Scan.{first}
+use Rattle.desk.specs.Scan.{firstPassing}
 use Rattle.desk.specs.Seats.{seatAt, heldIs, firstFrom}
 use Rattle.desk.specs.Desk.{nextOf, haveLengths}
 use Rattle.desk.specs.declared.Desk.{Desk}
@@ -31,16 +31,16 @@ use Rattle.desk.proofs.Lengths.{lengths-same}
 use Rattle.desk_laws.proofs.Sound.{Sound, replaced}
 use Rattle.output_turns.specs.Turns.{isIdle}
 
--- ---- the place
+-- ---- the offset
 
--- where the places to look at end
+-- where the offsets to look at end
 abbrev pub endOf : Desk → ℕ
 endOf d = d .«last_served» + 1 + seatCount
 
 -- the first held seat is at j or after it
 pub record Looking (d : Desk) (end j : ℕ) : Type 0 where
   pub within : j ≤ end
-  pub from : firstFrom d true (d .«last_served» + 1) ≡ first (heldIs d true) j (end - j)
+  pub from : firstFrom d true (d .«last_served» + 1) ≡ firstPassing (heldIs d true) j (end - j)
 
 -- it is at j
 abbrev pub Found : Desk → ℕ → Type 0
@@ -48,7 +48,7 @@ Found d j = firstFrom d true (d .«last_served» + 1) ≡ j
 
 module _ (d : Desk) where
   pub looking-starts : Looking d (endOf d) (d .«last_served» + 1)
-  looking-starts = record { within = omega arith; from = ap (first (heldIs d true) (d .«last_served» + 1)) (omega arith) }
+  looking-starts = record { within = omega arith; from = ap (firstPassing (heldIs d true) (d .«last_served» + 1)) (omega arith) }
 
   module _ {end j : ℕ} (k : Looking d end j) where
     pub looking-on : j < end → seatAt d (j % seatCount) .held ≡ false → Looking d end (j + 1)
@@ -77,7 +77,7 @@ judged-some next s (unreadable n) = refl
 
 served-some : (f : Files) (s : Seat) → isIdle (gives (serveOf f s .answer)) ≡ false
 served-some f s =
-    ⊎-elim (λ b. rw (serve-line f s b) (judged-some (afterLine f s) s (resultOf f s))) (λ b. rw (serve-done f s b) refl)
+    ⊎-elim (λ b. rw (serve-line f s b) (judged-some (afterLine f s) s (seatResult f s))) (λ b. rw (serve-done f s b) refl)
     (line-or-done f s)
 
 module _ (f : Files) (d : Desk) (j : ℕ) (at : Found d j) where

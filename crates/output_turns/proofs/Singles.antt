@@ -8,7 +8,7 @@ use borrow.Author.Tests.{leb-true, leb-false}
 use lib.Dec.{leb}
 use lib.ListN.{length, drop, length-append}
 use Rattle.basis.specs.Answer.{Answer, gives, refuses}
-use Rattle.seat.specs.Files.{Files}
+use Rattle.desk_seat.specs.Files.{Files}
 use Rattle.desk.specs.Answers.{After}
 use Rattle.desk.specs.Soundness.{soundOf}
 use Rattle.value.specs.Refusals.{wrongTimetable, notSound, noRoom}
@@ -16,8 +16,8 @@ use Rattle.desk.specs.Desk.{refused, noDesk, haveLengths, turnOf}
 use Rattle.desk.specs.declared.Desk.{Desk}
 use Rattle.desk_laws.proofs.NewDesk.{no-desk-sound}
 use Rattle.output_lines.specs.Text.{turnLine}
-use Rattle.output_turns.specs.Turns.{isIdle, Taken, none, onto, taken, wrote, turnsOf, roomAfter, deskAfter, linesOfTurns, answerAfter, SingleTurns, TurnsAreSingle, RefusedTurnsAlterNothing}
-use Rattle.output_turns.specs.declared.Written.{Written}
+use Rattle.output_turns.specs.Turns.{isIdle, Taken, none, ontoTaken, taken, wrote, turnsOf, roomAfter, deskAfter, linesOfTurns, answerAfter, SingleTurns, TurnsAreSingle, RefusedTurnsAlterNothing}
+use Rattle.output_turns.specs.declared.WrittenTurns.{WrittenTurns}
 use Rattle.output_turns.proofs.Counting.{line-some, taken-next}
 use Rattle.output_turns.proofs.Calls.{some-written, turns-some, room-after}
 
@@ -59,7 +59,7 @@ module _ (f : Files) where
     idle-last (suc m) e = absurd (omega (arith, e))
 
     idle-turn : (size : ℕ) → length (turnLine (turnOf f d .answer)) ≤ size
-        → Singles (onto (turnLine (turnOf f d .answer)) (record { desk = turnOf f d .desk; text = []; idle = true })) f d size 1
+        → Singles (ontoTaken (turnLine (turnOf f d .answer)) (record { desk = turnOf f d .desk; text = []; idle = true })) f d size 1
     unfolding deskAfter linesOfTurns
     idle-turn size l =
         record {
@@ -90,7 +90,7 @@ module _ (f : Files) where
       more-last zero e = x .never (omega (arith, e)) ∙ sym no
       more-last (suc m) e = x .last m (omega (arith, e))
 
-      one-more : length (turnLine (turnOf f d .answer)) ≤ size → Singles (onto (turnLine (turnOf f d .answer)) k) f d size (suc n)
+      one-more : length (turnLine (turnOf f d .answer)) ≤ size → Singles (ontoTaken (turnLine (turnOf f d .answer)) k) f d size (suc n)
       unfolding deskAfter linesOfTurns
       one-more l =
           let z = length-append (turnLine (turnOf f d .answer)) (linesOfTurns n f (turnOf f d .desk)) in
@@ -131,7 +131,7 @@ pub many-are-single : (f : Files) (d : Desk) (size : ℕ) → (n : ℕ) × Singl
 many-are-single f d size = singles f size d size (omega arith)
 
 -- ---- as a caller sees it
-module _ (f : Files) (d : Desk) (before : List ℕ) (w : Written) where
+module _ (f : Files) (d : Desk) (before : List ℕ) (w : WrittenTurns) where
   seen : (n : ℕ) → Singles (taken f d (length before)) f d (length before) n → 1 ≤ length (taken f d (length before) .text)
       → turnsOf f d (length before) ≡ wrote (taken f d (length before))
       → roomAfter f d before ≡ taken f d (length before) .text ++ drop (length (taken f d (length before) .text)) before
@@ -140,16 +140,16 @@ module _ (f : Files) (d : Desk) (before : List ℕ) (w : Written) where
   unfolding linesOfTurns
   seen zero x some is room a = absurd (omega (arith, ap length (x .text)))
   seen (suc m) x some is room a =
-      let e : _≡_ {A = Answer Written} (gives (record { count = length (taken f d (length before) .text); idle = taken f d (length before) .idle })) (gives w) =
-      sym (ap (λ (r : After Written). r .answer) is) ∙ a in
-      let q : _≡_ {A = Written} (record { count = length (taken f d (length before) .text); idle = taken f d (length before) .idle }) w = cc in
-      let c : w .count ≡ length (taken f d (length before) .text) = sym (ap (λ (v : Written). v .count) q) in
-      let i : w .idle ≡ taken f d (length before) .idle = sym (ap (λ (v : Written). v .idle) q) in
+      let e : _≡_ {A = Answer WrittenTurns} (gives (record { count = length (taken f d (length before) .text); idle = taken f d (length before) .idle })) (gives w) =
+      sym (ap (λ (r : After WrittenTurns). r .answer) is) ∙ a in
+      let q : _≡_ {A = WrittenTurns} (record { count = length (taken f d (length before) .text); idle = taken f d (length before) .idle }) w = cc in
+      let c : w .count ≡ length (taken f d (length before) .text) = sym (ap (λ (v : WrittenTurns). v .count) q) in
+      let i : w .idle ≡ taken f d (length before) .idle = sym (ap (λ (v : WrittenTurns). v .idle) q) in
       let long = ap length (x .text) in
       let enough = x .fits in (
         m,
         record {
-          desk = ap (λ (r : After Written). r .desk) is ∙ x .desk;
+          desk = ap (λ (r : After WrittenTurns). r .desk) is ∙ x .desk;
           count = c ∙ long;
           fits = omega (arith, c, long);
           room = room ∙ rw (c, x .text);

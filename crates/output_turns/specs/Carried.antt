@@ -5,10 +5,10 @@ use mathlib.Core.List.{List, _++_}
 use Prim.Native.Nat.{ℕ}
 use lib.ListN.{length, drop}
 use Rattle.output_turns.specs.Turns.{Taken}
-use Rattle.output_turns.specs.declared.Run.{Run}
+use Rattle.output_turns.specs.declared.Progress.{Progress}
 
 -- the desk, the bytes and Idle are those of the turns; the room starts with their lines and keeps its other bytes
-pub record Ran (r : Run) (k : Taken) (before after : List ℕ) : Type 0 where
+pub record Progressed (r : Progress) (k : Taken) (before after : List ℕ) : Type 0 where
   pub desk : r .desk ≡ k .desk
   pub count : r .written .count ≡ length (k .text)
   pub idle : r .written .idle ≡ k .idle

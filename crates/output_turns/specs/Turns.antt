@@ -9,14 +9,14 @@ use lib.ListN.{length, drop}
 use Rattle.basis.specs.Choice.{pick}
 use Rattle.basis.specs.Answer.{Answer, gives, refuses}
 use Rattle.value.specs.Refusals.{wrongTimetable, notSound, noRoom}
-use Rattle.seat.specs.Files.{Files}
-use Rattle.seat.specs.Answers.{Turned, idle, hitAt, missAt, unreadableAt, doneWith}
+use Rattle.desk_seat.specs.Files.{Files}
+use Rattle.desk_seat.specs.Answers.{Turned, idle, hitAt, missAt, unreadableAt, doneWith}
 use Rattle.desk.specs.Answers.{After}
 use Rattle.desk.specs.Soundness.{soundOf}
 use Rattle.desk.specs.Desk.{refused, haveLengths, turnOf}
 use Rattle.desk.specs.declared.Desk.{Desk}
 use Rattle.output_lines.specs.Text.{turnLine}
-use Rattle.output_turns.specs.declared.Written.{Written}
+use Rattle.output_turns.specs.declared.WrittenTurns.{WrittenTurns}
 use Rattle.output_turns.specs.declared.TurnsAnswer.{TurnsAnswer}
 use Rattle.output_turns.specs.declared.TurnsAnswer.the-variants as TV
 use Rattle.output_turns.specs.declared.AfterTurns.{AfterTurns}
@@ -40,15 +40,15 @@ abbrev pub none : Desk → Taken
 none d = record { desk = d; text = []; idle = false }
 
 -- a line before those of the turns after it
-abbrev pub onto : List ℕ → Taken → Taken
-onto line k = record { desk = k .desk; text = line ++ k .text; idle = k .idle }
+abbrev pub ontoTaken : List ℕ → Taken → Taken
+ontoTaken line k = record { desk = k .desk; text = line ++ k .text; idle = k .idle }
 
 -- turns as long as the line of the next fits in what is left, at most n of them, and none after Idle
 unfoldable pub atMost : ℕ → Files → Desk → ℕ → Taken
 atMost zero f d left = none d
 atMost (suc n) f d left =
     pick (leb (length (turnLine (turnOf f d .answer))) left)
-    (onto (turnLine (turnOf f d .answer))
+    (ontoTaken (turnLine (turnOf f d .answer))
     (pick (isIdle (turnOf f d .answer)) (record { desk = turnOf f d .desk; text = []; idle = true })
     (atMost n f (turnOf f d .desk) (left - length (turnLine (turnOf f d .answer))))))
     (none d)
@@ -58,10 +58,10 @@ abbrev pub taken : Files → Desk → ℕ → Taken
 taken f d size = atMost size f d size
 
 -- what was written, where anything was
-abbrev pub wrote : Taken → After Written
+abbrev pub wrote : Taken → After WrittenTurns
 wrote k = record { desk = k .desk; answer = gives (record { count = length (k .text); idle = k .idle }) }
 
-unfoldable pub turnsOf : Files → Desk → ℕ → After Written
+unfoldable pub turnsOf : Files → Desk → ℕ → After WrittenTurns
 turnsOf f d size =
     pick (soundOf d)
     (pick (haveLengths f d)
@@ -77,11 +77,11 @@ roomAfter f d room =
     room
 
 -- what the enum says
-abbrev pub turnsMeaning : TurnsAnswer → Answer Written
+abbrev pub turnsMeaning : TurnsAnswer → Answer WrittenTurns
 turnsMeaning (TV.Wrote w) = gives w
 turnsMeaning (TV.Refused r) = refuses (r .number)
 
-abbrev pub afterTurns : AfterTurns → After Written
+abbrev pub afterTurns : AfterTurns → After WrittenTurns
 afterTurns r = record { desk = r .desk; answer = turnsMeaning (r .answer) }
 
 -- ---- that many single turns
@@ -102,7 +102,7 @@ answerAfter n f d = turnOf f (deskAfter n f d) .answer
 -- Where something was written, what a caller sees is m single turns and one more, the last: the desk is that after them, and
 -- the room starts with their lines and keeps its other bytes. No turn before the last was Idle, `idle` says whether the last
 -- was, and where it was not, the next line would not have fitted.
-pub record SingleTurns (f : Files) (d : Desk) (before : List ℕ) (w : Written) (m : ℕ) : Type 0 where
+pub record SingleTurns (f : Files) (d : Desk) (before : List ℕ) (w : WrittenTurns) (m : ℕ) : Type 0 where
   pub desk : turnsOf f d (length before) .desk ≡ deskAfter (suc m) f d
   pub count : w .count ≡ length (linesOfTurns (suc m) f d)
   pub fits : w .count ≤ length before
@@ -113,7 +113,7 @@ pub record SingleTurns (f : Files) (d : Desk) (before : List ℕ) (w : Written) 
 
 abbrev pub TurnsAreSingle : Type 0
 TurnsAreSingle =
-    (f : Files) (d : Desk) (before : List ℕ) (w : Written) → turnsOf f d (length before) .answer ≡ gives w
+    (f : Files) (d : Desk) (before : List ℕ) (w : WrittenTurns) → turnsOf f d (length before) .answer ≡ gives w
     → (m : ℕ) × SingleTurns f d before w m
 
 -- a refusal leaves desk and room as they were

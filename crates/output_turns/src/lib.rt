@@ -1,7 +1,7 @@
 // Many turns at once, their lines written into lent room.
 use desk::Desk;
+use desk_seat::TurnAnswer;
 use output_lines::LineText;
-use seat::TurnAnswer;
 use value::Refusal;
 ghost use mathlib.Core.Path.{_≡_};
 ghost use mathlib.Core.Bool.{true, false};
@@ -10,22 +10,22 @@ ghost use Prim.Native.Nat.{_+_, _-_, _≤_, _<_};
 ghost use lib.Dec.{leb};
 ghost use lib.ListN.{length, take, drop};
 ghost use Rattle.basis.specs.Choice.{pick};
-ghost use Rattle.seat.specs.Files.{over};
+ghost use Rattle.desk_seat.specs.Files.{over};
 ghost use Rattle.desk.specs.Soundness.{soundOf};
 ghost use Rattle.desk.specs.Desk.{haveLengths};
 ghost use Rattle.output_lines.specs.Carried.{lineIn};
 ghost use Rattle.output_lines.specs.Text.{lineRoom};
 ghost use Rattle.output_turns.specs.Turns.{taken, turnsOf, roomAfter, turnsMeaning, afterTurns};
-ghost use Rattle.output_turns.specs.Carried.{Ran};
+ghost use Rattle.output_turns.specs.Carried.{Progressed};
 
 // How many bytes of lines were written, and whether the last turn was Idle.
-pub struct Written {
+pub struct WrittenTurns {
     pub count: usize,
     pub idle: bool,
 }
 
 pub enum TurnsAnswer {
-    Wrote(Written),
+    Wrote(WrittenTurns),
     Refused(Refusal),
 }
 
@@ -35,9 +35,9 @@ pub struct AfterTurns {
 }
 
 // Some turns taken: the desk after them, and what was written.
-pub struct Run {
+pub struct Progress {
     pub desk: Desk,
-    pub written: Written,
+    pub written: WrittenTurns,
 }
 
 // A line written into the room from `at` on, where it fits: where the lines then end.
@@ -54,9 +54,9 @@ fn put_fitting(room: &mut [u8], at: usize, line: LineText) -> usize
 
 // Turns of a desk that is known to be sound, over a timetable of its length: as long as the line of the next one fits. The
 // desk stands in one variable, where a turn stores the one seat that it serves.
-fn take_turns(desk: Desk, t: &[u8], room: &mut [u8]) -> Run
+fn take_turns(desk: Desk, t: &[u8], room: &mut [u8]) -> Progress
     requires { ⌜ (soundOf desk ≡ true) × (haveLengths (over (now t)) desk ≡ true) ⌝ }
-    ensures { λ r. ⌜ Ran r (taken (over (now (t .entry))) desk (length (now (room .entry)))) (now (room .entry)) (now (room .exit)) ⌝ }
+    ensures { λ r. ⌜ Progressed r (taken (over (now (t .entry))) desk (length (now (room .entry)))) (now (room .entry)) (now (room .exit)) ⌝ }
 {
     let mut desk = desk;
     let mut count = 0;
@@ -73,25 +73,25 @@ fn take_turns(desk: Desk, t: &[u8], room: &mut [u8]) -> Run
             let line = output_lines::turn_line(TurnAnswer::Idle);
             let after = put_fitting(room, count, line);
             let idle = count < after;
-            let written = Written { count: after, idle };
-            return Run { desk, written };
+            let written = WrittenTurns { count: after, idle };
+            return Progress { desk, written };
         }
         let i = j % Desk::SEATS;
-        let served = seat::served(desk.seats[i], t);
+        let served = desk_seat::served(desk.seats[i], t);
         let seat = served.seat;
         let answer = served.answer;
         let line = output_lines::turn_line(answer);
         let after = put_fitting(room, count, line);
         if after <= count {
-            let written = Written { count, idle: false };
-            return Run { desk, written };
+            let written = WrittenTurns { count, idle: false };
+            return Progress { desk, written };
         }
         desk.seats[i] = seat;
         desk.last_served = i;
         count = after;
     }
-    let written = Written { count, idle: false };
-    Run { desk, written }
+    let written = WrittenTurns { count, idle: false };
+    Progress { desk, written }
 }
 
 // Takes turns as long as the next answer's line fits in what is left of the room, and stops after Idle. The desk is

@@ -2,7 +2,7 @@
 use mathlib.Core.Path.{_≡_, refl, ap}
 use Prim.Native.Nat.{ℕ}
 use Rattle.basis.specs.Answer.{Answer, gives, refuses}
-use Rattle.text.specs.Writing.{meaning}
+use Rattle.text.specs.Writing.{writtenMeaning}
 use Rattle.text.specs.declared.Written.{Written}
 use Rattle.text.specs.declared.Written.the-variants as WV
 
@@ -10,9 +10,9 @@ abbrev writtenOf : Answer ℕ → Written
 writtenOf (gives n) = WV.Length n
 writtenOf (refuses n) = WV.Refused (record { number = n })
 
-written-back : (a : Written) → writtenOf (meaning a) ≡ a
+written-back : (a : Written) → writtenOf (writtenMeaning a) ≡ a
 written-back (WV.Length n) = refl
 written-back (WV.Refused r) = refl
 
-pub written-determined : (a b : Written) → meaning a ≡ meaning b → a ≡ b
+pub written-determined : (a b : Written) → writtenMeaning a ≡ writtenMeaning b → a ≡ b
 written-determined a b e = cc (ap writtenOf e, written-back a, written-back b)

@@ -21,14 +21,14 @@ use Rattle.value.specs.declared.Kind.{Kind}
 use Rattle.value.specs.declared.Kind.the-variants as KV
 use Rattle.value.specs.declared.Value.{Value}
 use Rattle.value.proofs.Numbers.{among, only, only-either, only-refused}
-use Rattle.scan.specs.declared.Scan.{Scan}
-use Rattle.scan.specs.Scanning.{whole, partsOf}
-use Rattle.judging.specs.Reading as judging
-use Rattle.layouts.specs.Reading.{readLayout}
-use Rattle.durations.specs.Walks.{counted, readBy, shape, asValue}
-use Rattle.durations.specs.Forms.{Form, dayTime, yearMonth}
-use Rattle.durations.specs.declared.Shape.{Shape}
-use Rattle.durations.specs.declared.Amount.{Amount}
+use Rattle.text_scan.specs.declared.Scan.{Scan}
+use Rattle.text_scan.specs.Scanning.{uncapped, partsOf}
+use Rattle.text_checks.specs.Reading as judging
+use Rattle.text_layouts.specs.Reading.{readLayout}
+use Rattle.text_durations.specs.Walks.{counted, readBy, shape, asValue}
+use Rattle.text_durations.specs.Forms.{Form, dayTime, yearMonth}
+use Rattle.text_durations.specs.declared.Shape.{Shape}
+use Rattle.text_durations.specs.declared.Amount.{Amount}
 use Rattle.text.specs.Reading.{readAs}
 use Rattle.text.specs.Writing.{textOf, written}
 
@@ -45,7 +45,7 @@ either : {A : Type 0} (b : Bool) (x y : Answer A) → Reads x → Reads y → Re
 either b x y p q = only-either readingNumbers b x y p q
 
 -- dates, times and dateTimes
-valued-numbers : (k : Kind) (d : DateTime) → Reads (judging.valued k d)
+valued-numbers : (k : Kind) (d : DateTime) → Reads (judging.valueGiven k d)
 valued-numbers KV.Date d = refl
 valued-numbers KV.Time d = refl
 valued-numbers KV.DateTime d = refl
@@ -63,7 +63,7 @@ next-numbers k d z = either (hasDate k) _ _ (start-numbers k z (datedOf (dayOf d
 clocked-numbers : (k : Kind) (d : Date) (h m s u : ℕ) (z : Zone) → Reads (judging.clocked k d h m s u z)
 unfolding judging.clocked
 clocked-numbers k d h m s u z =
-    either (judging.okClock h m s) _ _ (valued-numbers k (judging.placedOn d (judging.ticksOf h m s u) z))
+    either (judging.okClock h m s) _ _ (valued-numbers k (judging.placedOn d (judging.clockTicks h m s u) z))
     (either (judging.isDayEnd h m s u) _ _ (next-numbers k d z) refl)
 
 calendar-numbers : (k : Kind) (d : Date) (h m s u sign zh zm : ℕ) → Reads (judging.onCalendar k d h m s u sign zh zm)
@@ -98,9 +98,9 @@ duration-numbers f s = counted-numbers (f .unit) (f .most) (shape (f .before) (f
 
 read-numbers : (k : Kind) (s : List ℕ) → Reads (readAs k s)
 unfolding readAs readLayout
-read-numbers KV.Date s = judge-numbers KV.Date (length s) (partsOf whole KV.Date s)
-read-numbers KV.Time s = judge-numbers KV.Time (length s) (partsOf whole KV.Time s)
-read-numbers KV.DateTime s = judge-numbers KV.DateTime (length s) (partsOf whole KV.DateTime s)
+read-numbers KV.Date s = judge-numbers KV.Date (length s) (partsOf uncapped KV.Date s)
+read-numbers KV.Time s = judge-numbers KV.Time (length s) (partsOf uncapped KV.Time s)
+read-numbers KV.DateTime s = judge-numbers KV.DateTime (length s) (partsOf uncapped KV.DateTime s)
 read-numbers KV.DayTimeDuration s = value-numbers _ (readBy dayTime s) (duration-numbers dayTime s)
 read-numbers KV.YearMonthDuration s = value-numbers _ (readBy yearMonth s) (duration-numbers yearMonth s)
 

@@ -13,26 +13,26 @@ use Rattle.basis.proofs.Tests.{both-left, both-right}
 use Rattle.value.specs.Bounds.{maxDayTime, maxYearMonth}
 use Rattle.value.specs.Durations.{plusHalf, minusHalf, apart}
 use Rattle.value.specs.Kinds.{kindOf, okValue, template}
-use Rattle.instants.specs.Ticks.{utc, instantOf}
+use Rattle.value_instants.specs.Ticks.{utc, instantOf}
 use Rattle.value.specs.Values.{okDate, okOffset, okZone, okDateTime, okSigned}
 use Rattle.value.specs.declared.DateTime.{DateTime}
 use Rattle.value.specs.declared.Kind.{Kind}
 use Rattle.value.specs.declared.Kind.the-variants as KV
 use Rattle.value.specs.declared.Value.{Value}
 use Rattle.value.specs.declared.Value.the-variants as VV
-use Rattle.instants.proofs.Instants.{same-instant}
+use Rattle.value_instants.proofs.Instants.{same-instant}
 use Rattle.value.proofs.KindParts.{kept-of-kind}
 use Rattle.value.proofs.Signs.{signed-back, same-difference}
 use Rattle.numerals.specs.Writing.{longest}
-use Rattle.layouts.proofs.OfKinds.{round-trip}
-use Rattle.layouts.proofs.Lengths.{text-fits}
-use Rattle.layouts.proofs.ReadsValid.{reads-valid}
-use Rattle.layouts.proofs.Valid.{Valid}
-use Rattle.durations.specs.declared.Amount.{Amount}
-use Rattle.durations.specs.Walks.{asDayTime, asYearMonth, readBy}
-use Rattle.durations.specs.Forms.{dayTime, yearMonth}
-use Rattle.durations.proofs.Round.{day-time-round-trip, year-month-round-trip, day-time-valid, year-month-valid}
-use Rattle.durations.proofs.Lengths.{day-time-length, year-month-length}
+use Rattle.text_layouts.proofs.OfKinds.{round-trip}
+use Rattle.text_layouts.proofs.Lengths.{text-fits}
+use Rattle.text_layouts.proofs.ReadsValid.{reads-valid}
+use Rattle.text_layouts.proofs.Valid.{Valid}
+use Rattle.text_durations.specs.declared.Amount.{Amount}
+use Rattle.text_durations.specs.Walks.{asDayTime, asYearMonth, readBy}
+use Rattle.text_durations.specs.Forms.{dayTime, yearMonth}
+use Rattle.text_durations.proofs.Round.{day-time-round-trip, year-month-round-trip, day-time-valid, year-month-valid}
+use Rattle.text_durations.proofs.Lengths.{day-time-length, year-month-length}
 use Rattle.text.specs.Reading.{readAs}
 use Rattle.text.specs.Writing.{textOf}
 use Rattle.text.specs.Alike.{Alike, momentOf, signOf, magnitudeOf}

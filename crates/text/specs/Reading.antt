@@ -6,8 +6,8 @@ use Rattle.basis.specs.Answer.{Answer}
 use Rattle.value.specs.declared.Kind.{Kind}
 use Rattle.value.specs.declared.Kind.the-variants as KV
 use Rattle.value.specs.declared.Value.{Value}
-use Rattle.layouts.specs.Reading.{readLayout}
-use Rattle.durations.specs.Walks.{readDayTime, readYearMonth}
+use Rattle.text_layouts.specs.Reading.{readLayout}
+use Rattle.text_durations.specs.Walks.{readDayTime, readYearMonth}
 
 unfoldable pub readAs : Kind → List ℕ → Answer Value
 readAs KV.Date s = readLayout KV.Date s

@@ -10,22 +10,22 @@ use Rattle.value.specs.Kinds.{okValue}
 use Rattle.value.specs.declared.Kind.the-variants as KV
 use Rattle.value.specs.declared.Value.{Value}
 use Rattle.value.specs.declared.Value.the-variants as VV
-use Rattle.layouts.specs.Writing as layouts
-use Rattle.durations.specs.Spelling.{dayTimeText, yearMonthText}
+use Rattle.text_layouts.specs.Writing as layouts
+use Rattle.text_durations.specs.Spelling.{dayTimeText, yearMonthText}
 use Rattle.text.specs.declared.Written.{Written}
 use Rattle.text.specs.declared.Written.the-variants as WV
 
 unfoldable pub textOf : Value → List ℕ
-textOf (VV.Date d) = layouts.textOf KV.Date d
-textOf (VV.Time d) = layouts.textOf KV.Time d
-textOf (VV.DateTime d) = layouts.textOf KV.DateTime d
+textOf (VV.Date d) = layouts.kindText KV.Date d
+textOf (VV.Time d) = layouts.kindText KV.Time d
+textOf (VV.DateTime d) = layouts.kindText KV.DateTime d
 textOf (VV.DayTime d) = dayTimeText d
 textOf (VV.YearMonth d) = yearMonthText d
 
 -- what an answer says: the length written, or the number of a refusal
-abbrev pub meaning : Written → Answer ℕ
-meaning (WV.Length n) = gives n
-meaning (WV.Refused r) = refuses (r .number)
+abbrev pub writtenMeaning : Written → Answer ℕ
+writtenMeaning (WV.Length n) = gives n
+writtenMeaning (WV.Refused r) = refuses (r .number)
 
 -- 16 for a value outside the bounds, then 15 for a room that the text does not fit
 unfoldable pub written : Value → ℕ → Answer ℕ

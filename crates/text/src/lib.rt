@@ -22,16 +22,16 @@ pub fn read(kind: Kind, s: &[u8]) -> Outcome
     ensures { λ r. ⌜ kinds.meaning r ≡ readAs kind (now (s .entry)) ⌝ }
 {
     match kind {
-        Kind::Date => layouts::read_layout(Kind::Date, s),
-        Kind::Time => layouts::read_layout(Kind::Time, s),
-        Kind::DateTime => layouts::read_layout(Kind::DateTime, s),
+        Kind::Date => text_layouts::read_layout(Kind::Date, s),
+        Kind::Time => text_layouts::read_layout(Kind::Time, s),
+        Kind::DateTime => text_layouts::read_layout(Kind::DateTime, s),
         Kind::DayTimeDuration => {
-            let r = durations::read_day_time(s);
+            let r = text_durations::read_day_time(s);
             let outcome = r.outcome;
             outcome
         }
         Kind::YearMonthDuration => {
-            let r = durations::read_year_month(s);
+            let r = text_durations::read_year_month(s);
             let outcome = r.outcome;
             outcome
         }
@@ -42,17 +42,17 @@ pub fn text_of(v: Value) -> Text
     ensures { λ r. ⌜ Holds (r .bytes) (r .len) (its.textOf v) ⌝ }
 {
     match v {
-        Value::Date(d) => layouts::layout_text(Kind::Date, d),
-        Value::Time(d) => layouts::layout_text(Kind::Time, d),
-        Value::DateTime(d) => layouts::layout_text(Kind::DateTime, d),
-        Value::DayTime(d) => durations::day_time_text(d),
-        Value::YearMonth(d) => durations::year_month_text(d),
+        Value::Date(d) => text_layouts::layout_text(Kind::Date, d),
+        Value::Time(d) => text_layouts::layout_text(Kind::Time, d),
+        Value::DateTime(d) => text_layouts::layout_text(Kind::DateTime, d),
+        Value::DayTime(d) => text_durations::day_time_text(d),
+        Value::YearMonth(d) => text_durations::year_month_text(d),
     }
 }
 
 // The text of a value at the start of a lent room.
 pub fn write(v: Value, room: &mut [u8]) -> Written
-    ensures { λ r. ⌜ its.meaning r ≡ its.written v (length (now (room .entry))) ⌝ }
+    ensures { λ r. ⌜ its.writtenMeaning r ≡ its.written v (length (now (room .entry))) ⌝ }
     ensures { λ r. ⌜ now (room .exit) ≡ its.afterWrite v (now (room .entry)) ⌝ }
 {
     if !value::valid::value_ok(v) {

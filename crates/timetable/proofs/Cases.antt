@@ -4,8 +4,8 @@ use mathlib.Core.Bool.{true, false}
 use mathlib.Core.List.{[], _∷_}
 use Rattle.basis.specs.Choice.{both}
 use Rattle.basis.specs.Letters.{bytes}
-use Rattle.timetable.specs.Parts.{onto, parted, bytesBefore}
-use Rattle.timetable.specs.Lines.{lessEmptyLast, linesOf, placed, linesFrom, placedLines, lineEnd, afterEnd, nextLine}
+use Rattle.timetable.specs.Parted.{onto, parted, bytesBefore}
+use Rattle.timetable.specs.Lines.{lessEmptyLast, linesOf, withOffsets, linesFrom, offsetLines, lineEnd, afterEnd, nextLine}
 use Rattle.timetable.specs.Fields.{fieldsOf, hasField, fieldAt}
 
 empty-timetable : linesOf (bytes "") ≡ []
@@ -28,8 +28,8 @@ last-empty : linesOf (bytes "a\n\n") ≡ bytes "a" ∷ [] ∷ []
 unfolding linesOf parted onto lessEmptyLast
 last-empty = refl
 
-offsets : placedLines (bytes "ab\n\nc") ≡ record { offset = 0; text = bytes "ab" } ∷ record { offset = 3; text = [] } ∷ record { offset = 4; text = bytes "c" } ∷ []
-unfolding placedLines linesFrom placed linesOf parted onto lessEmptyLast
+offsets : offsetLines (bytes "ab\n\nc") ≡ record { offset = 0; text = bytes "ab" } ∷ record { offset = 3; text = [] } ∷ record { offset = 4; text = bytes "c" } ∷ []
+unfolding offsetLines linesFrom withOffsets linesOf parted onto lessEmptyLast
 offsets = refl
 
 ends : (lineEnd (bytes "ab\nc") 0 ≡ 2) × (nextLine (bytes "ab\nc") 0 ≡ 3) × (nextLine (bytes "ab\nc") 3 ≡ 4) × (nextLine (bytes "ab\nc") 4 ≡ 4)

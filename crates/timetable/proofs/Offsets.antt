@@ -11,8 +11,8 @@ use lib.ListN.{length, take, drop, length-drop, drop-of-length-le}
 use lib.Seq.{take-all, length-take-le, drop-drop}
 use borrow.Author.Tests.{ltb-true, ltb-false}
 use Rattle.basis.specs.Choice.{pick}
-use Rattle.timetable.specs.Parts.{parted, bytesBefore}
-use Rattle.timetable.specs.Lines.{newline, lessEmptyLast, linesOf, lineCount, placed, linesFrom, lineEnd, afterEnd, nextLine, lineAt}
+use Rattle.timetable.specs.Parted.{parted, bytesBefore}
+use Rattle.timetable.specs.Lines.{newline, lessEmptyLast, linesOf, lineCount, withOffsets, linesFrom, lineEnd, afterEnd, nextLine, lineAt}
 use Rattle.timetable.proofs.Parting.{before-within, place-within, first-part}
 
 -- ---- the first line
@@ -109,26 +109,26 @@ line-cut t at end e = rw e
 
 -- from the end on there is no line
 pub lines-end : (t : List ℕ) (at : ℕ) → length t ≤ at → linesFrom t at ≡ []
-unfolding linesFrom placed
+unfolding linesFrom withOffsets
 lines-end t at h = rw (drop-of-length-le t h, no-line)
 
 -- after a line's bytes and its byte 10 the next line starts; without that byte there is none
-next-placed : (t : List ℕ) (at : ℕ) → placed (lineEnd t at + 1) (linesOf (drop (nextLine t at) t)) ≡ linesFrom t (nextLine t at)
-unfolding linesFrom nextLine afterEnd placed
+next-placed : (t : List ℕ) (at : ℕ) → withOffsets (lineEnd t at + 1) (linesOf (drop (nextLine t at) t)) ≡ linesFrom t (nextLine t at)
+unfolding linesFrom nextLine afterEnd withOffsets
 next-placed t at = go (ltb end (length t)) refl
   where
     end : ℕ
     end = lineEnd t at
 
     go : (x : Bool) → ltb end (length t) ≡ x
-        → placed (end + 1) (linesOf (drop (pick x (end + 1) end) t)) ≡ placed (pick x (end + 1) end) (linesOf (drop (pick x (end + 1) end) t))
+        → withOffsets (end + 1) (linesOf (drop (pick x (end + 1) end) t)) ≡ withOffsets (pick x (end + 1) end) (linesOf (drop (pick x (end + 1) end) t))
     go true e = refl
     go false e = rw (drop-of-length-le t (ltb-false end (length t) e), no-line)
 
 -- the line at an offset, before what stands after its byte 10
 line-here : (t : List ℕ) (at : ℕ) → at < length t
-    → linesFrom t at ≡ lineAt t at ∷ placed (lineEnd t at + 1) (linesOf (drop (suc (bytesBefore newline (drop at t))) (drop at t)))
-unfolding linesFrom lineAt lineEnd placed
+    → linesFrom t at ≡ lineAt t at ∷ withOffsets (lineEnd t at + 1) (linesOf (drop (suc (bytesBefore newline (drop at t))) (drop at t)))
+unfolding linesFrom lineAt lineEnd withOffsets
 line-here t at h =
     let m = length-drop at t in
     let z : at + bytesBefore newline (drop at t) - at ≡ bytesBefore newline (drop at t) = omega arith in
@@ -139,8 +139,8 @@ lines-next t at h = rw (← next-placed t at, from-next t at) (line-here t at h)
 
 -- ---- how many lines there are
 
-placed-count : (at : ℕ) (ls : List (List ℕ)) → length (placed at ls) ≡ length ls
-unfolding placed
+placed-count : (at : ℕ) (ls : List (List ℕ)) → length (withOffsets at ls) ≡ length ls
+unfolding withOffsets
 placed-count at [] = refl
 placed-count at (l ∷ ls) = ap suc (placed-count (at + length l + 1) ls)
 

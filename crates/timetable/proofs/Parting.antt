@@ -11,7 +11,7 @@ use lib.ListN.{length, getD, take, drop, length-drop, drop-of-length-le}
 use lib.Seq.{drop-cons}
 use borrow.Author.Tests.{lt-ltb, eq-eqb, ne-eqb}
 use Rattle.basis.specs.Choice.{pick}
-use Rattle.timetable.specs.Parts.{onto, parted, bytesBefore}
+use Rattle.timetable.specs.Parted.{onto, parted, bytesBefore}
 
 -- at a byte c no byte stands before it
 pub before-stop : (c : ℕ) (s : List ℕ) (i : ℕ) → i < length s → getD s i 0 ≡ c → bytesBefore c (drop i s) ≡ 0
@@ -38,7 +38,7 @@ before-within c (b ∷ bs) = go (eqb b c) (before-within c bs)
     go true h = omega arith
     go false h = omega arith
 
--- a place found from within a list lies within it
+-- an offset found from within a list lies within it
 pub place-within : (c : ℕ) (s : List ℕ) (at : ℕ) {r : ℕ} → at ≤ length s → r ≡ at + bytesBefore c (drop at s) → r ≤ length s
 place-within c s at h e = omega (arith, before-within c (drop at s), length-drop at s)
 

@@ -1,5 +1,5 @@
 -- How the n-th field of a line is found: n - 1 tabs are passed, and the fields from there on are those of what is left.
--- The laws of `Passing` are what a loop learns byte by byte; those after them say what the place after the tabs tells.
+-- The laws of `Passing` are what a loop learns byte by byte; those after them say what the offset after the tabs tells.
 use mathlib.Core.Path.{_≡_, refl, ap, sym, _∙_}
 use mathlib.Core.Bool.{Bool, true, false}
 use mathlib.Core.List.{List, [], _∷_}
@@ -11,7 +11,7 @@ use lib.ListN.{length, getD, take, drop, length-drop, drop-of-length-le}
 use lib.Seq.{drop-cons, getD-drop}
 use borrow.Author.Tests.{le-leb, lt-leb, eq-eqb, ne-eqb}
 use Rattle.basis.specs.Choice.{pick}
-use Rattle.timetable.specs.Parts.{onto, parted, bytesBefore}
+use Rattle.timetable.specs.Parted.{onto, parted, bytesBefore}
 use Rattle.timetable.specs.Fields.{tab, fieldsOf, hasField, fieldAt}
 use Rattle.timetable.proofs.Parting.{first-part, partsAfter}
 use Rattle.timetable.proofs.Counting.{has-field-when, no-field-beyond, no-field-empty}
@@ -23,12 +23,12 @@ others-kept b zero [] = refl
 others-kept b (suc k) [] = refl
 others-kept b k (p ∷ ps) = refl
 
--- a reader of the line at a place, with tabs left to pass before the field after n of them
+-- a reader of the line at an offset, with tabs left to pass before the field after n of them
 pub record Passing (line : List ℕ) (n at left : ℕ) : Type 0 where
   pub within : at ≤ length line
   pub rest : drop n (fieldsOf line) ≡ drop left (fieldsOf (drop at line))
 
--- `r` is the place after n tabs, or past the end where there are fewer
+-- `r` is the offset after n tabs, or past the end where there are fewer
 abbrev pub AfterTabs : List ℕ → ℕ → ℕ → Type 0
 AfterTabs line n r = drop n (fieldsOf line) ≡ pick (leb r (length line)) (fieldsOf (drop r line)) []
 
@@ -99,7 +99,7 @@ module _ (line : List ℕ) (n r : ℕ) (some : 0 < n) (found : AfterTabs line (n
       let m = length-drop (n - 1) (fieldsOf line) in
       no-field-beyond line n (omega arith)
 
-  -- that place is within the line exactly where the line has the field
+  -- that offset is within the line exactly where the line has the field
   pub within-has : leb r (length line) ≡ hasField line n
   within-has = go (leb r (length line)) refl
     where
@@ -119,7 +119,7 @@ module _ (line : List ℕ) (n r : ℕ) (some : 0 < n) (found : AfterTabs line (n
       let z : n - 1 + 0 ≡ n - 1 = omega arith in
       rw (there e, ← z, ← g, first-there e)
 
--- cut out by its two places
+-- cut out by its two offsets
 pub cut-field : (s f : List ℕ) (r end : ℕ) → end ≡ r + bytesBefore tab (drop r s) → f ≡ take (bytesBefore tab (drop r s)) (drop r s)
     → take (end - r) (drop r s) ≡ f
 cut-field s f r end e q =

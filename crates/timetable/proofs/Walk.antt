@@ -9,7 +9,7 @@ use lib.Dec.{ltb}
 use lib.ListN.{length, drop}
 use borrow.Author.Tests.{lt-ltb, le-ltb}
 use Rattle.basis.specs.Choice.{pick}
-use Rattle.timetable.specs.Lines.{lineCount, Line, linesFrom, placedLines, nextLine, lineAt}
+use Rattle.timetable.specs.Lines.{lineCount, Line, linesFrom, offsetLines, nextLine, lineAt}
 use Rattle.timetable.proofs.Offsets.{line-or-end, next-within, next-further, lines-end, lines-next, count-next, count-end}
 
 -- the lines visited from an offset on, in at most so many steps
@@ -35,8 +35,8 @@ walk-from t (suc k) at h =
     (line-or-end t at)
 
 -- with as many steps as bytes, all lines in order
-pub walk-visits-all : (t : List ℕ) → walk t (length t) 0 ≡ placedLines t
-unfolding placedLines
+pub walk-visits-all : (t : List ℕ) → walk t (length t) 0 ≡ offsetLines t
+unfolding offsetLines
 walk-visits-all t = walk-from t (length t) 0 (omega arith)
 
 -- a step a line leads to the end

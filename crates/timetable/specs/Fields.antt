@@ -6,7 +6,7 @@ use Prim.Native.Char.{code}
 use lib.Dec.{leb}
 use lib.ListN.{length, getD}
 use Rattle.basis.specs.Choice.{pick, both}
-use Rattle.timetable.specs.Parts.{parted}
+use Rattle.timetable.specs.Parted.{parted}
 
 abbrev pub tab : ℕ
 tab = code "\t"

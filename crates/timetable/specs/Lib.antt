@@ -1,3 +1,3 @@
-pub mod Parts
+pub mod Parted
 pub mod Lines
 pub mod Fields

@@ -5,7 +5,7 @@ use Prim.Native.Char.{code}
 use lib.Dec.{ltb}
 use lib.ListN.{length, take, drop}
 use Rattle.basis.specs.Choice.{pick}
-use Rattle.timetable.specs.Parts.{parted, bytesBefore}
+use Rattle.timetable.specs.Parted.{parted, bytesBefore}
 
 -- the byte that ends a line
 abbrev pub newline : ℕ
@@ -31,17 +31,17 @@ pub record Line : Type 0 where
   pub text : List ℕ
 
 -- lines one after the other, the first at an offset; each takes its bytes and the byte 10
-unfoldable pub placed : ℕ → List (List ℕ) → List Line
-placed at [] = []
-placed at (l ∷ ls) = record { offset = at; text = l } ∷ placed (at + length l + 1) ls
+unfoldable pub withOffsets : ℕ → List (List ℕ) → List Line
+withOffsets at [] = []
+withOffsets at (l ∷ ls) = record { offset = at; text = l } ∷ withOffsets (at + length l + 1) ls
 
 -- the lines of what stands from an offset on
 unfoldable pub linesFrom : List ℕ → ℕ → List Line
-linesFrom t at = placed at (linesOf (drop at t))
+linesFrom t at = withOffsets at (linesOf (drop at t))
 
 -- the lines of a timetable with their offsets
-unfoldable pub placedLines : List ℕ → List Line
-placedLines t = linesFrom t 0
+unfoldable pub offsetLines : List ℕ → List Line
+offsetLines t = linesFrom t 0
 
 -- where the line at an offset ends: at the next byte 10, or at the end of the timetable. An offset past the end is its own
 -- line's end, and the next line's start.

@@ -1,5 +1,5 @@
 // The fields of a line, counted from 1.
-use crate::parts::place_of;
+use crate::parts::offset_of;
 ghost use mathlib.Core.Path.{_≡_};
 ghost use mathlib.Core.List.{[]};
 ghost use lib.Dec.{leb};
@@ -9,7 +9,7 @@ ghost use Rattle.timetable.specs.Fields.{fieldsOf, hasField, fieldAt};
 
 const TAB: u8 = b'\t';
 
-// The place after the first `n` tabs, at which the field after them starts; one past the end where there are fewer.
+// The offset after the first `n` tabs, at which the field after them starts; one past the end where there are fewer.
 fn after_tabs(line: &[u8], n: usize) -> usize
     ensures { λ r. ⌜ drop n (fieldsOf (now (line .entry))) ≡ pick (leb r (length (now (line .entry)))) (fieldsOf (drop r (now (line .entry)))) [] ⌝ }
 {
@@ -48,6 +48,6 @@ pub fn field(line: &[u8], n: usize) -> &[u8]
     if line.len() < start {
         return &line[0..0];
     }
-    let end = place_of(TAB, line, start);
+    let end = offset_of(TAB, line, start);
     &line[start..end]
 }

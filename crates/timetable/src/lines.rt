@@ -1,5 +1,5 @@
 // Where a line ends, and where the next one starts.
-use crate::parts::place_of;
+use crate::parts::offset_of;
 ghost use mathlib.Core.Path.{_≡_};
 ghost use Rattle.timetable.specs.Lines.{lineEnd, afterEnd, nextLine};
 
@@ -9,7 +9,7 @@ const NEWLINE: u8 = b'\n';
 pub fn line_end(t: &[u8], at: usize) -> usize
     ensures { λ r. ⌜ r ≡ lineEnd (now (t .entry)) at ⌝ }
 {
-    place_of(NEWLINE, t, at)
+    offset_of(NEWLINE, t, at)
 }
 
 // The offset after the line that ends at `end`, for a caller who has the end already.

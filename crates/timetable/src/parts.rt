@@ -2,10 +2,10 @@
 ghost use mathlib.Core.Path.{_≡_};
 ghost use Prim.Native.Nat.{_+_};
 ghost use lib.ListN.{drop};
-ghost use Rattle.timetable.specs.Parts.{bytesBefore};
+ghost use Rattle.timetable.specs.Parted.{bytesBefore};
 
-// The place of the first byte `c` from `at` on; the end where there is none, `at` itself past the end.
-pub fn place_of(c: u8, s: &[u8], at: usize) -> usize
+// The offset of the first byte `c` from `at` on; the end where there is none, `at` itself past the end.
+pub fn offset_of(c: u8, s: &[u8], at: usize) -> usize
     ensures { λ r. ⌜ r ≡ at + bytesBefore c (drop at (now (s .entry))) ⌝ }
 {
     let mut i = at;

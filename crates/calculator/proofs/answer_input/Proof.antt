@@ -1,4 +1,4 @@
-use Rattle.replies.proofs.Growing.{within}
+use Rattle.calls_replies.proofs.Growing.{within}
 use borrow.Author.Needs.{needs}
 use Rattle.calculator.proofs.answer_input.Statement.{statement}
 use Rattle.calculator.proofs.answer_input.Tie as tie

@@ -3,7 +3,7 @@ use native.Mathlib.Omega.{arith}
 use borrow.Author.Needs.{needs}
 use lib.ListN.{length}
 use Rattle.timetable.proofs.Offsets.{end-from, end-within, next-within, next-further}
-use Rattle.replies.proofs.Growing.{within}
+use Rattle.calls_replies.proofs.Growing.{within}
 use Rattle.calculator.proofs.Steps.{next-is}
 use Rattle.calculator.proofs.answer_lines.Statement.{statement}
 use Rattle.calculator.proofs.answer_lines.Tie as tie

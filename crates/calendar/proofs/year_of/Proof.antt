@@ -3,7 +3,7 @@ use Prim.Native.Nat.{_+_, _-_, _≤_}
 use native.Mathlib.Omega.{arith}
 use borrow.Author.Needs.{needs}
 use Rattle.calendar.specs.Calendar.{total, yearDays}
-use Rattle.calendar.proofs.Runs.{total-zero}
+use Rattle.calendar.proofs.Periods.{total-zero}
 use Rattle.calendar.proofs.Years.{years-next}
 use Rattle.calendar.proofs.year_of.Statement.{statement}
 use Rattle.calendar.proofs.year_of.Tie as tie

@@ -1,5 +1,5 @@
 use mathlib.Core.Path.{ap, sym, _∙_}
-use Rattle.calls.specs.Answers.{textBy, answerOf}
+use Rattle.calls.specs.Answers.{answerBy, answerOf}
 use Rattle.calls.proofs.Saying.{as-text}
 use borrow.Author.Needs.{needs}
 use Rattle.calls.proofs.answer.Statement.{statement}
@@ -39,24 +39,24 @@ cast-call-requires : tie.Need-cast-call-requires
 cast-call-requires c κs = search needs
 
 returns : tie.Need-returns
-unfolding textBy answerOf
-returns c = as-text (ap (textBy (c .before .before .before .before .before .args .line .now)) (sym (c .before .enum-told .given .1) ∙ c .before .before .before .form .ensures)) (c .no-call .ensures)
+unfolding answerBy answerOf
+returns c = as-text (ap (answerBy (c .before .before .before .before .before .args .line .now)) (sym (c .before .enum-told .given .1) ∙ c .before .before .before .form .ensures)) (c .no-call .ensures)
 
 returns-2 : tie.Need-returns-2
 unfolding answerOf
-returns-2 c = as-text (ap (textBy (c .before .before .before .before .before .before .args .line .now)) (sym (c .before .before .o .given .1) ∙ c .before .before .before .before .form .ensures)) (c .one-call .ensures)
+returns-2 c = as-text (ap (answerBy (c .before .before .before .before .before .before .args .line .now)) (sym (c .before .before .o .given .1) ∙ c .before .before .before .before .form .ensures)) (c .one-call .ensures)
 
 returns-3 : tie.Need-returns-3
 unfolding answerOf
-returns-3 c = as-text (ap (textBy (c .before .before .before .before .before .before .args .line .now)) (sym (c .before .before .o2 .given .1) ∙ c .before .before .before .before .form .ensures)) (c .two-call .ensures)
+returns-3 c = as-text (ap (answerBy (c .before .before .before .before .before .before .args .line .now)) (sym (c .before .before .o2 .given .1) ∙ c .before .before .before .before .form .ensures)) (c .two-call .ensures)
 
 returns-4 : tie.Need-returns-4
 unfolding answerOf
-returns-4 c = as-text (ap (textBy (c .before .before .before .before .before .before .args .line .now)) (sym (c .before .before .k .given .1) ∙ c .before .before .before .before .form .ensures)) (c .product-call .ensures)
+returns-4 c = as-text (ap (answerBy (c .before .before .before .before .before .before .args .line .now)) (sym (c .before .before .k .given .1) ∙ c .before .before .before .before .form .ensures)) (c .product-call .ensures)
 
 returns-5 : tie.Need-returns-5
 unfolding answerOf
-returns-5 c = as-text (ap (textBy (c .before .before .before .before .before .before .args .line .now)) (sym (c .before .before .k2 .given .1) ∙ c .before .before .before .before .form .ensures)) (c .cast-call .ensures)
+returns-5 c = as-text (ap (answerBy (c .before .before .before .before .before .before .args .line .now)) (sym (c .before .before .k2 .given .1) ∙ c .before .before .before .before .form .ensures)) (c .cast-call .ensures)
 
 pub answer-spec : {M : Type 1} → statement M
 answer-spec =

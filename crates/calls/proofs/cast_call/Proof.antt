@@ -2,8 +2,8 @@ use mathlib.Core.Path.{ap, _∙_}
 use Rattle.text.specs.Reading.{readAs}
 use Rattle.value.specs.declared.Value.{Value}
 use Rattle.text.specs.Writing.{textOf}
-use Rattle.casting.specs.Casts.{castOf}
-use Rattle.calls.specs.Answers.{said, textBy}
+use Rattle.operation_casting.specs.Casts.{castOf}
+use Rattle.calls.specs.Answers.{said, answerBy}
 use Rattle.calls.proofs.Saying.{was-read, was-refused, renamed}
 use borrow.Author.Needs.{needs}
 use Rattle.calls.proofs.cast_call.Statement.{statement}
@@ -31,11 +31,11 @@ value-said-requires : tie.Need-value-said-requires
 value-said-requires c κs = search needs
 
 returns : tie.Need-returns
-unfolding textBy
+unfolding answerBy
 returns c = was-refused (λ (a : Value). said textOf (castOf a (c .before .before .before .before .before .before .before .args .l))) (c .before .before .before .before .read .ensures ∙ ap (readAs (c .before .before .before .before .before .before .before .args .k)) (c .before .before .before .before .before .field .ensures)) (c .before .before .r .given .1) (c .refused .ensures)
 
 returns-2 : tie.Need-returns-2
-unfolding textBy
+unfolding answerBy
 returns-2 c = was-read (λ (a : Value). said textOf (castOf a (c .before .before .before .before .before .before .before .before .args .l))) (c .before .before .before .before .before .read .ensures ∙ ap (readAs (c .before .before .before .before .before .before .before .before .args .k)) (c .before .before .before .before .before .before .field .ensures)) (c .before .before .before .a .given .1) (renamed textOf (c .before .cast .ensures) (c .value-said .ensures))
 
 pub cast-call-spec : {M : Type 1} → statement M

@@ -1,6 +1,6 @@
 use mathlib.Core.Path.{ap, _∙_}
 use Rattle.text.specs.Reading.{readAs}
-use Rattle.calls.specs.Answers.{oneText, textBy}
+use Rattle.calls.specs.Answers.{oneText, answerBy}
 use Rattle.calls.proofs.Saying.{was-read, was-refused}
 use borrow.Author.Needs.{needs}
 use Rattle.calls.proofs.one_call.Statement.{statement}
@@ -25,11 +25,11 @@ one-said-requires : tie.Need-one-said-requires
 one-said-requires c κs = search needs
 
 returns : tie.Need-returns
-unfolding textBy
+unfolding answerBy
 returns c = was-refused (oneText (c .before .before .before .before .before .before .before .args .o)) (c .before .before .before .before .read .ensures ∙ ap (readAs (c .before .before .before .before .before .before .before .args .k)) (c .before .before .before .before .before .field .ensures)) (c .before .before .r .given .1) (c .refused .ensures)
 
 returns-2 : tie.Need-returns-2
-unfolding textBy
+unfolding answerBy
 returns-2 c = was-read (oneText (c .before .before .before .before .before .before .before .args .o)) (c .before .before .before .before .read .ensures ∙ ap (readAs (c .before .before .before .before .before .before .before .args .k)) (c .before .before .before .before .before .field .ensures)) (c .before .before .a .given .1) (c .one-said .ensures)
 
 pub one-call-spec : {M : Type 1} → statement M

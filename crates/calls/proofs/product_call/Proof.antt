@@ -3,10 +3,10 @@ use Rattle.text.specs.Reading.{readAs}
 use Rattle.timetable.specs.Fields.{fieldAt}
 use Rattle.value.specs.declared.Value.{Value}
 use Rattle.text.specs.Writing.{textOf}
-use Rattle.arithmetic.specs.Products.{timesOf}
-use Rattle.asking.specs.Asked.{hasMinus, magnitudeOf}
-use Rattle.calls.specs.Answers.{said, textBy}
-use Rattle.asking.proofs.Wholes.{times-said}
+use Rattle.operation_arithmetic.specs.Products.{timesOf}
+use Rattle.calls_asked.specs.Asked.{hasMinus, wholeMagnitude}
+use Rattle.calls.specs.Answers.{said, answerBy}
+use Rattle.calls_asked.proofs.Wholes.{times-said}
 use Rattle.calls.proofs.Saying.{was-read, was-refused, renamed}
 use borrow.Author.Needs.{needs}
 use Rattle.calls.proofs.product_call.Statement.{statement}
@@ -40,12 +40,12 @@ value-said-requires : tie.Need-value-said-requires
 value-said-requires c κs = search needs
 
 returns : tie.Need-returns
-unfolding textBy
-returns c = was-refused (λ (a : Value). said textOf (timesOf a (hasMinus (fieldAt (c .before .before .before .before .before .before .before .args .line .now) 4)) (magnitudeOf (fieldAt (c .before .before .before .before .before .before .before .args .line .now) 4)))) (c .before .before .before .before .read .ensures ∙ ap (readAs (c .before .before .before .before .before .before .before .args .k)) (c .before .before .before .before .before .field .ensures)) (c .before .before .r .given .1) (c .refused .ensures)
+unfolding answerBy
+returns c = was-refused (λ (a : Value). said textOf (timesOf a (hasMinus (fieldAt (c .before .before .before .before .before .before .before .args .line .now) 4)) (wholeMagnitude (fieldAt (c .before .before .before .before .before .before .before .args .line .now) 4)))) (c .before .before .before .before .read .ensures ∙ ap (readAs (c .before .before .before .before .before .before .before .args .k)) (c .before .before .before .before .before .field .ensures)) (c .before .before .r .given .1) (c .refused .ensures)
 
 returns-2 : tie.Need-returns-2
-unfolding textBy
-returns-2 c = was-read (λ (a : Value). said textOf (timesOf a (hasMinus (fieldAt (c .before .before .before .before .before .before .before .before .before .before .args .line .now) 4)) (magnitudeOf (fieldAt (c .before .before .before .before .before .before .before .before .before .before .args .line .now) 4)))) (c .before .before .before .before .before .before .before .read .ensures ∙ ap (readAs (c .before .before .before .before .before .before .before .before .before .before .args .k)) (c .before .before .before .before .before .before .before .before .field .ensures)) (c .before .before .before .before .before .a .given .1) (renamed textOf (c .before .times .ensures ∙ times-said _ (c .before .before .before .before .before .before .before .before .before .before .args .line .now) (c .before .before .whole .ensures .1) (c .before .before .whole .ensures .2) (c .before .before .before .field2 .ensures)) (c .value-said .ensures))
+unfolding answerBy
+returns-2 c = was-read (λ (a : Value). said textOf (timesOf a (hasMinus (fieldAt (c .before .before .before .before .before .before .before .before .before .before .args .line .now) 4)) (wholeMagnitude (fieldAt (c .before .before .before .before .before .before .before .before .before .before .args .line .now) 4)))) (c .before .before .before .before .before .before .before .read .ensures ∙ ap (readAs (c .before .before .before .before .before .before .before .before .before .before .args .k)) (c .before .before .before .before .before .before .before .before .field .ensures)) (c .before .before .before .before .before .a .given .1) (renamed textOf (c .before .times .ensures ∙ times-said _ (c .before .before .before .before .before .before .before .before .before .before .args .line .now) (c .before .before .whole .ensures .1) (c .before .before .whole .ensures .2) (c .before .before .before .field2 .ensures)) (c .value-said .ensures))
 
 pub product-call-spec : {M : Type 1} → statement M
 product-call-spec =

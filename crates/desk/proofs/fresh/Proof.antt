@@ -8,7 +8,7 @@ use Rattle.desk.proofs.fresh.Statement.{statement}
 use Rattle.desk.proofs.fresh.Tie as tie
 use Rattle.desk.proofs.fresh.Reads as reads
 use Rattle.desk.proofs.fresh.Lts as lts
-use Rattle.seat.proofs.free.Reads as free-reads
+use Rattle.desk_seat.proofs.free.Reads as free-reads
 
 free-requires : tie.Need-free-requires
 free-requires c κs = search needs

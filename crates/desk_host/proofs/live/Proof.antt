@@ -37,13 +37,13 @@ use denote.Struct.Laws as LL
 use denote.Triple.Walked.{says, needs, Stays, stay-none, stay-none-slice, walkOf, AllGo, goes-none, goes-none-slice, ends-at, walked, walk-meets}
 use denote.Exit.{yes}
 use denote.Triple.Clauses.{ensured, lasts}
-use Rattle.seat.specs.Files.{over}
+use Rattle.desk_seat.specs.Files.{over}
 use Rattle.desk.specs.declared.Desk.{Desk}
 use Rattle.desk.proofs.Desk as T
 use Rattle.desk.proofs.Desk.Laws as T′
-use Rattle.pieces.specs.Pieces.{servedAll}
-use Rattle.pieces.specs.Carried.{servedTold}
-use Rattle.pieces.proofs.Again.{sv, Own, Tok, twice}
+use Rattle.output_pieces.specs.Pieces.{servedAll}
+use Rattle.output_pieces.specs.Carried.{servedTold}
+use Rattle.output_pieces.proofs.Again.{sv, Own, Tok, twice}
 use Rattle.desk_host.specs.declared.Sent.{Sent}
 use Rattle.desk_host.specs.declared.Progress.{Progress}
 use Rattle.desk_host.proofs.Sent as S

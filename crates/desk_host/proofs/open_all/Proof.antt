@@ -1,6 +1,6 @@
 -- `open_all` meets its contract: a walk of its code by hand, with a loop that holds a line reader. In each turn of the loop the
 -- reader is asked for its line, the desk is lent again for a lifetime of the call and comes back at what `open_at_in` left there,
--- and the reader moves on. A reader is what the input owns, and a place: it is put together anew for each call.
+-- and the reader moves on. A reader is what the input owns, and an offset: it is put together anew for each call.
 use mathlib.Core.Path.{_≡_, refl, ap}
 use mathlib.Core.Bool.{true}
 use mathlib.Core.WellFounded.{WellFounded, InvImage·wf}
@@ -46,32 +46,32 @@ use denote.Triple.Walked.{says, needs, Stays, stay-ref, stay-none, stay-none-sli
 use denote.Exit.{yes}
 use denote.Triple.Clauses.{ensured, lasts}
 use Rattle.basis.specs.Choice.{both}
-use Rattle.timetable.specs.Lines.{lineEnd, nextLine, linesFrom, placedLines}
-use Rattle.words.specs.Runs.{between}
-use Rattle.line_reader.specs.declared.LineReader.{LineReader}
-use Rattle.line_reader.specs.declared.LineAt.{LineAt}
-use Rattle.line_reader.proofs.LineReader as L
-use Rattle.line_reader.proofs.LineReader.Laws as L′
-use Rattle.line_reader.proofs.LineAt as R
-use Rattle.line_reader.proofs.LineAt.Laws as R′
-use Rattle.line_reader.proofs.new as new
-use Rattle.line_reader.proofs.new.Symbol as new-def
-use Rattle.line_reader.proofs.new.Symbol.{name as #new}
-use Rattle.line_reader.proofs.new.Met as new-thm
-use Rattle.line_reader.proofs.next as reads
-use Rattle.line_reader.proofs.next.Symbol as reads-def
-use Rattle.line_reader.proofs.next.Symbol.{name as #next}
-use Rattle.line_reader.proofs.next.Met as reads-thm
-use Rattle.line_reader.proofs.moved as moves
-use Rattle.line_reader.proofs.moved.Symbol as moves-def
-use Rattle.line_reader.proofs.moved.Symbol.{name as #moved}
-use Rattle.line_reader.proofs.moved.Met as moves-thm
-use Rattle.seat.specs.Request.{asking}
+use Rattle.timetable.specs.Lines.{lineEnd, nextLine, linesFrom, offsetLines}
+use Rattle.condition_words.specs.Words.{between}
+use Rattle.timetable_reader.specs.declared.LineReader.{LineReader}
+use Rattle.timetable_reader.specs.declared.LineAt.{LineAt}
+use Rattle.timetable_reader.proofs.LineReader as L
+use Rattle.timetable_reader.proofs.LineReader.Laws as L′
+use Rattle.timetable_reader.proofs.LineAt as R
+use Rattle.timetable_reader.proofs.LineAt.Laws as R′
+use Rattle.timetable_reader.proofs.new as new
+use Rattle.timetable_reader.proofs.new.Symbol as new-def
+use Rattle.timetable_reader.proofs.new.Symbol.{name as #new}
+use Rattle.timetable_reader.proofs.new.Met as new-thm
+use Rattle.timetable_reader.proofs.next as reads
+use Rattle.timetable_reader.proofs.next.Symbol as reads-def
+use Rattle.timetable_reader.proofs.next.Symbol.{name as #next}
+use Rattle.timetable_reader.proofs.next.Met as reads-thm
+use Rattle.timetable_reader.proofs.moved as moves
+use Rattle.timetable_reader.proofs.moved.Symbol as moves-def
+use Rattle.timetable_reader.proofs.moved.Symbol.{name as #moved}
+use Rattle.timetable_reader.proofs.moved.Met as moves-thm
+use Rattle.desk_seat.specs.Request.{asking}
 use Rattle.desk.specs.declared.Desk.{Desk}
 use Rattle.desk.proofs.Desk as T
-use Rattle.pieces.specs.Pieces.{openPiece, openedAll}
-use Rattle.pieces.specs.Carried.{openedTold}
-use Rattle.pieces.proofs.Again.{sv, Own, at, Ref, Tok, twice, lends, back}
+use Rattle.output_pieces.specs.Pieces.{openPiece, openedAll}
+use Rattle.output_pieces.specs.Carried.{openedTold}
+use Rattle.output_pieces.proofs.Again.{sv, Own, at, Ref, Tok, twice, lends, back}
 use Rattle.desk_host.specs.declared.Sent.{Sent}
 use Rattle.desk_host.proofs.Sent as S
 use Rattle.desk_host.proofs.Sent.Laws as S′
@@ -149,10 +149,10 @@ module _ {M : Type 1} (𝓤 : URA M) (H : Heap 𝓤) (A : Atoms 𝓤) (W : Given
   n = length (s .now)
 
   abbrev All : Desk
-  All = openedAll (placedLines (s .now)) D
+  All = openedAll (offsetLines (s .now)) D
 
   abbrev Sum : ℕ
-  Sum = k₀ + openedTold (placedLines (s .now)) D
+  Sum = k₀ + openedTold (offsetLines (s .now)) D
 
   exits : k₀ < 2 ^ 64 → (d : Desk) (z : Sent) → IsSent z → (z .through ≡ true → (d ≡ All) × (z .told ≡ Sum)) → ent 𝓤 (⋆ 𝓤 H A (‵ (Ref κ b o γ d) ∷ ‵ (flft κ q) ∷ Tok κ′ q′ ∷ ‵ (Own 1 κ′ s) ∷ [])) (Post (zv z))
   exits fk₀ d z is e =
@@ -161,7 +161,7 @@ module _ {M : Type 1} (𝓤 : URA M) (H : Heap 𝓤) (A : Atoms 𝓤) (W : Given
       says ! e $ move ! (1 ∷ 2 ∷ []) $ join ! $ frame ! $ nothing ! $ owned ! usize (Is usize) (uint-makes 𝓤 H A W w64) k₀ _ (refl, fk₀) $ fjoin ! $ move ! (2 ∷ 0 ∷ []) $ fjoin ! $ move ! (1 ∷ 0 ∷ []) $ fjoin ! $
       owned ! S.the-row (Is S.the-row) (LL.makes S.the-type S′.the-plain 𝓤 H A) z _ is $ move ! (1 ∷ 0 ∷ []) $ done !
 
-  -- ---- the reader of the input at a place
+  -- ---- the reader of the input at an offset
   abbrev α : NamedLft
   α = namedLft 1 0 tt (κ′, tt)
 
@@ -181,7 +181,7 @@ module _ {M : Type 1} (𝓤 : URA M) (H : Heap 𝓤) (A : Atoms 𝓤) (W : Given
   is-at : (r : LineReader) (u : Val) → Is (B (κ′, tt)) r (u ∷ []) → r .at < 2 ^ 64
   is-at r u is = LL.owed (L.the-type α) (L′.the-laws α) r (u ∷ []) is .1 .0 .1
 
-  -- what the input owns, and a place
+  -- what the input owns, and an offset
   reads-input : (i : ℕ) → i < 2 ^ 64 → ent 𝓤 (sem 𝓤 H A (Own 1 κ′ s)) (sem 𝓤 H A (OwnR (rdr i) (lv (rdr i))))
   reads-input i fits = qed W (‵ (Own 1 κ′ s) ∷ []) ∵ nothing ! $ owned ! usize (Is usize) (uint-makes 𝓤 H A W w64) i _ (refl, fits) $ fjoin ! $ move ! (1 ∷ 0 ∷ []) $ fjoin ! $ by ! (own-shut 𝓤 H A W (L.the-type α) (L′.the-laws α) (s, (i, tt)))
 
@@ -200,7 +200,7 @@ module _ {M : Type 1} (𝓤 : URA M) (H : Heap 𝓤) (A : Atoms 𝓤) (W : Given
   abbrev Placed : LineReader → ℕ → Type 0
   Placed r i = (r .timetable ≡ s) × (r .at ≡ i)
 
-  -- a reader of the input is known by its place
+  -- a reader of the input is known by its offset
   abbrev is-rdr : (r : LineReader) (i : ℕ) → Placed r i → r ≡ rdr (r .at)
   is-rdr r i e = λ k. record { timetable = e .0 k; at = r .at }
 
@@ -241,7 +241,7 @@ module _ {M : Type 1} (𝓤 : URA M) (H : Heap 𝓤) (A : Atoms 𝓤) (W : Given
   abbrev Said : ℕ → ℕ → ℕ → Desk → Desk → Sent → Type 0
   Said i j k d h a = (h ≡ openPiece (asking (between (s .now) i j)) d .desk) × (a .more ≡ both (a .through) true) × (a .told ≡ k + length (openPiece (asking (between (s .now) i j)) d .text))
 
-  -- a turn of the loop starts at a place, with the lines from there on left to be opened, and so many bytes told
+  -- a turn of the loop starts at an offset, with the lines from there on left to be opened, and so many bytes told
   abbrev Point : Type 0
   Point = (i : ℕ) × ((d : Desk) × ((k : ℕ) × ((i < 2 ^ 64) × ((k < 2 ^ 64) × ((openedAll (linesFrom (s .now) i) d ≡ All) × (toTell (s .now) i d k ≡ Sum))))))
 
@@ -267,7 +267,7 @@ module _ {M : Type 1} (𝓤 : URA M) (H : Heap 𝓤) (A : Atoms 𝓤) (W : Given
         ∷ ‵ (froom word l₇ 0) ∷ ‵ (fdies word l₇) ∷ ‵ (froom word l₆ 0) ∷ ‵ (fdies word l₆) ∷ ‵ (froom S′.mir l₅ 0) ∷ ‵ (fdies S′.mir l₅) ∷ ‵ (froom R′.mir l₄ 0) ∷ ‵ (fdies R′.mir l₄)
         ∷ ‵ (fat fullShare reader l₃ 0 (lv (rdr i))) ∷ ‵ (fdies reader l₃) ∷ ‵ (fat fullShare word lₜ 0 (vint w64 k)) ∷ ‵ (fdies word lₜ) ∷ ‵ (fat fullShare word lₖ 0 (vint w64 k₀)) ∷ ‵ (fdies word lₖ) ∷ ‵ (fat fullShare slice l₂ 0 (sv s)) ∷ ‵ (fdies slice l₂) ∷ ‵ (fat fullShare param l₁ 0 (vptr b o)) ∷ ‵ (fdies param l₁) ∷ ‵ (froom S′.mir l₀ 0) ∷ ‵ (fdies S′.mir l₀) ∷ []
 
-    -- the invariant: the reference is the function's own, at the desk after the lines before the reader's place
+    -- the invariant: the reference is the function's own, at the desk after the lines before the reader's offset
     abbrev At : Point → List (Item 𝓤)
     At x = ‵ (Ref κ b o γ (x .1 .0)) ∷ ‵ (flft κ q) ∷ Tok κ′ q′ ∷ ‵ (Own 1 κ′ s) ∷ Locals (x .0) (x .1 .1 .0)
 
@@ -403,7 +403,7 @@ module _ {M : Type 1} (𝓤 : URA M) (H : Heap 𝓤) (A : Atoms 𝓤) (W : Given
       → Meets 𝓤 H A f.signature (WpFn 𝓤 H (𝓣 .C) (𝓣 .Λ) code.function) (f.spec 𝓤 H A at-mem run)
   open-all-meets 𝓣 k₁ k₂ k₃ k₄ = walk-meets 𝓤 H A f.ended stayed W goes (f.clauses 𝓤 H A at-mem run) (WpFn 𝓤 H (𝓣 .C) (𝓣 .Λ) code.function) (WpFn-mono 𝓤 H (W .laws) 𝓣 code.function)
       (walked 𝓤 H A f.ended stayed (f.clauses 𝓤 H A at-mem run) (WpFn 𝓤 H (𝓣 .C) (𝓣 .Λ) code.function) (λ κs. (ptr-vals, (slice-vals, (uint-vals w64, tt)))) (λ κs. (mut-tells (named 0) (κs .0) T.the-row, (shr-slice-tells (named 1) (κs .1 .0) u8, (uint-tells w64, tt))))
-      (λ κs qs bounds a _ are. needs 𝓤 (a .1 .1 .0 + openedTold (placedLines (a .1 .0 .now)) (a .0 .now) < 2 ^ 64) _ (λ w. walk 𝓤 H A W at-mem run (κs .0) (κs .1 .0) (qs .0) (qs .1 .0) (a .0 .ptr .0) (a .0 .ptr .1) (a .0 .name) (a .0 .now) (a .1 .0) (a .1 .1 .0) 𝓣 k₁ k₂ k₃ k₄ (are .1 .0) (are .1 .1 .0 .1) w)))
+      (λ κs qs bounds a _ are. needs 𝓤 (a .1 .1 .0 + openedTold (offsetLines (a .1 .0 .now)) (a .0 .now) < 2 ^ 64) _ (λ w. walk 𝓤 H A W at-mem run (κs .0) (κs .1 .0) (qs .0) (qs .1 .0) (a .0 .ptr .0) (a .0 .ptr .1) (a .0 .name) (a .0 .now) (a .1 .0) (a .1 .1 .0) 𝓣 k₁ k₂ k₃ k₄ (are .1 .0) (are .1 .1 .0 .1) w)))
 
 pub open-all-spec : {M : Type 1} → stated.statement M
 unfolding code.routine tablesOf
@@ -411,7 +411,7 @@ open-all-spec 𝓤 H 𝓜 𝓖 𝓡 =
     entered 𝓤 H (tripleOf 𝓤 H (𝓖 .A) f.signature (f.spec 𝓤 H (𝓖 .A) (𝓜 .mem) (𝓡 .run)))
     (tables 𝓤 H 𝓜 𝓡 code.env .C) (tables 𝓤 H 𝓜 𝓡 code.env .Λ) #open-all code.function (code.unfolded 𝓤 H 𝓜 𝓡)
     (open-all-meets 𝓤 H (𝓖 .A) (givenOf 𝓤 H 𝓜 𝓖) (𝓜 .mem) (𝓡 .run) (tablesOf 𝓤 H 𝓜 (tables 𝓤 H 𝓜 𝓡 code.env))
-    (cited 𝓤 H (New 𝓤 H (𝓖 .A) (𝓜 .mem) (𝓡 .run)) 𝓜 𝓡 code.env #new new-def.routine code.calls-line-reader·new (new-thm.met 𝓤 H 𝓜 𝓖 𝓡))
-    (cited 𝓤 H (Reads 𝓤 H (𝓖 .A) (𝓜 .mem) (𝓡 .run)) 𝓜 𝓡 code.env #next reads-def.routine code.calls-line-reader·next (reads-thm.met 𝓤 H 𝓜 𝓖 𝓡))
-    (cited 𝓤 H (Moves 𝓤 H (𝓖 .A) (𝓜 .mem) (𝓡 .run)) 𝓜 𝓡 code.env #moved moves-def.routine code.calls-line-reader·moved (moves-thm.met 𝓤 H 𝓜 𝓖 𝓡))
+    (cited 𝓤 H (New 𝓤 H (𝓖 .A) (𝓜 .mem) (𝓡 .run)) 𝓜 𝓡 code.env #new new-def.routine code.calls-timetable-reader·new (new-thm.met 𝓤 H 𝓜 𝓖 𝓡))
+    (cited 𝓤 H (Reads 𝓤 H (𝓖 .A) (𝓜 .mem) (𝓡 .run)) 𝓜 𝓡 code.env #next reads-def.routine code.calls-timetable-reader·next (reads-thm.met 𝓤 H 𝓜 𝓖 𝓡))
+    (cited 𝓤 H (Moves 𝓤 H (𝓖 .A) (𝓜 .mem) (𝓡 .run)) 𝓜 𝓡 code.env #moved moves-def.routine code.calls-timetable-reader·moved (moves-thm.met 𝓤 H 𝓜 𝓖 𝓡))
     (cited 𝓤 H (Opens 𝓤 H (𝓖 .A) (𝓜 .mem) (𝓡 .run)) 𝓜 𝓡 code.env #open-at-in opens-def.routine code.calls-desk-host·open-at-in (opens-thm.met 𝓤 H 𝓜 𝓖 𝓡)))

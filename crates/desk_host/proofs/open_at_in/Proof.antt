@@ -42,24 +42,24 @@ use denote.Triple.Walked.{says, needs, Stays, gave-ref, stay-none, stay-none-sli
 use denote.Exit.{yes}
 use denote.Triple.Clauses.{ensured, lasts}
 use Rattle.basis.specs.Choice.{both}
-use Rattle.words.specs.Runs.{between}
-use Rattle.words.proofs.cut as cut
-use Rattle.words.proofs.cut.Symbol as cut-def
-use Rattle.words.proofs.cut.Symbol.{name as #cut}
-use Rattle.words.proofs.cut.Met as cut-thm
-use Rattle.seat.specs.Request.{asking}
+use Rattle.condition_words.specs.Words.{between}
+use Rattle.condition_words.proofs.cut as cut
+use Rattle.condition_words.proofs.cut.Symbol as cut-def
+use Rattle.condition_words.proofs.cut.Symbol.{name as #cut}
+use Rattle.condition_words.proofs.cut.Met as cut-thm
+use Rattle.desk_seat.specs.Request.{asking}
 use Rattle.desk.specs.declared.Desk.{Desk}
 use Rattle.desk.proofs.Desk as T
 use Rattle.output_lines.specs.Text.{lineRoom}
-use Rattle.pieces.specs.Pieces.{openPiece, Leaves}
-use Rattle.pieces.specs.declared.Part.{Part}
-use Rattle.pieces.proofs.Part as P
-use Rattle.pieces.proofs.Part.Laws as P′
-use Rattle.pieces.proofs.Again.{sv, Own, at, Ref, Tok, twice}
-use Rattle.pieces.proofs.open_piece_in as opens
-use Rattle.pieces.proofs.open_piece_in.Symbol as opens-def
-use Rattle.pieces.proofs.open_piece_in.Symbol.{name as #open-piece-in}
-use Rattle.pieces.proofs.open_piece_in.Met as opens-thm
+use Rattle.output_pieces.specs.Pieces.{openPiece, Leaves}
+use Rattle.output_pieces.specs.declared.PieceEnd.{PieceEnd}
+use Rattle.output_pieces.proofs.PieceEnd as P
+use Rattle.output_pieces.proofs.PieceEnd.Laws as P′
+use Rattle.output_pieces.proofs.Again.{sv, Own, at, Ref, Tok, twice}
+use Rattle.output_pieces.proofs.open_piece_in as opens
+use Rattle.output_pieces.proofs.open_piece_in.Symbol as opens-def
+use Rattle.output_pieces.proofs.open_piece_in.Symbol.{name as #open-piece-in}
+use Rattle.output_pieces.proofs.open_piece_in.Met as opens-thm
 use Rattle.desk_host.specs.declared.Sent.{Sent}
 use Rattle.desk_host.proofs.Sent as S
 use Rattle.desk_host.proofs.Sent.Laws as S′
@@ -175,22 +175,22 @@ module _ {M : Type 1} (𝓤 : URA M) (H : Heap 𝓤) (A : Atoms 𝓤) (W : Given
       nothing ! $ move ! (1 ∷ 0 ∷ []) $ fjoin ! $ move ! (2 ∷ 0 ∷ []) $ fjoin ! $ move ! (3 ∷ 0 ∷ []) $ fjoin ! $
       nothing ! $ move ! (2 ∷ 0 ∷ []) $ join ! $ move ! (2 ∷ 0 ∷ []) $ join ! $ move ! (2 ∷ 0 ∷ []) $ join ! $ join ! $ done !
 
-  abbrev Said : RefT (List ℕ) → List ℕ → Desk → Part → List ℕ → Type 0
+  abbrev Said : RefT (List ℕ) → List ℕ → Desk → PieceEnd → List ℕ → Type 0
   Said c ys d a zs = (d ≡ openPiece (asking (c .now)) h .desk) × Leaves (openPiece (asking (c .now)) h) a ys zs
 
-  abbrev to-send : ℕ → ℕ → GName → List ℕ → Part → Val → Send 𝓤 H A at-mem run .Ghost
+  abbrev to-send : ℕ → ℕ → GName → List ℕ → PieceEnd → Val → Send 𝓤 H A at-mem run .Ghost
   to-send ν l δ zs a v = (((ν ∷ [], tt), (fullShare, tt), tt, (a, (slice l δ zs, (k, tt))), (v ∷ [], (rv l ∷ [], (vint w64 k ∷ [], tt)))), tt)
 
-  goes-send : k < 2 ^ 64 → (ν l : ℕ) (δ : GName) (zs : List ℕ) (a : Part) (v : Val) → (a .count ≤ length zs) × (k + a .count < 2 ^ 64)
+  goes-send : k < 2 ^ 64 → (ν l : ℕ) (δ : GName) (zs : List ℕ) (a : PieceEnd) (v : Val) → (a .count ≤ length zs) × (k + a .count < 2 ^ 64)
       → ent 𝓤 (⋆ 𝓤 H A (‵ (P.the-row .own a (v ∷ [])) ∷ ‵ (ShrSlice (named 0) (ν ∷ []) u8 .own (slice l δ zs) (rv l ∷ [])) ∷ ‵ (flft (ν ∷ []) fullShare) ∷ [])) (Send 𝓤 H A at-mem run .pre (to-send ν l δ zs a v))
   goes-send fk ν l δ zs a v w =
       qed W (‵ (P.the-row .own a (v ∷ [])) ∷ ‵ (ShrSlice (named 0) (ν ∷ []) u8 .own (slice l δ zs) (rv l ∷ [])) ∷ ‵ (flft (ν ∷ []) fullShare) ∷ []) ∵
       says ! w $ nothing ! $ owned ! usize (Is usize) (uint-makes 𝓤 H A W w64) k _ (refl, fk) $ fjoin ! $ move ! (2 ∷ 0 ∷ []) $ fjoin ! $ move ! (1 ∷ 0 ∷ []) $ fjoin ! $ nothing ! $ move ! (2 ∷ 0 ∷ []) $ join ! $ join ! $ done !
 
-  abbrev Due : Part → Sent → Type 0
+  abbrev Due : PieceEnd → Sent → Type 0
   Due a z = (z .more ≡ both (z .through) (a .more)) × (z .told ≡ k + a .count)
 
-  sends : (ν l : ℕ) (δ : GName) (zs : List ℕ) (a : Part) (z : Sent) → ent 𝓤 (ensured 𝓤 H A send.ended (send.clauses 𝓤 H A at-mem run) (ν ∷ [], tt) (a, (slice l δ zs, (k, tt))) tt z) (fact 𝓤 (Due a z))
+  sends : (ν l : ℕ) (δ : GName) (zs : List ℕ) (a : PieceEnd) (z : Sent) → ent 𝓤 (ensured 𝓤 H A send.ended (send.clauses 𝓤 H A at-mem run) (ν ∷ [], tt) (a, (slice l δ zs, (k, tt))) tt z) (fact 𝓤 (Due a z))
   sends ν l δ zs a z = exE 𝓤 _ (λ ws. snd∗ 𝓤 (sem 𝓤 H A (lasts send.ended (ν ∷ [], tt) (a, (slice l δ zs, (k, tt))) ws)) (fact 𝓤 (Due a z)))
 
   module _ (𝓣 : Tables 𝓤 H) (known-opens : Triple 𝓤 (𝓣 .C #open-piece-in) (Opens 𝓤 H A at-mem run)) (known-send : Triple 𝓤 (𝓣 .C #send) (Send 𝓤 H A at-mem run)) (fi : i < 2 ^ 64) (fj : j < 2 ^ 64) (fk : k < 2 ^ 64) (w : k + length (openPiece (asking (between (s .now) i j)) h .text) < 2 ^ 64) (l₀ l₁ l₂ l₃ l₄ lₖ l₅ l₆ l₇ l₈ l₉ l₁₀ l₁₁ l₁₂ : ℕ) where
@@ -213,7 +213,7 @@ module _ {M : Type 1} (𝓤 : URA M) (H : Heap 𝓤) (A : Atoms 𝓤) (W : Given
         ∷ ‵ (fat fullShare ref l₈ 0 (vptr b o)) ∷ ‵ (fdies ref l₈) ∷ Γ
 
     -- the part stands in _8, and the room holds the piece: it is written
-    told : (c : RefT (List ℕ)) → c .now ≡ between (s .now) i j → (ys zs : List ℕ) (d : Desk) (a : Part) (v : Val) → Said c ys d a zs
+    told : (c : RefT (List ℕ)) → c .now ≡ between (s .now) i j → (ys zs : List ℕ) (d : Desk) (a : PieceEnd) (v : Val) → Said c ys d a zs
         → Sq W (‵ (Bytes lineRoom l₆ zs) ∷ ‵ (flft κ′ q′) ∷ ‵ (flft κ q) ∷ ‵ (P.the-row .own a (v ∷ [])) ∷ ‵ (fres γ (T.the-row .coded .code d))
         ∷ After (‵ (fat fullShare P′.mir l₇ 0 v) ∷ ‵ (fdies P′.mir l₇) ∷ Before c (‵ (Own 1 κ′ s) ∷ []))) (runs C Λ En mir′.t-7 (atRet En Post))
     told c p ys zs d a v e =
@@ -241,7 +241,7 @@ module _ {M : Type 1} (𝓤 : URA M) (H : Heap 𝓤) (A : Atoms 𝓤) (W : Given
         lends-mut ! tt lineRoom l₆ ys room (λ ν δ n. join ! $ move ! (30 ∷ 2 ∷ 0 ∷ []) $ use3 W (raw (Opens 𝓤 H A at-mem run .pre (to-opens c ν l₆ δ ys))) (goes-opens c ν l₆ δ ys (line-room ys n)) $
         -- [what `open_piece_in` asks; the lender's part; the locals from 2]
         calls-at ! (fmOf 𝓤 H (W .laws) 𝓣) (Opens 𝓤 H A at-mem run) known-opens (to-opens c ν l₆ δ ys) (and-then ! (load ! (from ! (stop !)) (look ! 10 refl)) (and-then ! (load ! (from ! (stop !)) (look ! 15 refl)) (and-then ! (load ! (from ! (stop !)) (look ! 6 refl)) (no-more !)))) (λ v.
-        use1 W (later (some (λ (a : Part). ((‵ (flft κ q) ⊛ ‵ (flft κ′ q′) ⊛ ‵ (flft (ν ∷ []) fullShare) ⊛ ‵ ftrue) ⊛ ‵ (P.the-row .own a (v ∷ []))) ⊛ raw (ensured 𝓤 H A opens.ended (opens.clauses 𝓤 H A at-mem run) (κ, (κ′, (ν ∷ [], tt))) (at b o γ h, (c, (slice l₆ δ ys, tt))) tt a)))) (id⊢ 𝓤 _) $ await ! tt $ pick ! (λ a.
+        use1 W (later (some (λ (a : PieceEnd). ((‵ (flft κ q) ⊛ ‵ (flft κ′ q′) ⊛ ‵ (flft (ν ∷ []) fullShare) ⊛ ‵ ftrue) ⊛ ‵ (P.the-row .own a (v ∷ []))) ⊛ raw (ensured 𝓤 H A opens.ended (opens.clauses 𝓤 H A at-mem run) (κ, (κ′, (ν ∷ [], tt))) (at b o γ h, (c, (slice l₆ δ ys, tt))) tt a)))) (id⊢ 𝓤 _) $ await ! tt $ pick ! (λ a.
         split ! $ move ! (1 ∷ []) $ use1 W (some (λ (ws : Desk × (Unit {0} × (List ℕ × Unit {0}))). ‵ (lasts opens.ended (κ, (κ′, (ν ∷ [], tt))) (at b o γ h, (c, (slice l₆ δ ys, tt))) ws) ⊛ raw (fact 𝓤 (Said c ys (ws .0) a (ws .1 .1 .0))))) (id⊢ 𝓤 _) $ pick ! (λ ws.
         split ! $ move ! (1 ∷ []) $ heard ! (Said c ys (ws .0) a (ws .1 .1 .0)) (λ e. fsplit ! $ move ! (1 ∷ []) $ fsplit ! $ drop ! $ fsplit ! $ fsplit ! $ move ! (1 ∷ []) $ feqL ! (λ m.
         -- [the last list; true; the last desk; the tokens and the part's; the lender's part; the locals from 5]
@@ -295,6 +295,6 @@ open-at-in-spec 𝓤 H 𝓜 𝓖 𝓡 =
     entered 𝓤 H (tripleOf 𝓤 H (𝓖 .A) f.signature (f.spec 𝓤 H (𝓖 .A) (𝓜 .mem) (𝓡 .run)))
     (tables 𝓤 H 𝓜 𝓡 code.env .C) (tables 𝓤 H 𝓜 𝓡 code.env .Λ) #open-at-in code.function (code.unfolded 𝓤 H 𝓜 𝓡)
     (open-at-in-meets 𝓤 H (𝓖 .A) (givenOf 𝓤 H 𝓜 𝓖) (𝓜 .mem) (𝓡 .run) (tablesOf 𝓤 H 𝓜 (tables 𝓤 H 𝓜 𝓡 code.env))
-    (cited 𝓤 H (Cut 𝓤 H (𝓖 .A) (𝓜 .mem) (𝓡 .run)) 𝓜 𝓡 code.env #cut cut-def.routine code.calls-words·cut (cut-thm.met 𝓤 H 𝓜 𝓖 𝓡))
-    (cited 𝓤 H (Opens 𝓤 H (𝓖 .A) (𝓜 .mem) (𝓡 .run)) 𝓜 𝓡 code.env #open-piece-in opens-def.routine code.calls-pieces·open-piece-in (opens-thm.met 𝓤 H 𝓜 𝓖 𝓡))
+    (cited 𝓤 H (Cut 𝓤 H (𝓖 .A) (𝓜 .mem) (𝓡 .run)) 𝓜 𝓡 code.env #cut cut-def.routine code.calls-condition-words·cut (cut-thm.met 𝓤 H 𝓜 𝓖 𝓡))
+    (cited 𝓤 H (Opens 𝓤 H (𝓖 .A) (𝓜 .mem) (𝓡 .run)) 𝓜 𝓡 code.env #open-piece-in opens-def.routine code.calls-output-pieces·open-piece-in (opens-thm.met 𝓤 H 𝓜 𝓖 𝓡))
     (cited 𝓤 H (Send 𝓤 H (𝓖 .A) (𝓜 .mem) (𝓡 .run)) 𝓜 𝓡 code.env #send send-def.routine code.calls-desk-host·send (send-thm.met 𝓤 H 𝓜 𝓖 𝓡)))

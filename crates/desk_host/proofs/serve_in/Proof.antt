@@ -38,13 +38,13 @@ use denote.Triple.Table.{entered, cited}
 use denote.Triple.Walked.{says, needs, Stays, stay-ref, stay-none, stay-none-slice, walkOf, AllGo, goes-ref, goes-none, goes-none-slice, ends-at, walked, walk-meets}
 use denote.Exit.{yes}
 use denote.Triple.Clauses.{ensured, lasts}
-use Rattle.timetable.specs.Lines.{placedLines}
-use Rattle.seat.specs.Files.{over}
+use Rattle.timetable.specs.Lines.{offsetLines}
+use Rattle.desk_seat.specs.Files.{over}
 use Rattle.desk.specs.declared.Desk.{Desk}
 use Rattle.desk.proofs.Desk as T
-use Rattle.pieces.specs.Pieces.{openedAll, untilIdle, mostTurns, servedAll}
-use Rattle.pieces.specs.Carried.{openedTold, untilIdleTold, servedTold}
-use Rattle.pieces.proofs.Again.{sv, Own, at, Ref, Tok, twice, lends, back}
+use Rattle.output_pieces.specs.Pieces.{openedAll, untilIdle, mostTurns, servedAll}
+use Rattle.output_pieces.specs.Carried.{openedTold, untilIdleTold, servedTold}
+use Rattle.output_pieces.proofs.Again.{sv, Own, at, Ref, Tok, twice, lends, back}
 use Rattle.desk_host.specs.declared.Sent.{Sent}
 use Rattle.desk_host.proofs.Sent as S
 use Rattle.desk_host.proofs.Sent.Laws as S′
@@ -117,14 +117,14 @@ module _ {M : Type 1} (𝓤 : URA M) (H : Heap 𝓤) (A : Atoms 𝓤) (W : Given
   abbrev to-opens : ℕ → GName → Desk → Opens 𝓤 H A at-mem run .Ghost
   to-opens ν δ d = (((ν ∷ [], (κ″, tt)), (fullShare, (q″, tt)), tt, (at b o δ d, (s′, (k, tt))), (vptr b o ∷ [], (sv s′ ∷ [], (vint w64 k ∷ [], tt)))), tt)
 
-  goes-opens : k < 2 ^ 64 → (ν : ℕ) (δ : GName) (d : Desk) → k + openedTold (placedLines (s′ .now)) d < 2 ^ 64
+  goes-opens : k < 2 ^ 64 → (ν : ℕ) (δ : GName) (d : Desk) → k + openedTold (offsetLines (s′ .now)) d < 2 ^ 64
       → ent 𝓤 (⋆ 𝓤 H A (‵ (Ref (ν ∷ []) b o δ d) ∷ ‵ (flft (ν ∷ []) fullShare) ∷ (‵ (Own 2 κ″ s′) ⊛ Tok κ″ q″) ∷ [])) (Opens 𝓤 H A at-mem run .pre (to-opens ν δ d))
   goes-opens fk ν δ d w =
       qed W (‵ (Ref (ν ∷ []) b o δ d) ∷ ‵ (flft (ν ∷ []) fullShare) ∷ (‵ (Own 2 κ″ s′) ⊛ Tok κ″ q″) ∷ []) ∵
       says ! w $ move ! (2 ∷ []) $ split ! $ nothing ! $ owned ! usize (Is usize) (uint-makes 𝓤 H A W w64) k _ (refl, fk) $ fjoin ! $ move ! (1 ∷ 0 ∷ []) $ fjoin ! $ move ! (2 ∷ 0 ∷ []) $ fjoin ! $ move ! (2 ∷ 1 ∷ 0 ∷ []) $ join ! $ join ! $ done !
 
   abbrev AllOpen : Desk → ℕ → Type 0
-  AllOpen h k₁ = (h ≡ openedAll (placedLines (s′ .now)) D) × (k₁ ≡ k + openedTold (placedLines (s′ .now)) D)
+  AllOpen h k₁ = (h ≡ openedAll (offsetLines (s′ .now)) D) × (k₁ ≡ k + openedTold (offsetLines (s′ .now)) D)
 
   abbrev Opened : Desk → Sent → Type 0
   Opened h a = a .through ≡ true → AllOpen h (a .told)

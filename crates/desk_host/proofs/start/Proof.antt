@@ -6,7 +6,7 @@ use Rattle.desk_host.proofs.start.Tie as tie
 use Rattle.desk_host.proofs.start.Reads as reads
 use Rattle.desk_host.proofs.start.Lts as lts
 use Rattle.desk_host.proofs.send.Reads as send-reads
-use Rattle.pieces.proofs.begin.Reads as begin-reads
+use Rattle.output_pieces.proofs.begin.Reads as begin-reads
 
 slice-aggregate-begin : tie.Need-slice-aggregate-begin
 slice-aggregate-begin c = search needs

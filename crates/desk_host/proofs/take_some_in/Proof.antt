@@ -39,26 +39,26 @@ use denote.Triple.Table.{entered, cited}
 use denote.Triple.Walked.{says, needs, Stays, gave-ref, stay-none, stay-none-slice, walkOf, AllGo, goes-gave-ref, goes-none, goes-none-slice, ends-at, walked, walk-meets}
 use denote.Exit.{yes}
 use denote.Triple.Clauses.{ensured, lasts}
-use Rattle.seat.specs.Files.{over}
+use Rattle.desk_seat.specs.Files.{over}
 use Rattle.desk.specs.declared.Desk.{Desk}
 use Rattle.basis.specs.Choice.{both}
-use Rattle.pieces.specs.Bounds.{roomSize}
-use Rattle.pieces.specs.Pieces.{turnsPiece, Leaves}
-use Rattle.pieces.specs.declared.Part.{Part}
+use Rattle.output_pieces.specs.Bounds.{roomSize}
+use Rattle.output_pieces.specs.Pieces.{turnsPiece, Leaves}
+use Rattle.output_pieces.specs.declared.PieceEnd.{PieceEnd}
 use Rattle.desk_host.specs.declared.Sent.{Sent}
 use Rattle.desk.proofs.Desk as T
-use Rattle.pieces.proofs.Part as P
-use Rattle.pieces.proofs.Part.Laws as P′
+use Rattle.output_pieces.proofs.PieceEnd as P
+use Rattle.output_pieces.proofs.PieceEnd.Laws as P′
 use Rattle.desk_host.proofs.Sent as S
 use Rattle.desk_host.proofs.Sent.Laws as S′
 use Rattle.desk_host.proofs.Sending.{some-goes, some-sent}
 use Rattle.desk_host.proofs.Lent.{big}
-use Rattle.pieces.proofs.Again.{sv, Own, at, Ref, Tok, twice}
+use Rattle.output_pieces.proofs.Again.{sv, Own, at, Ref, Tok, twice}
 use Rattle.desk_host.proofs.Room.{bytes, Bytes, slice, zeros, zeros-typed, made, emptied, lends-mut, mut-back, lends-shr, shr-back}
-use Rattle.pieces.proofs.turns_piece_in as turns
-use Rattle.pieces.proofs.turns_piece_in.Symbol as turns-def
-use Rattle.pieces.proofs.turns_piece_in.Symbol.{name as #turns-piece-in}
-use Rattle.pieces.proofs.turns_piece_in.Met as turns-thm
+use Rattle.output_pieces.proofs.turns_piece_in as turns
+use Rattle.output_pieces.proofs.turns_piece_in.Symbol as turns-def
+use Rattle.output_pieces.proofs.turns_piece_in.Symbol.{name as #turns-piece-in}
+use Rattle.output_pieces.proofs.turns_piece_in.Met as turns-thm
 use Rattle.desk_host.proofs.send as send
 use Rattle.desk_host.proofs.send.Symbol as send-def
 use Rattle.desk_host.proofs.send.Symbol.{name as #send}
@@ -154,22 +154,22 @@ module _ {M : Type 1} (𝓤 : URA M) (H : Heap 𝓤) (A : Atoms 𝓤) (W : Given
       nothing ! $ move ! (1 ∷ 0 ∷ []) $ fjoin ! $ move ! (2 ∷ 0 ∷ []) $ fjoin ! $ move ! (3 ∷ 0 ∷ []) $ fjoin ! $
       nothing ! $ move ! (2 ∷ 0 ∷ []) $ join ! $ move ! (2 ∷ 0 ∷ []) $ join ! $ move ! (2 ∷ 0 ∷ []) $ join ! $ join ! $ frame ! $ done !
 
-  abbrev Said : List ℕ → Desk → Part → List ℕ → Type 0
+  abbrev Said : List ℕ → Desk → PieceEnd → List ℕ → Type 0
   Said ys d a zs = (d ≡ turnsPiece (over (s .now)) h (length ys) .desk) × Leaves (turnsPiece (over (s .now)) h (length ys)) a ys zs
 
-  abbrev to-send : ℕ → ℕ → GName → List ℕ → Part → Val → Send 𝓤 H A at-mem run .Ghost
+  abbrev to-send : ℕ → ℕ → GName → List ℕ → PieceEnd → Val → Send 𝓤 H A at-mem run .Ghost
   to-send ν l δ zs a v = (((ν ∷ [], tt), (fullShare, tt), tt, (a, (slice l δ zs, (k, tt))), (v ∷ [], (rv l ∷ [], (vint w64 k ∷ [], tt)))), tt)
 
-  goes-send : k < 2 ^ 64 → (ν l : ℕ) (δ : GName) (zs : List ℕ) (a : Part) (v : Val) → (a .count ≤ length zs) × (k + a .count < 2 ^ 64)
+  goes-send : k < 2 ^ 64 → (ν l : ℕ) (δ : GName) (zs : List ℕ) (a : PieceEnd) (v : Val) → (a .count ≤ length zs) × (k + a .count < 2 ^ 64)
       → ent 𝓤 (⋆ 𝓤 H A (‵ (P.the-row .own a (v ∷ [])) ∷ ‵ (ShrSlice (named 0) (ν ∷ []) u8 .own (slice l δ zs) (rv l ∷ [])) ∷ ‵ (flft (ν ∷ []) fullShare) ∷ [])) (Send 𝓤 H A at-mem run .pre (to-send ν l δ zs a v))
   goes-send fk ν l δ zs a v w =
       qed W (‵ (P.the-row .own a (v ∷ [])) ∷ ‵ (ShrSlice (named 0) (ν ∷ []) u8 .own (slice l δ zs) (rv l ∷ [])) ∷ ‵ (flft (ν ∷ []) fullShare) ∷ []) ∵
       says ! w $ nothing ! $ owned ! usize (Is usize) (uint-makes 𝓤 H A W w64) k _ (refl, fk) $ fjoin ! $ move ! (2 ∷ 0 ∷ []) $ fjoin ! $ move ! (1 ∷ 0 ∷ []) $ fjoin ! $ nothing ! $ move ! (2 ∷ 0 ∷ []) $ join ! $ join ! $ done !
 
-  abbrev Due : Part → Sent → Type 0
+  abbrev Due : PieceEnd → Sent → Type 0
   Due a z = (z .more ≡ both (z .through) (a .more)) × (z .told ≡ k + a .count)
 
-  sends : (ν l : ℕ) (δ : GName) (zs : List ℕ) (a : Part) (z : Sent) → ent 𝓤 (ensured 𝓤 H A send.ended (send.clauses 𝓤 H A at-mem run) (ν ∷ [], tt) (a, (slice l δ zs, (k, tt))) tt z) (fact 𝓤 (Due a z))
+  sends : (ν l : ℕ) (δ : GName) (zs : List ℕ) (a : PieceEnd) (z : Sent) → ent 𝓤 (ensured 𝓤 H A send.ended (send.clauses 𝓤 H A at-mem run) (ν ∷ [], tt) (a, (slice l δ zs, (k, tt))) tt z) (fact 𝓤 (Due a z))
   sends ν l δ zs a z = exE 𝓤 _ (λ ws. snd∗ 𝓤 (sem 𝓤 H A (lasts send.ended (ν ∷ [], tt) (a, (slice l δ zs, (k, tt))) ws)) (fact 𝓤 (Due a z)))
 
   module _ (𝓣 : Tables 𝓤 H) (known-turns : Triple 𝓤 (𝓣 .C #turns-piece-in) (Turns 𝓤 H A at-mem run)) (known-send : Triple 𝓤 (𝓣 .C #send) (Send 𝓤 H A at-mem run)) (fk : k < 2 ^ 64) (w : k + length (turnsPiece (over (s .now)) h roomSize .text) < 2 ^ 64) (l₀ l₁ l₂ lₖ l₃ l₄ l₅ l₆ l₇ l₈ l₉ : ℕ) where
@@ -191,7 +191,7 @@ module _ {M : Type 1} (𝓤 : URA M) (H : Heap 𝓤) (A : Atoms 𝓤) (W : Given
         ∷ ‵ (fat fullShare ref l₅ 0 (vptr b o)) ∷ ‵ (fdies ref l₅) ∷ Γ
 
     -- the answer stands in _4, and the room holds the lines: they are written
-    told : (ys zs : List ℕ) (d : Desk) (a : Part) (v : Val) → length ys ≡ roomSize → length zs ≡ length ys → Said ys d a zs
+    told : (ys zs : List ℕ) (d : Desk) (a : PieceEnd) (v : Val) → length ys ≡ roomSize → length zs ≡ length ys → Said ys d a zs
         → Sq W (‵ (Bytes roomSize l₃ zs) ∷ ‵ (flft κ′ q′) ∷ ‵ (flft κ q) ∷ ‵ (P.the-row .own a (v ∷ [])) ∷ ‵ (fres γ (T.the-row .coded .code d))
         ∷ After (‵ (fat fullShare P′.mir l₄ 0 v) ∷ ‵ (fdies P′.mir l₄) ∷ Before (‵ (Own 1 κ′ s) ∷ []))) (runs C Λ En mir′.t-6 (atRet En Post))
     told ys zs d a v n m e =
@@ -218,7 +218,7 @@ module _ {M : Type 1} (𝓤 : URA M) (H : Heap 𝓤) (A : Atoms 𝓤) (W : Given
         lends-mut ! tt roomSize l₃ ys room (λ ν δ n. join ! $ move ! (23 ∷ 24 ∷ 0 ∷ []) $ use3 W (raw (Turns 𝓤 H A at-mem run .pre (to-turns ν l₃ δ ys))) (goes-turns ν l₃ δ ys) $
         -- [what `turns_piece_in` asks; the lender's part; the locals from 2]
         calls-at ! (fmOf 𝓤 H (W .laws) 𝓣) (Turns 𝓤 H A at-mem run) known-turns (to-turns ν l₃ δ ys) (and-then ! (load ! (from ! (stop !)) (look ! 10 refl)) (and-then ! (load ! (from ! (stop !)) (look ! 17 refl)) (and-then ! (load ! (from ! (stop !)) (look ! 6 refl)) (no-more !)))) (λ v.
-        use1 W (later (some (λ (a : Part). ((‵ (flft κ q) ⊛ ‵ (flft κ′ q′) ⊛ ‵ (flft (ν ∷ []) fullShare) ⊛ ‵ ftrue) ⊛ ‵ (P.the-row .own a (v ∷ []))) ⊛ raw (ensured 𝓤 H A turns.ended (turns.clauses 𝓤 H A at-mem run) (κ, (κ′, (ν ∷ [], tt))) (at b o γ h, (s, (slice l₃ δ ys, tt))) tt a)))) (id⊢ 𝓤 _) $ await ! tt $ pick ! (λ a.
+        use1 W (later (some (λ (a : PieceEnd). ((‵ (flft κ q) ⊛ ‵ (flft κ′ q′) ⊛ ‵ (flft (ν ∷ []) fullShare) ⊛ ‵ ftrue) ⊛ ‵ (P.the-row .own a (v ∷ []))) ⊛ raw (ensured 𝓤 H A turns.ended (turns.clauses 𝓤 H A at-mem run) (κ, (κ′, (ν ∷ [], tt))) (at b o γ h, (s, (slice l₃ δ ys, tt))) tt a)))) (id⊢ 𝓤 _) $ await ! tt $ pick ! (λ a.
         split ! $ move ! (1 ∷ []) $ use1 W (some (λ (ws : Desk × (Unit {0} × (List ℕ × Unit {0}))). ‵ (lasts turns.ended (κ, (κ′, (ν ∷ [], tt))) (at b o γ h, (s, (slice l₃ δ ys, tt))) ws) ⊛ raw (fact 𝓤 (Said ys (ws .0) a (ws .1 .1 .0))))) (id⊢ 𝓤 _) $ pick ! (λ ws.
         split ! $ move ! (1 ∷ []) $ heard ! (Said ys (ws .0) a (ws .1 .1 .0)) (λ e. fsplit ! $ move ! (1 ∷ []) $ fsplit ! $ drop ! $ fsplit ! $ fsplit ! $ move ! (1 ∷ []) $ feqL ! (λ m.
         -- [the last list; true; the last desk; the tokens and the answer's; the lender's part; the locals from 5]
@@ -261,5 +261,5 @@ take-some-in-spec 𝓤 H 𝓜 𝓖 𝓡 =
     entered 𝓤 H (tripleOf 𝓤 H (𝓖 .A) f.signature (f.spec 𝓤 H (𝓖 .A) (𝓜 .mem) (𝓡 .run)))
     (tables 𝓤 H 𝓜 𝓡 code.env .C) (tables 𝓤 H 𝓜 𝓡 code.env .Λ) #take-some-in code.function (code.unfolded 𝓤 H 𝓜 𝓡)
     (take-some-in-meets 𝓤 H (𝓖 .A) (givenOf 𝓤 H 𝓜 𝓖) (𝓜 .mem) (𝓡 .run) (tablesOf 𝓤 H 𝓜 (tables 𝓤 H 𝓜 𝓡 code.env))
-    (cited 𝓤 H (Turns 𝓤 H (𝓖 .A) (𝓜 .mem) (𝓡 .run)) 𝓜 𝓡 code.env #turns-piece-in turns-def.routine code.calls-pieces·turns-piece-in (turns-thm.met 𝓤 H 𝓜 𝓖 𝓡))
+    (cited 𝓤 H (Turns 𝓤 H (𝓖 .A) (𝓜 .mem) (𝓡 .run)) 𝓜 𝓡 code.env #turns-piece-in turns-def.routine code.calls-output-pieces·turns-piece-in (turns-thm.met 𝓤 H 𝓜 𝓖 𝓡))
     (cited 𝓤 H (Send 𝓤 H (𝓖 .A) (𝓜 .mem) (𝓡 .run)) 𝓜 𝓡 code.env #send send-def.routine code.calls-desk-host·send (send-thm.met 𝓤 H 𝓜 𝓖 𝓡)))

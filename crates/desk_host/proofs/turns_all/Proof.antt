@@ -43,20 +43,20 @@ use denote.Triple.Table.{entered, cited}
 use denote.Triple.Walked.{says, needs, Stays, stay-ref, stay-none, stay-none-slice, walkOf, AllGo, goes-ref, goes-none, goes-none-slice, ends-at, walked, walk-meets}
 use denote.Exit.{yes}
 use denote.Triple.Clauses.{ensured, lasts}
-use Rattle.seat.specs.Files.{over}
+use Rattle.desk_seat.specs.Files.{over}
 use Rattle.desk.specs.declared.Desk.{Desk}
 use Rattle.desk.proofs.Desk as T
 use Rattle.basis.specs.Choice.{both}
-use Rattle.pieces.specs.Bounds.{roomSize}
-use Rattle.pieces.specs.Pieces.{turnsPiece, untilIdle}
-use Rattle.pieces.specs.Carried.{untilIdleTold}
+use Rattle.output_pieces.specs.Bounds.{roomSize}
+use Rattle.output_pieces.specs.Pieces.{turnsPiece, untilIdle}
+use Rattle.output_pieces.specs.Carried.{untilIdleTold}
 use Rattle.desk_host.specs.declared.Sent.{Sent}
 use Rattle.desk_host.proofs.Sent as S
 use Rattle.desk_host.proofs.Sent.Laws as S′
 use Rattle.desk_host.proofs.Turning.{N, small, less, toTell, one-told, all-made, all-told, more-due, none-due}
 use Rattle.desk_host.proofs.SentValue.{zv, IsSent, is-zv, told-fits, due, is-due}
 use Rattle.desk_host.proofs.Lent.{big, rest}
-use Rattle.pieces.proofs.Again.{sv, Own, at, Ref, Tok, twice, lends, back}
+use Rattle.output_pieces.proofs.Again.{sv, Own, at, Ref, Tok, twice, lends, back}
 use Rattle.desk_host.proofs.take_some_in as takes
 use Rattle.desk_host.proofs.take_some_in.Symbol as takes-def
 use Rattle.desk_host.proofs.take_some_in.Symbol.{name as #take-some-in}

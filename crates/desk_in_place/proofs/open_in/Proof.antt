@@ -40,7 +40,7 @@ use denote.Triple.Table.{entered, cited}
 use denote.Triple.Walked.{says, Stays, stay-ref, stay-none-slice, walkOf, AllGo, goes-none-slice, goes-ref, Walks, ends-at, walked, walk-meets}
 use denote.Exit.{yes}
 use denote.Triple.Clauses.{ensured, lasts}
-use Rattle.seat.specs.Request.{asking}
+use Rattle.desk_seat.specs.Request.{asking}
 use Rattle.desk.specs.Answers.{After, afterOpen}
 use Rattle.desk.specs.Desk.{openOf}
 use Rattle.desk.specs.declared.Desk.{Desk}

@@ -40,9 +40,9 @@ use denote.Triple.Table.{entered, cited}
 use denote.Triple.Walked.{says, Stays, stay-ref, stay-none-slice, walkOf, AllGo, goes-none-slice, goes-ref, Walks, ends-at, walked, walk-meets}
 use denote.Exit.{yes}
 use denote.Triple.Clauses.{ensured, lasts}
-use Rattle.seat.specs.Files.{over}
-use Rattle.seat.specs.Answers.{Turned}
-use Rattle.seat.specs.declared.TurnAnswer.{TurnAnswer}
+use Rattle.desk_seat.specs.Files.{over}
+use Rattle.desk_seat.specs.Answers.{Turned}
+use Rattle.desk_seat.specs.declared.TurnAnswer.{TurnAnswer}
 use Rattle.desk.specs.Answers.{After, afterTurn}
 use Rattle.desk.specs.Desk.{turnOf}
 use Rattle.desk.specs.declared.Desk.{Desk}
@@ -51,8 +51,8 @@ use Rattle.desk.proofs.Desk as T
 use Rattle.desk.proofs.Desk.Laws as T′
 use Rattle.desk.proofs.AfterTurn as R
 use Rattle.desk.proofs.AfterTurn.Laws as R′
-use Rattle.seat.proofs.TurnAnswer as E
-use Rattle.seat.proofs.TurnAnswer.Laws as E′
+use Rattle.desk_seat.proofs.TurnAnswer as E
+use Rattle.desk_seat.proofs.TurnAnswer.Laws as E′
 use Rattle.desk.proofs.Desk.turn as turn
 use Rattle.desk.proofs.Desk.turn.Symbol as turn-def
 use Rattle.desk.proofs.Desk.turn.Symbol.{name as #desk·turn}

@@ -1,12 +1,12 @@
 use Rattle.desk.specs.Seats.{seatAt}
 use Rattle.hostile_changes.specs.Changes.{conditionWith}
-use Rattle.hostile_changes.proofs.Changed.{no-place, seat-changed}
+use Rattle.hostile_changes.proofs.Changed.{no-seat, seat-changed}
 use borrow.Author.Needs.{needs}
 use Rattle.hostile_changes.proofs.set_condition.Statement.{statement}
 use Rattle.hostile_changes.proofs.set_condition.Tie as tie
 
 returns : tie.Need-returns
-returns c = no-place (c .before .before .args .t1) (c .before .before .args .place) (conditionWith (seatAt (c .before .before .args .t1) (c .before .before .args .place)) (c .before .before .args .text .now)) (c .if1 .taken)
+returns c = no-seat (c .before .before .args .t1) (c .before .before .args .index) (conditionWith (seatAt (c .before .before .args .t1) (c .before .before .args .index)) (c .before .before .args .text .now)) (c .if1 .taken)
 
 mul-with-condition : tie.Need-mul-with-condition
 mul-with-condition c = search needs
@@ -24,7 +24,7 @@ element-set-from-desk : tie.Need-element-set-from-desk
 element-set-from-desk c = search needs
 
 returns-2 : tie.Need-returns-2
-returns-2 c = seat-changed (c .before .before .before .before .args .t1) (c .before .before .before .before .args .place) (c .with-condition .ensures) (c .before .before .if1 .left)
+returns-2 c = seat-changed (c .before .before .before .before .args .t1) (c .before .before .before .before .args .index) (c .with-condition .ensures) (c .before .before .if1 .left)
 
 pub set-condition-spec : {M : Type 1} → statement M
 set-condition-spec =

@@ -1,12 +1,12 @@
 use Rattle.desk.specs.Seats.{seatAt}
 use Rattle.hostile_changes.specs.Changes.{seatWith}
-use Rattle.hostile_changes.proofs.Changed.{no-place, seat-changed}
+use Rattle.hostile_changes.proofs.Changed.{no-seat, seat-changed}
 use borrow.Author.Needs.{needs}
 use Rattle.hostile_changes.proofs.set_seat.Statement.{statement}
 use Rattle.hostile_changes.proofs.set_seat.Tie as tie
 
 returns : tie.Need-returns
-returns c = no-place (c .before .args .t1) (c .before .args .place) (seatWith (seatAt (c .before .args .t1) (c .before .args .place)) (c .before .args .number)) (c .if1 .taken)
+returns c = no-seat (c .before .args .t1) (c .before .args .index) (seatWith (seatAt (c .before .args .t1) (c .before .args .index)) (c .before .args .number)) (c .if1 .taken)
 
 mul-with-number : tie.Need-mul-with-number
 mul-with-number c = search needs
@@ -24,7 +24,7 @@ element-set-from-desk : tie.Need-element-set-from-desk
 element-set-from-desk c = search needs
 
 returns-2 : tie.Need-returns-2
-returns-2 c = seat-changed (c .before .before .before .args .t1) (c .before .before .before .args .place) (c .with-number .ensures) (c .before .before .if1 .left)
+returns-2 c = seat-changed (c .before .before .before .args .t1) (c .before .before .before .args .index) (c .with-number .ensures) (c .before .before .if1 .left)
 
 pub set-seat-spec : {M : Type 1} → statement M
 set-seat-spec =

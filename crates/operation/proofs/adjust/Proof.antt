@@ -1,5 +1,5 @@
 use Rattle.basis.proofs.Tests.{no, yes as good}
-use Rattle.adjusting.specs.Adjustment.{adjustOf}
+use Rattle.operation_adjusting.specs.Adjustment.{adjustOf}
 use Rattle.basis.specs.Choice.{both}
 use borrow.Author.Needs.{needs}
 use Rattle.operation.proofs.adjust.Statement.{statement}

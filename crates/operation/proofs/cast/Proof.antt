@@ -1,5 +1,5 @@
 use Rattle.basis.proofs.Tests.{no, yes as good}
-use Rattle.casting.specs.Casts.{castOf}
+use Rattle.operation_casting.specs.Casts.{castOf}
 use borrow.Author.Needs.{needs}
 use Rattle.operation.proofs.cast.Statement.{statement}
 use Rattle.operation.proofs.cast.Tie as tie

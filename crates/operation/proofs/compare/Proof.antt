@@ -2,8 +2,8 @@ use mathlib.Core.Path.{ap, _∙_}
 use borrow.Author.Needs.{needs}
 use Rattle.value.specs.Values.{okOffset}
 use Rattle.value.specs.declared.Offset.{Offset}
-use Rattle.ordering.specs.Order.{orderIn}
-use Rattle.adjusting.proofs.Zones.{utc-good}
+use Rattle.operation_ordering.specs.Order.{orderIn}
+use Rattle.operation_adjusting.proofs.Zones.{utc-good}
 use Rattle.operation.proofs.compare.Statement.{statement}
 use Rattle.operation.proofs.compare.Tie as tie
 

@@ -2,8 +2,8 @@ use mathlib.Core.Path.{ap, _∙_}
 use borrow.Author.Needs.{needs}
 use Rattle.value.specs.Values.{okOffset}
 use Rattle.value.specs.declared.Offset.{Offset}
-use Rattle.arithmetic.specs.Sums.{minusIn}
-use Rattle.adjusting.proofs.Zones.{utc-good}
+use Rattle.operation_arithmetic.specs.Sums.{minusIn}
+use Rattle.operation_adjusting.proofs.Zones.{utc-good}
 use Rattle.operation.proofs.minus.Statement.{statement}
 use Rattle.operation.proofs.minus.Tie as tie
 

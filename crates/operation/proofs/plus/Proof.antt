@@ -1,5 +1,5 @@
 use Rattle.basis.proofs.Tests.{no, yes as good}
-use Rattle.arithmetic.specs.Sums.{plusOf}
+use Rattle.operation_arithmetic.specs.Sums.{plusOf}
 use Rattle.basis.specs.Choice.{both}
 use borrow.Author.Needs.{needs}
 use Rattle.operation.proofs.plus.Statement.{statement}

@@ -1,6 +1,6 @@
 use borrow.Author.Tests.{le-leb, lt-leb}
 use Rattle.basis.proofs.Tests.{no, yes as good}
-use Rattle.arithmetic.specs.Products.{timesOf}
+use Rattle.operation_arithmetic.specs.Products.{timesOf}
 use Rattle.basis.specs.Choice.{both}
 use borrow.Author.Needs.{needs}
 use Rattle.operation.proofs.times.Statement.{statement}

@@ -1,5 +1,5 @@
 use Rattle.basis.proofs.Tests.{no, yes as good}
-use Rattle.adjusting.specs.Adjustment.{unzoneOf}
+use Rattle.operation_adjusting.specs.Adjustment.{unzoneOf}
 use borrow.Author.Needs.{needs}
 use Rattle.operation.proofs.unzone.Statement.{statement}
 use Rattle.operation.proofs.unzone.Tie as tie

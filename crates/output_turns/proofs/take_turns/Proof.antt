@@ -4,7 +4,7 @@ use mathlib.Core.Logic.{⊎-elim}
 use Prim.Native.Nat.{ℕ, _+_, _-_, _%_, _≤_, _<_}
 use lib.ListN.{length}
 use borrow.Author.Needs.{needs}
-use Rattle.seat.specs.Files.{over}
+use Rattle.desk_seat.specs.Files.{over}
 use Rattle.desk.specs.Bounds.{seatCount}
 use Rattle.desk.specs.Answers.{afterTurn}
 use Rattle.desk.specs.Desk.{nextOf}
@@ -23,7 +23,7 @@ use Rattle.output_turns.proofs.take_turns.Reads as reads
 use Rattle.output_turns.proofs.take_turns.Lts as lts
 use Rattle.output_turns.proofs.put_fitting.Reads as put-fitting-reads
 use Rattle.output_lines.proofs.turn_line.Reads as turn-line-reads
-use Rattle.seat.proofs.served.Reads as served-reads
+use Rattle.desk_seat.proofs.served.Reads as served-reads
 
 abbrev Inv-loop2 : tie.InvT-loop2
 Inv-loop2 t room desk count end j₀ j = Looking desk end j

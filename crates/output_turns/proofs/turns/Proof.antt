@@ -3,7 +3,7 @@ use mathlib.Core.Path.{_≡_, refl, sym, ap, _∙_}
 use Prim.Native.Nat.{ℕ, _≤_, _<_}
 use lib.ListN.{length}
 use Rattle.basis.proofs.Tests.{no, yes}
-use Rattle.seat.specs.Files.{over}
+use Rattle.desk_seat.specs.Files.{over}
 use Rattle.desk.proofs.Lengths.{same-lengths, other-lengths}
 use Rattle.output_turns.specs.Turns.{taken, turnsOf, roomAfter}
 use Rattle.output_turns.proofs.Calls.{turns-none, turns-some, room-after, ran-wrote}

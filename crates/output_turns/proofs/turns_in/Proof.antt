@@ -41,13 +41,13 @@ use denote.Triple.Table.{entered, cited}
 use denote.Triple.Walked.{says, Stays, stay-ref, stay-none-slice, gave-slice, walkOf, AllGo, goes-none-slice, goes-gave-slice, goes-ref, Walks, ends-at, walked, walk-meets}
 use denote.Exit.{yes}
 use denote.Triple.Clauses.{ensured, lasts}
-use Rattle.seat.specs.Files.{over}
+use Rattle.desk_seat.specs.Files.{over}
 use Rattle.desk.specs.Answers.{After}
 use Rattle.desk.specs.declared.Desk.{Desk}
 use Rattle.desk.proofs.Desk as T
 use Rattle.desk.proofs.Desk.Laws as T′
 use Rattle.output_turns.specs.Turns.{turnsOf, roomAfter, afterTurns}
-use Rattle.output_turns.specs.declared.Written.{Written}
+use Rattle.output_turns.specs.declared.WrittenTurns.{WrittenTurns}
 use Rattle.output_turns.specs.declared.AfterTurns.{AfterTurns}
 use Rattle.output_turns.specs.declared.TurnsAnswer.{TurnsAnswer}
 use Rattle.output_turns.proofs.AfterTurns as R
@@ -131,7 +131,7 @@ module _ {M : Type 1} (𝓤 : URA M) (H : Heap 𝓤) (A : Atoms 𝓤) (W : Given
   exits r zs e l isa =
       qed W (‵ (fobs γ (T.the-row .coded .code (r .desk))) ∷ ‵ (fbor κ (Body (mem T.the-row) b o γ)) ∷ ‵ (flft κ q) ∷ (‵ (flft κ′ q′) ⊛ ‵ (flft κ″ q″) ⊛ ‵ ftrue) ∷ ‵ (finally u8 γ₂ zs) ∷ ‵ Own ∷ []) ∵
       suffices ! _ (ends-at 𝓤 H A f.ended stayed (f.clauses 𝓤 H A at-mem run) W (((κ, (κ′, (κ″, tt))), (q, (q′, (q″, tt))), tt, x, at), tt) (ev (r .answer)) (r .answer) (r .desk, (tt, (zs, tt))) (tt, (tt, (l, tt)))) $
-      says ! (ap (λ (y : After Written). y .desk) (e .0), ap (λ (y : After Written). y .answer) (e .0), e .1) $ move ! (2 ∷ 3 ∷ []) $ join ! $
+      says ! (ap (λ (y : After WrittenTurns). y .desk) (e .0), ap (λ (y : After WrittenTurns). y .answer) (e .0), e .1) $ move ! (2 ∷ 3 ∷ []) $ join ! $
       frame ! $ feqI ! (List Val) (vptr b o ∷ []) (vptr b o ∷ []) refl $ fjoin3 ! $ nothing ! $ move ! (2 ∷ 0 ∷ []) $ fjoin ! $ move ! (2 ∷ 0 ∷ []) $ fjoin ! $ move ! (1 ∷ 0 ∷ []) $ fjoin ! $
       owned ! E.the-row (Is E.the-row) (EL.makes E.the-type E′.the-plain 𝓤 H A) (r .answer) _ isa $ move ! (1 ∷ 0 ∷ []) $ done !
 

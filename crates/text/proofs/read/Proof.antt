@@ -6,9 +6,9 @@ use Rattle.text.proofs.read.Statement.{statement}
 use Rattle.text.proofs.read.Tie as tie
 use Rattle.text.proofs.read.Reads as reads
 use Rattle.text.proofs.read.Lts as lts
-use Rattle.durations.proofs.read_day_time.Reads as read-day-time-reads
-use Rattle.durations.proofs.read_year_month.Reads as read-year-month-reads
-use Rattle.layouts.proofs.read_layout.Reads as read-layout-reads
+use Rattle.text_durations.proofs.read_day_time.Reads as read-day-time-reads
+use Rattle.text_durations.proofs.read_year_month.Reads as read-year-month-reads
+use Rattle.text_layouts.proofs.read_layout.Reads as read-layout-reads
 
 enum-told : tie.Need-enum-told
 enum-told c = search needs

@@ -5,9 +5,9 @@ use Rattle.text.proofs.text_of.Statement.{statement}
 use Rattle.text.proofs.text_of.Tie as tie
 use Rattle.text.proofs.text_of.Reads as reads
 use Rattle.text.proofs.text_of.Lts as lts
-use Rattle.durations.proofs.day_time_text.Reads as day-time-text-reads
-use Rattle.durations.proofs.year_month_text.Reads as year-month-text-reads
-use Rattle.layouts.proofs.layout_text.Reads as layout-text-reads
+use Rattle.text_durations.proofs.day_time_text.Reads as day-time-text-reads
+use Rattle.text_durations.proofs.year_month_text.Reads as year-month-text-reads
+use Rattle.text_layouts.proofs.layout_text.Reads as layout-text-reads
 
 enum-known-v : tie.Need-enum-known-v
 enum-known-v c = search needs

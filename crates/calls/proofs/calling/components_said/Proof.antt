@@ -1,6 +1,6 @@
 use mathlib.Core.Path.{ap, sym}
-use Rattle.components.specs.Components.{meaning}
-use Rattle.replies.specs.Parts.{partsText}
+use Rattle.value_components.specs.Components.{componentsMeaning}
+use Rattle.calls_replies.specs.ReplyParts.{partsText}
 use Rattle.calls.proofs.Saying.{renamed}
 use borrow.Author.Needs.{needs}
 use Rattle.calls.proofs.calling.components_said.Statement.{statement}
@@ -37,19 +37,19 @@ refused-requires : tie.Need-refused-requires
 refused-requires c κs = search needs
 
 returns : tie.Need-returns
-returns c = renamed partsText (ap meaning (sym (c .before .before .a .given .1))) (c .of-date .ensures)
+returns c = renamed partsText (ap componentsMeaning (sym (c .before .before .a .given .1))) (c .of-date .ensures)
 
 returns-2 : tie.Need-returns-2
-returns-2 c = renamed partsText (ap meaning (sym (c .before .before .a2 .given .1))) (c .of-time .ensures)
+returns-2 c = renamed partsText (ap componentsMeaning (sym (c .before .before .a2 .given .1))) (c .of-time .ensures)
 
 returns-3 : tie.Need-returns-3
-returns-3 c = renamed partsText (ap meaning (sym (c .before .before .a3 .given .1))) (c .of-date-time .ensures)
+returns-3 c = renamed partsText (ap componentsMeaning (sym (c .before .before .a3 .given .1))) (c .of-date-time .ensures)
 
 returns-4 : tie.Need-returns-4
-returns-4 c = renamed partsText (ap meaning (sym (c .before .before .a4 .given .1))) (c .of-duration .ensures)
+returns-4 c = renamed partsText (ap componentsMeaning (sym (c .before .before .a4 .given .1))) (c .of-duration .ensures)
 
 returns-5 : tie.Need-returns-5
-returns-5 c = renamed partsText (ap meaning (sym (c .before .before .a5 .given .1))) (c .refused .ensures)
+returns-5 c = renamed partsText (ap componentsMeaning (sym (c .before .before .a5 .given .1))) (c .refused .ensures)
 
 pub components-said-spec : {M : Type 1} → statement M
 components-said-spec =

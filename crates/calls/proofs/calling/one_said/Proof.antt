@@ -1,7 +1,7 @@
 use mathlib.Core.Path.{ap, sym}
 use Rattle.text.specs.Writing.{textOf}
-use Rattle.replies.specs.Parts.{partsText}
-use Rattle.asking.specs.declared.One.{One}
+use Rattle.calls_replies.specs.ReplyParts.{partsText}
+use Rattle.calls_asked.specs.declared.One.{One}
 use Rattle.calls.specs.Answers.{oneText}
 use Rattle.calls.proofs.Saying.{renamed, as-text}
 use borrow.Author.Needs.{needs}

@@ -1,7 +1,7 @@
 use mathlib.Core.Path.{ap, sym}
-use Rattle.ordering.specs.Order.{meaning}
+use Rattle.operation_ordering.specs.Order.{comparedMeaning}
 use Rattle.calls.specs.Answers.{orderText}
-use Rattle.replies.proofs.Growing.{of-nothing}
+use Rattle.calls_replies.proofs.Growing.{of-nothing}
 use Rattle.calls.proofs.Saying.{renamed}
 use borrow.Author.Needs.{needs}
 use Rattle.calls.proofs.calling.order_said.Statement.{statement}
@@ -50,16 +50,16 @@ refused-requires : tie.Need-refused-requires
 refused-requires c κs = search needs
 
 returns : tie.Need-returns
-returns c = renamed orderText (ap meaning (sym (c .before .before .before .enum-told .given .1))) (of-nothing (c .before .before .nothing .ensures) (c .joined .ensures))
+returns c = renamed orderText (ap comparedMeaning (sym (c .before .before .before .enum-told .given .1))) (of-nothing (c .before .before .nothing .ensures) (c .joined .ensures))
 
 returns-2 : tie.Need-returns-2
-returns-2 c = renamed orderText (ap meaning (sym (c .before .before .before .enum-told2 .given .1))) (of-nothing (c .before .before .nothing2 .ensures) (c .joined2 .ensures))
+returns-2 c = renamed orderText (ap comparedMeaning (sym (c .before .before .before .enum-told2 .given .1))) (of-nothing (c .before .before .nothing2 .ensures) (c .joined2 .ensures))
 
 returns-3 : tie.Need-returns-3
-returns-3 c = renamed orderText (ap meaning (sym (c .before .before .before .enum-told3 .given .1))) (of-nothing (c .before .before .nothing3 .ensures) (c .joined3 .ensures))
+returns-3 c = renamed orderText (ap comparedMeaning (sym (c .before .before .before .enum-told3 .given .1))) (of-nothing (c .before .before .nothing3 .ensures) (c .joined3 .ensures))
 
 returns-4 : tie.Need-returns-4
-returns-4 c = renamed orderText (ap meaning (sym (c .before .before .a .given .1))) (c .refused .ensures)
+returns-4 c = renamed orderText (ap comparedMeaning (sym (c .before .before .a .given .1))) (c .refused .ensures)
 
 pub order-said-spec : {M : Type 1} → statement M
 order-said-spec =

@@ -1,5 +1,5 @@
 use Rattle.calls.specs.Answers.{refusedText}
-use Rattle.replies.proofs.Growing.{of-nothing}
+use Rattle.calls_replies.proofs.Growing.{of-nothing}
 use borrow.Author.Needs.{needs}
 use Rattle.calls.proofs.calling.refused.Statement.{statement}
 use Rattle.calls.proofs.calling.refused.Tie as tie

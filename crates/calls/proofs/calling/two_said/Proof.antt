@@ -1,6 +1,6 @@
 use mathlib.Core.Path.{ap, sym}
 use Rattle.text.specs.Writing.{textOf}
-use Rattle.asking.specs.declared.Two.{Two}
+use Rattle.calls_asked.specs.declared.Two.{Two}
 use Rattle.calls.specs.Answers.{orderText, twoText}
 use Rattle.calls.proofs.Saying.{renamed, as-text}
 use borrow.Author.Needs.{needs}

@@ -3,7 +3,7 @@ use native.Mathlib.Omega.{arith}
 use lib.ListN.{length}
 use Rattle.numerals.specs.Writing.{longest}
 use Rattle.numerals.proofs.Texts.{holds-fits}
-use Rattle.replies.proofs.Growing.{named, of-nothing}
+use Rattle.calls_replies.proofs.Growing.{named, of-nothing}
 use borrow.Author.Needs.{needs}
 use Rattle.calls.proofs.calling.written.Statement.{statement}
 use Rattle.calls.proofs.calling.written.Tie as tie

@@ -10,9 +10,9 @@ use Rattle.desk.proofs.Desk.close.Statement.{statement}
 use Rattle.desk.proofs.Desk.close.Tie as tie
 use Rattle.desk.proofs.Desk.close.Reads as reads
 use Rattle.desk.proofs.Desk.close.Lts as lts
-use Rattle.desk.proofs.Desk.place.Reads as place-reads
+use Rattle.desk.proofs.Desk.seat_of.Reads as seat-of-reads
 use Rattle.desk.proofs.Desk.sound.Reads as sound-reads
-use Rattle.seat.proofs.free.Reads as free-reads
+use Rattle.desk_seat.proofs.free.Reads as free-reads
 
 sound-requires : tie.Need-sound-requires
 sound-requires c κs = search needs
@@ -21,12 +21,12 @@ returns : tie.Need-returns
 unfolding closeOf
 returns c = simp (no (c .before .sound .ensures) (c .if1 .taken))
 
-place-requires : tie.Need-place-requires
-place-requires c κs = search needs
+seat-of-requires : tie.Need-seat-of-requires
+seat-of-requires c κs = search needs
 
 returns-2 : tie.Need-returns-2
 unfolding closeOf
-returns-2 c = simp (yes (c .before .before .before .sound .ensures) (c .before .before .if1 .left), ← c .before .place .ensures .0, le-ltb _ _ (c .if2 .taken))
+returns-2 c = simp (yes (c .before .before .before .sound .ensures) (c .before .before .if1 .left), ← c .before .seat-of .ensures .0, le-ltb _ _ (c .if2 .taken))
 
 free-requires : tie.Need-free-requires
 free-requires c κs = search needs
@@ -39,7 +39,7 @@ element-set-from-next c = search needs
 
 returns-3 : tie.Need-returns-3
 unfolding closeOf
-returns-3 c = simp (c .free .ensures, yes (c .before .before .before .before .sound .ensures) (c .before .before .before .if1 .left), ← c .before .before .place .ensures .0, lt-ltb _ _ (c .before .if2 .left))
+returns-3 c = simp (c .free .ensures, yes (c .before .before .before .before .sound .ensures) (c .before .before .before .if1 .left), ← c .before .before .seat-of .ensures .0, lt-ltb _ _ (c .before .if2 .left))
 
 pub close-spec : {M : Type 1} → statement M
 close-spec =
@@ -47,7 +47,7 @@ close-spec =
     (tie.spec
     sound-requires
     returns
-    place-requires
+    seat-of-requires
     returns-2
     free-requires
     mul-t12

@@ -1,7 +1,7 @@
 use native.Mathlib.Omega.{arith}
 use mathlib.Core.Path.{_≡_, refl, sym, ap, _∙_}
 use Prim.Native.Nat.{ℕ, _+_, _-_, _*_, _%_, _≤_, _<_}
-use Rattle.desk.specs.Scan.{first}
+use Rattle.desk.specs.Scan.{firstPassing}
 use Rattle.desk.specs.Seats.{firstFrom, heldIs}
 use Rattle.desk.proofs.Scans.{first-hit, first-miss, first-end}
 use Rattle.desk.proofs.Desk.find.Statement.{statement}
@@ -10,7 +10,7 @@ use Rattle.desk.proofs.Desk.find.Reads as reads
 use Rattle.desk.proofs.Desk.find.Lts as lts
 
 abbrev Inv-loop : tie.InvT-loop
-Inv-loop want start self end j₀ j = (j ≤ end) × (firstFrom self want start ≡ first (heldIs self want) j (end - j))
+Inv-loop want start self end j₀ j = (j ≤ end) × (firstFrom self want start ≡ firstPassing (heldIs self want) j (end - j))
 
 abbrev μ-loop : tie.MeasureT-loop
 μ-loop want start self end j₀ j = end - j
@@ -19,7 +19,7 @@ add-end : tie.Need-add-end Inv-loop μ-loop
 add-end c = omega arith
 
 loop-holds : tie.Need-loop-holds Inv-loop μ-loop
-loop-holds c = (omega arith, ap (first (heldIs (c .args .t1) (c .args .want)) (c .args .start)) (omega arith))
+loop-holds c = (omega arith, ap (firstPassing (heldIs (c .args .t1) (c .args .want)) (c .args .start)) (omega arith))
 
 mul-held : tie.Need-mul-held Inv-loop μ-loop
 mul-held c = omega arith

@@ -3,7 +3,7 @@ use native.Mathlib.Omega.{arith}
 use mathlib.Core.Path.{_≡_, refl, sym, ap, _∙_}
 use Prim.Native.Nat.{ℕ, _<_, _≤_, _+_, _%_}
 use mathlib.Core.Bool.{Bool, true, false}
-use Rattle.seat.specs.Files.{over}
+use Rattle.desk_seat.specs.Files.{over}
 use Rattle.desk.specs.Bounds.{seatCount}
 use Rattle.desk.specs.Seats.{heldIs}
 use Rattle.desk.specs.Desk.{nextOf}
@@ -16,7 +16,7 @@ use Rattle.desk.proofs.Desk.next.Tie as tie
 use Rattle.desk.proofs.Desk.next.Reads as reads
 use Rattle.desk.proofs.Desk.next.Lts as lts
 use Rattle.desk.proofs.Desk.find.Reads as find-reads
-use Rattle.seat.proofs.served.Reads as served-reads
+use Rattle.desk_seat.proofs.served.Reads as served-reads
 
 add-find : tie.Need-add-find
 add-find c = omega (arith, sound-last _ (c .before .pre .0))

@@ -4,8 +4,8 @@ use mathlib.Core.Path.{_≡_, refl, sym, ap, _∙_}
 use Prim.Native.Nat.{ℕ, _<_, _≤_, _+_, _%_}
 use Rattle.basis.proofs.Tests.{no, yes}
 use Rattle.basis.specs.Answer.{gives, refuses}
-use Rattle.seat.specs.Query.{checkOf}
-use Rattle.seat.proofs.Conditions.{checked-accepted, accepted-fits}
+use Rattle.desk_seat.specs.Conditions.{checkOf}
+use Rattle.desk_seat.proofs.Conditions.{checked-accepted, accepted-fits}
 use Rattle.desk.specs.Desk.{openOf}
 use borrow.Author.Needs.{needs}
 use Rattle.desk.proofs.Desk.open.Statement.{statement}
@@ -16,7 +16,7 @@ use Rattle.condition.proofs.check.Reads as check-reads
 use Rattle.desk.proofs.Desk.find.Reads as find-reads
 use Rattle.desk.proofs.Desk.not_opened.Reads as not-opened-reads
 use Rattle.desk.proofs.Desk.sound.Reads as sound-reads
-use Rattle.seat.proofs.taken.Reads as taken-reads
+use Rattle.desk_seat.proofs.taken.Reads as taken-reads
 
 sound-requires : tie.Need-sound-requires
 sound-requires c κs = search needs

@@ -6,13 +6,13 @@ use borrow.Author.Needs.{needs}
 use borrow.Author.Tests.{lt-ltb, le-ltb, lt-leb, not-true, not-false}
 use Rattle.basis.specs.Choice.{both, every}
 use Rattle.desk.specs.Bounds.{seatCount}
-use Rattle.desk.specs.Soundness.{placeSound, soundOf}
-use Rattle.desk.proofs.Places.{Seeking, seeking-starts, seeking-free, seeking-other, place-free, place-again, place-judged, SoundTo, sound-starts, sound-on, sound-fails, sound-ends}
+use Rattle.desk.specs.Soundness.{soundAt, soundOf}
+use Rattle.desk.proofs.SeatsByNumber.{Seeking, seeking-starts, seeking-free, seeking-other, seat-free, seat-again, seat-judged, SoundTo, sound-starts, sound-on, sound-fails, sound-ends}
 use Rattle.desk.proofs.Desk.sound.Statement.{statement}
 use Rattle.desk.proofs.Desk.sound.Tie as tie
 use Rattle.desk.proofs.Desk.sound.Reads as reads
 use Rattle.desk.proofs.Desk.sound.Lts as lts
-use Rattle.seat.proofs.sound.Reads as sound-reads
+use Rattle.desk_seat.proofs.sound.Reads as sound-reads
 
 abbrev Inv-loop2 : tie.InvT-loop2
 Inv-loop2 self i s k₀ k = Seeking self (s .ticket) i k
@@ -64,7 +64,7 @@ returns-3 : tie.Need-returns-3 Inv-loop2 μ-loop2 Inv-loop μ-loop
 returns-3 c =
     let b = c .before .before .before .before in
     let o = b .before .before .before in
-    let e = place-again _ _ (o .loop-test .taken) (b .before .if3 .taken) (b .loop2 .inv) (c .before .before .before .loop2-test .taken) (c .before .before .if4 .taken) (c .if5 .taken) in
+    let e = seat-again _ _ (o .loop-test .taken) (b .before .if3 .taken) (b .loop2 .inv) (c .before .before .before .loop2-test .taken) (c .before .before .if4 .taken) (c .if5 .taken) in
     sym (sound-fails (o .before .loop .inv) (o .loop-test .taken) e)
 
 add-k : tie.Need-add-k Inv-loop2 μ-loop2 Inv-loop μ-loop
@@ -87,7 +87,7 @@ returns-4 : tie.Need-returns-4 Inv-loop2 μ-loop2 Inv-loop μ-loop
 returns-4 c =
     let b = c .before .before .before in
     let o = b .before .before .before in
-    let e = place-judged _ _ (o .loop-test .taken) (b .before .if3 .taken) (b .loop2 .inv) (c .before .before .loop2-test .left) in
+    let e = seat-judged _ _ (o .loop-test .taken) (b .before .if3 .taken) (b .loop2 .inv) (c .before .before .loop2-test .left) in
     sym (sound-fails (o .before .loop .inv) (o .loop-test .taken) (e ∙ sym (c .before .sound .ensures) ∙ not-true _ (c .if6 .taken)))
 
 add-i : tie.Need-add-i Inv-loop2 μ-loop2 Inv-loop μ-loop
@@ -102,8 +102,8 @@ loop-again c =
     let m = o .loop-test .taken in
     sound-on (o .before .loop .inv) m
     (⊎-elim
-    (λ w. place-judged _ _ m (w .0 .taken) (w .1 .inv) (w .2 .left) ∙ sym (w .3 .ensures) ∙ not-false _ (w .4 .left))
-    (λ w. place-free _ _ (w .left))
+    (λ w. seat-judged _ _ m (w .0 .taken) (w .1 .inv) (w .2 .left) ∙ sym (w .3 .ensures) ∙ not-false _ (w .4 .left))
+    (λ w. seat-free _ _ (w .left))
     (c .if3 .came))
 
 returns-5 : tie.Need-returns-5 Inv-loop2 μ-loop2 Inv-loop μ-loop

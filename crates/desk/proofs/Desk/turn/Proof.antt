@@ -3,7 +3,7 @@ use native.Mathlib.Omega.{arith}
 use mathlib.Core.Path.{_≡_, refl, sym, ap, _∙_}
 use Prim.Native.Nat.{ℕ, _<_, _≤_, _+_, _%_}
 use Rattle.basis.proofs.Tests.{no, yes}
-use Rattle.seat.specs.Files.{over}
+use Rattle.desk_seat.specs.Files.{over}
 use Rattle.desk.specs.Desk.{turnOf}
 use Rattle.desk.proofs.Lengths.{same-lengths, other-lengths}
 use borrow.Author.Needs.{needs}

@@ -1,7 +1,7 @@
 use mathlib.Core.Path.{ap, _∙_}
 use mathlib.Core.Bool.{Bool, not}
 use Rattle.hostile.specs.Events.{onlyIf, turnsWith, askingBy}
-use Rattle.hostile.specs.declared.Event.the-variants as E
+use Rattle.hostile.specs.declared.ScriptEvent.the-variants as E
 use borrow.Author.Needs.{needs}
 use Rattle.hostile.proofs.events.asking.Statement.{statement}
 use Rattle.hostile.proofs.events.asking.Tie as tie

@@ -1,7 +1,7 @@
 use mathlib.Core.Path.{ap, _∙_}
 use mathlib.Core.Bool.{Bool}
 use Rattle.hostile.specs.Events.{onlyIf, freshWith, partWith, closeWith, eventBy}
-use Rattle.hostile.specs.declared.Event.the-variants as E
+use Rattle.hostile.specs.declared.ScriptEvent.the-variants as E
 use borrow.Author.Needs.{needs}
 use Rattle.hostile.proofs.events.event_by.Statement.{statement}
 use Rattle.hostile.proofs.events.event_by.Tie as tie

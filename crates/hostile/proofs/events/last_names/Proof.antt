@@ -19,7 +19,7 @@ only-if-requires c κs = search needs
 
 returns : tie.Need-returns
 unfolding lastNamesBy
-returns c = simp (c .before .before .if1 .taken, ← c .before .before .before .same .ensures) (c .only-if .ensures ∙ ap (unreadableWith (c .before .before .before .before .before .before .before .args .place)) (c .before .last-number .ensures .0))
+returns c = simp (c .before .before .if1 .taken, ← c .before .before .before .same .ensures) (c .only-if .ensures ∙ ap (unreadableWith (c .before .before .before .before .before .before .before .args .index)) (c .before .last-number .ensures .0))
 
 slice-aggregate-same-2 : tie.Need-slice-aggregate-same-2
 slice-aggregate-same-2 c = search needs
@@ -35,7 +35,7 @@ only-if-requires-2 c κs = search needs
 
 returns-2 : tie.Need-returns-2
 unfolding lastNamesBy
-returns-2 c = simp (c .before .before .if2 .taken, ← c .before .before .before .same2 .ensures, c .before .before .before .before .before .if1 .left, ← c .before .before .before .before .before .before .same .ensures) (c .only-if2 .ensures ∙ ap (conditionLengthWith (c .before .before .before .before .before .before .before .before .before .before .args .place)) (c .before .last-number2 .ensures .0))
+returns-2 c = simp (c .before .before .if2 .taken, ← c .before .before .before .same2 .ensures, c .before .before .before .before .before .if1 .left, ← c .before .before .before .before .before .before .same .ensures) (c .only-if2 .ensures ∙ ap (conditionLengthWith (c .before .before .before .before .before .before .before .before .before .before .args .index)) (c .before .last-number2 .ensures .0))
 
 slice-aggregate-same-3 : tie.Need-slice-aggregate-same-3
 slice-aggregate-same-3 c = search needs
@@ -54,11 +54,11 @@ only-if-requires-3 c κs = search needs
 
 returns-3 : tie.Need-returns-3
 unfolding lastNamesBy
-returns-3 c = simp (c .before .before .before .before .if3 .taken, ← c .before .before .before .before .before .same3 .ensures, c .before .before .before .before .before .before .before .if2 .left, ← c .before .before .before .before .before .before .before .before .same2 .ensures, c .before .before .before .before .before .before .before .before .before .before .if1 .left, ← c .before .before .before .before .before .before .before .before .before .before .before .same .ensures) (fits (c .before .before .before .before .before .before .before .before .before .before .before .before .before .before .before .args .line .now) (c .before .before .before .before .before .before .before .before .before .before .before .before .before .before .before .args .place) (c .before .before .before .condition-text .ensures) (c .before .before .if4 .taken) (c .before .has-field .ensures) (c .only-if3 .ensures))
+returns-3 c = simp (c .before .before .before .before .if3 .taken, ← c .before .before .before .before .before .same3 .ensures, c .before .before .before .before .before .before .before .if2 .left, ← c .before .before .before .before .before .before .before .before .same2 .ensures, c .before .before .before .before .before .before .before .before .before .before .if1 .left, ← c .before .before .before .before .before .before .before .before .before .before .before .same .ensures) (fits (c .before .before .before .before .before .before .before .before .before .before .before .before .before .before .before .args .line .now) (c .before .before .before .before .before .before .before .before .before .before .before .before .before .before .before .args .index) (c .before .before .before .condition-text .ensures) (c .before .before .if4 .taken) (c .before .has-field .ensures) (c .only-if3 .ensures))
 
 returns-4 : tie.Need-returns-4
 unfolding lastNamesBy
-returns-4 c = simp (c .before .before .if3 .taken, ← c .before .before .before .same3 .ensures, c .before .before .before .before .before .if2 .left, ← c .before .before .before .before .before .before .same2 .ensures, c .before .before .before .before .before .before .before .before .if1 .left, ← c .before .before .before .before .before .before .before .before .before .same .ensures) (too-long (c .before .before .before .before .before .before .before .before .before .before .before .before .before .args .line .now) (c .before .before .before .before .before .before .before .before .before .before .before .before .before .args .place) (c .before .condition-text .ensures) (c .if4 .left))
+returns-4 c = simp (c .before .before .if3 .taken, ← c .before .before .before .same3 .ensures, c .before .before .before .before .before .if2 .left, ← c .before .before .before .before .before .before .same2 .ensures, c .before .before .before .before .before .before .before .before .if1 .left, ← c .before .before .before .before .before .before .before .before .before .same .ensures) (too-long (c .before .before .before .before .before .before .before .before .before .before .before .before .before .args .line .now) (c .before .before .before .before .before .before .before .before .before .before .before .before .before .args .index) (c .before .condition-text .ensures) (c .if4 .left))
 
 returns-5 : tie.Need-returns-5
 unfolding lastNamesBy

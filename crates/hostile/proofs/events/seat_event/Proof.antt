@@ -18,7 +18,7 @@ only-if-requires c κs = search needs
 
 returns : tie.Need-returns
 unfolding seatBy
-returns c = simp (c .before .before .before .if1 .taken, ← c .before .before .before .before .same .ensures) (c .only-if .ensures ∙ ap (heldWith (c .before .before .before .before .before .before .before .before .args .place)) (c .before .before .last-number .ensures .0))
+returns c = simp (c .before .before .before .if1 .taken, ← c .before .before .before .before .same .ensures) (c .only-if .ensures ∙ ap (heldWith (c .before .before .before .before .before .before .before .before .args .index)) (c .before .before .last-number .ensures .0))
 
 slice-aggregate-same-2 : tie.Need-slice-aggregate-same-2
 slice-aggregate-same-2 c = search needs
@@ -37,7 +37,7 @@ only-if-requires-2 c κs = search needs
 
 returns-2 : tie.Need-returns-2
 unfolding seatBy
-returns-2 c = simp (c .before .before .before .if2 .taken, ← c .before .before .before .before .same2 .ensures, c .before .before .before .before .before .before .if1 .left, ← c .before .before .before .before .before .before .before .same .ensures) (c .only-if2 .ensures ∙ ap (ticketWith (c .before .before .before .before .before .before .before .before .before .before .before .args .place)) (c .before .before .last-number2 .ensures .0))
+returns-2 c = simp (c .before .before .before .if2 .taken, ← c .before .before .before .before .same2 .ensures, c .before .before .before .before .before .before .if1 .left, ← c .before .before .before .before .before .before .before .same .ensures) (c .only-if2 .ensures ∙ ap (ticketWith (c .before .before .before .before .before .before .before .before .before .before .before .args .index)) (c .before .before .last-number2 .ensures .0))
 
 slice-aggregate-same-3 : tie.Need-slice-aggregate-same-3
 slice-aggregate-same-3 c = search needs
@@ -53,7 +53,7 @@ only-if-requires-3 c κs = search needs
 
 returns-3 : tie.Need-returns-3
 unfolding seatBy
-returns-3 c = simp (c .before .before .if3 .taken, ← c .before .before .before .same3 .ensures, c .before .before .before .before .before .if2 .left, ← c .before .before .before .before .before .before .same2 .ensures, c .before .before .before .before .before .before .before .before .if1 .left, ← c .before .before .before .before .before .before .before .before .before .same .ensures) (c .only-if3 .ensures ∙ ap (offsetWith (c .before .before .before .before .before .before .before .before .before .before .before .before .before .args .place)) (c .before .last-number3 .ensures .0))
+returns-3 c = simp (c .before .before .if3 .taken, ← c .before .before .before .same3 .ensures, c .before .before .before .before .before .if2 .left, ← c .before .before .before .before .before .before .same2 .ensures, c .before .before .before .before .before .before .before .before .if1 .left, ← c .before .before .before .before .before .before .before .before .before .same .ensures) (c .only-if3 .ensures ∙ ap (offsetWith (c .before .before .before .before .before .before .before .before .before .before .before .before .before .args .index)) (c .before .last-number3 .ensures .0))
 
 slice-aggregate-same-4 : tie.Need-slice-aggregate-same-4
 slice-aggregate-same-4 c = search needs
@@ -69,7 +69,7 @@ only-if-requires-4 c κs = search needs
 
 returns-4 : tie.Need-returns-4
 unfolding seatBy
-returns-4 c = simp (c .before .before .if4 .taken, ← c .before .before .before .same4 .ensures, c .before .before .before .before .before .if3 .left, ← c .before .before .before .before .before .before .same3 .ensures, c .before .before .before .before .before .before .before .before .if2 .left, ← c .before .before .before .before .before .before .before .before .before .same2 .ensures, c .before .before .before .before .before .before .before .before .before .before .before .if1 .left, ← c .before .before .before .before .before .before .before .before .before .before .before .before .same .ensures) (c .only-if4 .ensures ∙ ap (hitsWith (c .before .before .before .before .before .before .before .before .before .before .before .before .before .before .before .before .args .place)) (c .before .last-number4 .ensures .0))
+returns-4 c = simp (c .before .before .if4 .taken, ← c .before .before .before .same4 .ensures, c .before .before .before .before .before .if3 .left, ← c .before .before .before .before .before .before .same3 .ensures, c .before .before .before .before .before .before .before .before .if2 .left, ← c .before .before .before .before .before .before .before .before .before .same2 .ensures, c .before .before .before .before .before .before .before .before .before .before .before .if1 .left, ← c .before .before .before .before .before .before .before .before .before .before .before .before .same .ensures) (c .only-if4 .ensures ∙ ap (hitsWith (c .before .before .before .before .before .before .before .before .before .before .before .before .before .before .before .before .args .index)) (c .before .last-number4 .ensures .0))
 
 last-names-requires : tie.Need-last-names-requires
 last-names-requires c κs = search needs

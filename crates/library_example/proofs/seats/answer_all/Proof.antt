@@ -43,14 +43,14 @@ use denote.Triple.Table.{entered, cited}
 use denote.Triple.Walked.{says, Stays, stay-ref, stay-none-slice, walkOf, AllGo, goes-ref, goes-none-slice, ends-at, walked, walk-meets}
 use denote.Exit.{yes}
 use denote.Triple.Clauses.{ensured, lasts}
-use Rattle.timetable.specs.Lines.{nextLine, linesFrom, placedLines}
+use Rattle.timetable.specs.Lines.{nextLine, linesFrom, offsetLines}
 use Rattle.timetable.proofs.Offsets.{next-within, next-further}
-use Rattle.seat.specs.Files.{over}
-use Rattle.seat.specs.Request.{asking}
-use Rattle.seat.specs.Answers.{turnMeaning}
-use Rattle.seat.specs.declared.TurnAnswer.{TurnAnswer}
-use Rattle.seat.proofs.TurnAnswer as E
-use Rattle.seat.proofs.TurnAnswer.Laws as E′
+use Rattle.desk_seat.specs.Files.{over}
+use Rattle.desk_seat.specs.Request.{asking}
+use Rattle.desk_seat.specs.Answers.{turnMeaning}
+use Rattle.desk_seat.specs.declared.TurnAnswer.{TurnAnswer}
+use Rattle.desk_seat.proofs.TurnAnswer as E
+use Rattle.desk_seat.proofs.TurnAnswer.Laws as E′
 use Rattle.desk.specs.Answers.{openMeaning, closeMeaning}
 use Rattle.desk.specs.Desk.{openOf, closeOf, turnOf}
 use Rattle.desk.specs.declared.Desk.{Desk}
@@ -61,7 +61,7 @@ use Rattle.desk.proofs.OpenAnswer as O
 use Rattle.desk.proofs.OpenAnswer.Laws as O′
 use Rattle.desk.proofs.CloseAnswer as Z
 use Rattle.desk.proofs.CloseAnswer.Laws as Z′
-use Rattle.pieces.proofs.Again.{sv, Own, at, Ref, Tok, twice, lends, back}
+use Rattle.output_pieces.proofs.Again.{sv, Own, at, Ref, Tok, twice, lends, back}
 use Rattle.desk_host.proofs.Lent.{rest}
 use Rattle.library_lines.specs.Calls.{callAt, conditionAt, ticketAt}
 use Rattle.library_example.specs.After.{afterCalls}
@@ -230,7 +230,7 @@ module _ {M : Type 1} (𝓤 : URA M) (H : Heap 𝓤) (A : Atoms 𝓤) (W : Given
   Ps = ‵ (Own 2 κ₂ s) ⊛ Tok κ₂ q₂
 
   abbrev All : Desk
-  All = afterCalls (over (t .now)) (placedLines (s .now)) D
+  All = afterCalls (over (t .now)) (offsetLines (s .now)) D
 
   exits : (d : Desk) → d ≡ All → ent 𝓤 (⋆ 𝓤 H A (‵ (Ref κ b o γ d) ∷ ‵ (flft κ q) ∷ Pt ∷ Ps ∷ [])) (Post vunit)
   exits d e =
@@ -308,7 +308,7 @@ module _ {M : Type 1} (𝓤 : URA M) (H : Heap 𝓤) (A : Atoms 𝓤) (W : Given
   abbrev Closes : Desk → ℕ → Desk → CloseAnswer → Type 0
   Closes d k h a = (h ≡ closeOf k d .desk) × (closeMeaning a ≡ closeOf k d .answer)
 
-  -- a turn of the loop starts at a place of the input and the desk after the lines before it
+  -- a turn of the loop starts at an offset of the input and the desk after the lines before it
   abbrev Point : Type 0
   Point = (i : ℕ) × ((d : Desk) × ((i ≤ n) × (afterCalls (over (t .now)) (linesFrom (s .now) i) d ≡ All)))
 

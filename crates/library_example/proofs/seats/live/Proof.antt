@@ -35,13 +35,13 @@ use denote.Struct.Laws as LL
 use denote.Triple.Walked.{Stays, stay-none, stay-none-slice, walkOf, AllGo, goes-none, goes-none-slice, ends-at, walked, walk-meets}
 use denote.Exit.{yes}
 use denote.Triple.Clauses.{ensured, lasts}
-use Rattle.timetable.specs.Lines.{placedLines}
-use Rattle.seat.specs.Files.{over}
+use Rattle.timetable.specs.Lines.{offsetLines}
+use Rattle.desk_seat.specs.Files.{over}
 use Rattle.desk.specs.declared.Desk.{Desk}
 use Rattle.library_example.specs.After.{afterCalls}
 use Rattle.desk.proofs.Desk as T
 use Rattle.desk.proofs.Desk.Laws as T′
-use Rattle.pieces.proofs.Again.{sv, Own, Tok, twice}
+use Rattle.output_pieces.proofs.Again.{sv, Own, Tok, twice}
 use Rattle.desk_host.proofs.Lent.{dv, Good, lent, lends, back}
 use Rattle.library_example.proofs.seats.answer_all as all
 use Rattle.library_example.proofs.seats.answer_all.Symbol as all-def
@@ -107,7 +107,7 @@ module _ {M : Type 1} (𝓤 : URA M) (H : Heap 𝓤) (A : Atoms 𝓤) (W : Given
       -- [what `answer_all` asks; the lender's part; the locals from 2, without _4; what t owns; what the input owns]
       calls-at ! (fmOf 𝓤 H (W .laws) 𝓣) (All 𝓤 H A at-mem run) known (to-all l₄ ν δ) (and-then ! (load ! (from ! (stop !)) (look ! 2 refl)) (and-then ! (load ! (from ! (stop !)) (look ! 9 refl)) (and-then ! (load ! (from ! (stop !)) (look ! 7 refl)) (no-more !)))) (λ v.
       use1 W (later (some (λ (u : Unit {0}). ((‵ (flft (ν ∷ []) fullShare) ⊛ (‵ (flft κ q) ⊛ Tok κ′ q′)) ⊛ ‵ (unit .own u (v ∷ []))) ⊛ raw (ensured 𝓤 H A all.ended (all.clauses 𝓤 H A at-mem run) (ν ∷ [], (κ, (κ′, tt))) (lent l₄ δ h, (s, (s′, tt))) tt u)))) (id⊢ 𝓤 _) $ await ! tt $ pick ! (λ u.
-      split ! $ move ! (1 ∷ []) $ use1 W (some (λ (zs : Desk × (Unit {0} × (Unit {0} × Unit {0}))). ‵ (lasts all.ended (ν ∷ [], (κ, (κ′, tt))) (lent l₄ δ h, (s, (s′, tt))) zs) ⊛ raw (fact 𝓤 (zs .0 ≡ afterCalls (over (s .now)) (placedLines (s′ .now)) h)))) (id⊢ 𝓤 _) $ pick ! (λ zs.
+      split ! $ move ! (1 ∷ []) $ use1 W (some (λ (zs : Desk × (Unit {0} × (Unit {0} × Unit {0}))). ‵ (lasts all.ended (ν ∷ [], (κ, (κ′, tt))) (lent l₄ δ h, (s, (s′, tt))) zs) ⊛ raw (fact 𝓤 (zs .0 ≡ afterCalls (over (s .now)) (offsetLines (s′ .now)) h)))) (id⊢ 𝓤 _) $ pick ! (λ zs.
       split ! $ move ! (1 ∷ []) $ drop ! $ fsplit ! $ move ! (2 ∷ []) $ split ! $ move ! (1 ∷ []) $ facts ! unit (Is unit) (shows 𝓤 H A unit) u (v ∷ []) (λ isu.
       -- [the tokens; the last value; true; the lender's part; the locals from 4, without _4; what t owns; what the input owns]
       land ! (from ! (stop !)) (init ! 6 refl (nothing-lawful 𝓤 H A W .typed u _ isu .0)) $

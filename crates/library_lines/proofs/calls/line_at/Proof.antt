@@ -1,5 +1,5 @@
 use mathlib.Core.Path.{ap, _∙_}
-use Rattle.words.specs.Runs.{between}
+use Rattle.condition_words.specs.Words.{between}
 use borrow.Author.Needs.{needs}
 use Rattle.library_lines.proofs.calls.line_at.Statement.{statement}
 use Rattle.library_lines.proofs.calls.line_at.Tie as tie

@@ -1,6 +1,6 @@
 use Rattle.library_lines.proofs.Fields.{no-zone, zone-at}
 use mathlib.Core.Path.{ap, _∙_}
-use Rattle.words.specs.Runs.{same}
+use Rattle.condition_words.specs.Words.{same}
 use borrow.Author.Needs.{needs}
 use Rattle.library_lines.proofs.given.zone.Statement.{statement}
 use Rattle.library_lines.proofs.given.zone.Tie as tie

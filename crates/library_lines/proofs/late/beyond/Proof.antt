@@ -1,5 +1,5 @@
 use mathlib.Core.Path.{ap, sym, _∙_}
-use Rattle.ordering.specs.Order.{meaning}
+use Rattle.operation_ordering.specs.Order.{comparedMeaning}
 use Rattle.library_lines.specs.Late.{whether}
 use borrow.Author.Needs.{needs}
 use Rattle.library_lines.proofs.late.beyond.Statement.{statement}
@@ -21,16 +21,16 @@ enum-known-refusal : tie.Need-enum-known-refusal
 enum-known-refusal c = search needs
 
 returns : tie.Need-returns
-returns c = ap whether (ap meaning (sym (c .enum-told .given .1)) ∙ c .before .before .compare .ensures)
+returns c = ap whether (ap comparedMeaning (sym (c .enum-told .given .1)) ∙ c .before .before .compare .ensures)
 
 returns-2 : tie.Need-returns-2
-returns-2 c = ap whether (ap meaning (sym (c .enum-told2 .given .1)) ∙ c .before .before .compare .ensures)
+returns-2 c = ap whether (ap comparedMeaning (sym (c .enum-told2 .given .1)) ∙ c .before .before .compare .ensures)
 
 returns-3 : tie.Need-returns-3
-returns-3 c = ap whether (ap meaning (sym (c .enum-told3 .given .1)) ∙ c .before .before .compare .ensures)
+returns-3 c = ap whether (ap comparedMeaning (sym (c .enum-told3 .given .1)) ∙ c .before .before .compare .ensures)
 
 returns-4 : tie.Need-returns-4
-returns-4 c = ap whether (ap meaning (sym (c .before .refusal .given .1)) ∙ c .before .before .before .compare .ensures)
+returns-4 c = ap whether (ap comparedMeaning (sym (c .before .refusal .given .1)) ∙ c .before .before .before .compare .ensures)
 
 pub beyond-spec : {M : Type 1} → statement M
 beyond-spec =

@@ -1,4 +1,4 @@
--- `fields::after_tabs` meets its contract: the fields after n tabs are, from each place that the loop reaches, those after
+-- `fields::after_tabs` meets its contract: the fields after n tabs are, from each offset that the loop reaches, those after
 -- the tabs that are left to pass.
 use mathlib.Core.Logic.{⊎-elim}
 use Prim.Native.Nat.{_-_}

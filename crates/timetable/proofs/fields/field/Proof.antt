@@ -39,8 +39,8 @@ part-result-end-2 c = search needs
 returns-2 : tie.Need-returns-2
 returns-2 c = sym (field-missing _ _ _ (search needs) (c .before .before .after-tabs .ensures) (c .before .if2 .taken))
 
-place-of-requires : tie.Need-place-of-requires
-place-of-requires c κs = search needs
+offset-of-requires : tie.Need-offset-of-requires
+offset-of-requires c κs = search needs
 
 sub-result-3 : tie.Need-sub-result-3
 sub-result-3 c = omega arith
@@ -51,11 +51,11 @@ part-result-start-3 c = omega arith
 part-result-end-3 : tie.Need-part-result-end-3
 part-result-end-3 c =
     let b = c .before .before in
-    place-within _ (b .before .before .before .args .line .now) (b .after-tabs .result) (c .before .if2 .left) (c .place-of .ensures)
+    place-within _ (b .before .before .before .args .line .now) (b .after-tabs .result) (c .before .if2 .left) (c .offset-of .ensures)
 
 returns-3 : tie.Need-returns-3
 returns-3 c =
-    cut-field _ _ _ _ (c .before .place-of .ensures)
+    cut-field _ _ _ _ (c .before .offset-of .ensures)
     (field-found _ _ _ (search needs) (c .before .before .before .after-tabs .ensures) (c .before .before .if2 .left))
 
 pub field-spec : {M : Type 1} → statement M
@@ -72,7 +72,7 @@ field-spec =
     part-result-start-2
     part-result-end-2
     returns-2
-    place-of-requires
+    offset-of-requires
     sub-result-3
     part-result-start-3
     part-result-end-3

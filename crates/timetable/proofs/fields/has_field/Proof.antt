@@ -1,4 +1,4 @@
--- `fields::has_field` meets its contract: the place after the tabs is within the line exactly where the field is there.
+-- `fields::has_field` meets its contract: the offset after the tabs is within the line exactly where the field is there.
 use mathlib.Core.Path.{sym, ap, _∙_}
 use Rattle.timetable.specs.Fields.{hasField}
 use Rattle.timetable.proofs.Counting.{no-field-zero}

@@ -1,0 +1,13 @@
+pub mod Ends
+pub mod Good
+pub mod Folds
+pub mod Keeps
+pub mod Levels
+pub mod Allowance
+pub mod Stretches
+pub mod Standing
+pub mod Found
+pub mod Following
+pub mod Derived
+pub mod Derivations
+pub mod Cases

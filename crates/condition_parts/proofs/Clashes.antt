@@ -1,0 +1,80 @@
+-- On valid values an operation is refused with 9 exactly where the kinds clash; and what `or` and `and` leave without evaluation.
+use mathlib.Core.Path.{_≡_, refl}
+use mathlib.Core.Bool.{Bool, true, false}
+use Prim.Native.Nat.{ℕ}
+use native.Mathlib.Omega.{arith}
+use Rattle.basis.specs.Choice.{pick, both}
+use Rattle.basis.specs.Answer.{Answer, gives, refuses}
+use Rattle.basis.specs.Exactly.{Exactly}
+use Rattle.value.specs.Kinds.{kindOf, okValue}
+use Rattle.value.specs.Refusals.{wrongKind}
+use Rattle.value_instants.specs.Ticks.{utc}
+use Rattle.value.specs.declared.Kind.{Kind}
+use Rattle.value.specs.declared.Value.{Value}
+use Rattle.operation_quantities.specs.Operands.{operandOf, sameKind}
+use Rattle.operation_ordering.specs.Order.{orderIn, operandOrder}
+use Rattle.operation_casting.specs.Casts.{castsTo, castTo, castOf}
+use Rattle.operation_arithmetic.specs.Sums.{plusOf, minusIn}
+use Rattle.operation_arithmetic.specs.Products.{timesOf}
+use Rattle.condition_sorts.specs.Sorts.{comparedKinds, addedKinds, lessKinds, sortCast, sortTimes}
+use Rattle.condition_parts.specs.Evaluation.{joined, chained, ShortCircuit}
+use Rattle.condition_parts.specs.Fitting.{ClashIs9}
+use Rattle.condition_sorts.specs.declared.Sort.{Sort}
+use Rattle.condition_sorts.specs.declared.Sort.the-variants as S
+use Rattle.condition_parts.proofs.Settled.{Fits, FitsSort, plus-settled, minus-settled, times-settled}
+
+kind-no-clash : (k : Kind) → S.Of k ≡ S.Clash → ⊥
+kind-no-clash k e = let z : _≡_ {A = ℕ} 0 1 = cc in omega arith
+
+truth-no-clash : S.Truth ≡ S.Clash → ⊥
+truth-no-clash e = let z : _≡_ {A = ℕ} 0 1 = cc in omega arith
+
+no-refusal : {A : Type 0} (v : A) → gives v ≡ refuses wrongKind → ⊥
+no-refusal v e = let z : _≡_ {A = ℕ} 0 1 = cc in omega arith
+
+fits-no-9 : (k : Kind) (r : Answer Value) → Fits k r → r ≡ refuses wrongKind → ⊥
+fits-no-9 k (gives v) f e = no-refusal v e
+fits-no-9 k (refuses n) f e = let q : n ≡ wrongKind = cc in omega arith
+
+-- by the sort that the kinds settle, and by a test of the kinds
+by-sort : (x : Sort) (r : Answer Value) → FitsSort x r → Exactly (x ≡ S.Clash) (r ≡ refuses wrongKind)
+by-sort S.Clash r f = record { only = λ e. f; always = λ e. refl }
+by-sort S.Truth r f = absurd f
+by-sort (S.Of k) r f = record { only = λ e. absurd (kind-no-clash k e); always = λ e. absurd (fits-no-9 k r f e) }
+
+by-test : {A : Type 0} (b : Bool) (x : Sort) (v : A) → (x ≡ S.Clash → ⊥) →
+    Exactly (pick b x S.Clash ≡ S.Clash) (pick b (gives v) (refuses wrongKind) ≡ refuses wrongKind)
+by-test true x v n = record { only = λ e. absurd (n e); always = λ e. absurd (no-refusal v e) }
+by-test false x v n = record { only = λ e. refl; always = λ e. refl }
+
+module _ (a : Value) (p : okValue a ≡ true) where
+  order-clash : (b : Value) → okValue b ≡ true → Exactly (comparedKinds (kindOf a) (kindOf b) ≡ S.Clash) (orderIn utc a b ≡ refuses wrongKind)
+  unfolding orderIn comparedKinds both
+  order-clash b q = rw (p, q) (by-test (sameKind (kindOf a) (kindOf b)) S.Truth (operandOrder utc (operandOf a) (operandOf b)) truth-no-clash)
+
+  cast-clash : (k : Kind) → Exactly (sortCast k (S.Of (kindOf a)) ≡ S.Clash) (castOf a k ≡ refuses wrongKind)
+  unfolding castOf
+  cast-clash k = rw p (by-test (castsTo (kindOf a) k) (S.Of k) (castTo k (operandOf a)) (kind-no-clash k))
+
+pub clash-is-9 : ClashIs9
+clash-is-9 =
+    record {
+      of-plus = λ a b p q. by-sort (addedKinds (kindOf a) (kindOf b)) (plusOf a b) (plus-settled a p b q);
+      of-minus = λ a b p q. by-sort (lessKinds (kindOf a) (kindOf b)) (minusIn utc a b) (minus-settled a p b q utc);
+      of-order = λ a b p q. order-clash a p b q;
+      of-times = λ a c n p h. by-sort (sortTimes (S.Of (kindOf a))) (timesOf a c n) (times-settled a p c n h);
+      of-cast = λ a k p. cast-clash a p k;
+    }
+
+pub short-circuit : ShortCircuit
+unfolding joined chained
+short-circuit =
+    record {
+      or-true = λ r. refl;
+      and-false = λ r. refl;
+      or-false = λ y. refl;
+      and-true = λ y. refl;
+      or-refused = λ n. refl;
+      and-refused = λ n. refl;
+      left-first = λ o n r. refl;
+    }

@@ -1,3 +1,0 @@
-pub mod Runs
-pub mod Demand3
-pub mod Lasting

@@ -1,0 +1,69 @@
+-- Runs of digits: a digit is passed, another byte stops the run; a run stays within the text, and one of k digits is a
+-- number below 10 ^ k.
+use mathlib.Core.Path.{_≡_, refl}
+use mathlib.Core.Bool.{Bool, true, false}
+use mathlib.Core.List.{List, [], _∷_}
+use Prim.Native.Nat.{ℕ, suc, _+_, _-_, _*_, _^_, _≤_, _<_}
+use Prim.Native.Char.{code}
+use native.Mathlib.Nat.{pow-suc}
+use native.Mathlib.Omega.{arith}
+use lib.ListN.{length, getD, drop, length-drop}
+use borrow.Author.Tests.{le-leb, leb-true}
+use Rattle.basis.specs.Choice.{both, pick}
+use Rattle.basis.proofs.Tests.{both-left, both-right}
+use Rattle.numerals.specs.Reading.{isDigit, number, numeralAt, at}
+use Rattle.numerals.proofs.Shares.{within}
+
+pub record Digit (b : ℕ) : Type 0 where
+  pub from : code "0" ≤ b
+  pub to : b ≤ code "9"
+
+pub a-digit : (b : ℕ) → isDigit b ≡ true → Digit b
+unfolding isDigit
+a-digit b e = record { from = leb-true (code "0") b (both-left _ _ e); to = leb-true b (code "9") (both-right _ _ e) }
+
+pub is-digit : (x : ℕ) → x ≤ 9 → isDigit (code "0" + x) ≡ true
+unfolding isDigit both
+is-digit x h = simp (le-leb (code "0") (code "0" + x) (omega arith), le-leb (code "0" + x) (code "9") (omega arith))
+
+pub pass : (v k x : ℕ) (xs : List ℕ) → x ≤ 9 → number v k ((code "0" + x) ∷ xs) ≡ number (v * 10 + x) (suc k) xs
+unfolding number
+pass v k x xs h =
+    let e : v * 10 + (code "0" + x - code "0") ≡ v * 10 + x = omega arith in
+    rw (is-digit x h, e)
+
+pub stop : (v k : ℕ) (rest : List ℕ) → isDigit (getD rest 0 0) ≡ false → number v k rest ≡ record { value = v; count = k }
+unfolding number
+stop v k [] e = refl
+stop v k (x ∷ xs) e = rw e
+
+pub digit-within : (s : List ℕ) (i : ℕ) → isDigit (at s i) ≡ true → i < length s
+digit-within s i e = within s i (at s i) refl (omega (arith, a-digit (at s i) e))
+
+count-le : (v k : ℕ) (xs : List ℕ) → number v k xs .count ≤ k + length xs
+unfolding number
+count-le v k [] = omega arith
+count-le v k (x ∷ xs) = go (isDigit x) (count-le (v * 10 + (x - code "0")) (suc k) xs)
+  where
+    go : (b : Bool) → number (v * 10 + (x - code "0")) (suc k) xs .count ≤ suc k + length xs
+        → pick b (number (v * 10 + (x - code "0")) (suc k) xs) (record { value = v; count = k }) .count ≤ k + suc (length xs)
+    go true h = omega arith
+    go false h = omega arith
+
+pub run-le : (s : List ℕ) (i : ℕ) → i ≤ length s → i + numeralAt s i .count ≤ length s
+run-le s i h = omega (arith, count-le 0 0 (drop i s), length-drop i s)
+
+number-lt : (v k : ℕ) (xs : List ℕ) → v < 10 ^ k → number v k xs .value < 10 ^ number v k xs .count
+unfolding number
+number-lt v k [] h = h
+number-lt v k (x ∷ xs) h = go (isDigit x) refl (number-lt (v * 10 + (x - code "0")) (suc k) xs)
+  where
+    go : (b : Bool) → isDigit x ≡ b
+        → (v * 10 + (x - code "0") < 10 ^ suc k → number (v * 10 + (x - code "0")) (suc k) xs .value < 10 ^ number (v * 10 + (x - code "0")) (suc k) xs .count)
+        → pick b (number (v * 10 + (x - code "0")) (suc k) xs) (record { value = v; count = k }) .value
+        < 10 ^ pick b (number (v * 10 + (x - code "0")) (suc k) xs) (record { value = v; count = k }) .count
+    go true e r = r (omega (arith, a-digit x e, pow-suc 10 k))
+    go false e r = h
+
+pub run-lt : (s : List ℕ) (i : ℕ) → numeralAt s i .value < 10 ^ numeralAt s i .count
+run-lt s i = number-lt 0 0 (drop i s) (omega arith)

@@ -1,0 +1,138 @@
+// A value in another zone, or in none.
+use operation_quantities::Operand;
+use operation_quantities::operands;
+use operation_quantities::results;
+use value::DateTime;
+use value::DayTime;
+use value::Kind;
+use value::Offset;
+use value::Outcome;
+use value::Refusal;
+use value::Span;
+use value::Value;
+use value::Zone;
+use value_instants::ticks;
+ghost use mathlib.Core.Path.{_≡_};
+ghost use mathlib.Core.Bool.{true};
+ghost use Prim.Native.Nat.{_*_, _<_, _≤_, _^_};
+ghost use Rattle.value.specs.Bounds.{secondTicks, minuteSeconds, maxZone};
+ghost use Rattle.value.specs.Values.{okOffset, okDateTime, okDayTime};
+ghost use Rattle.value.specs.Kinds.{okValue, meaning};
+ghost use Rattle.value_instants.specs.Carried.{spanOf, ticksOf};
+ghost use Rattle.operation_quantities.specs.Operands.{operandOf};
+ghost use Rattle.operation_adjusting.specs.Adjustment as the;
+
+const MINUTE_TICKS: u64 = Span::MINUTE * Span::TICKS as u64;
+
+fn is_zone(z: DayTime) -> bool
+    ensures { λ r. ⌜ r ≡ the.isZone z ⌝ }
+{
+    if z.micros % MINUTE_TICKS != 0 {
+        return false;
+    }
+    z.micros / MINUTE_TICKS <= DateTime::MAX_ZONE as u64
+}
+
+fn zone_of(z: DayTime) -> Offset
+    requires { ⌜ the.isZone z ≡ true ⌝ }
+    ensures { λ r. ⌜ r ≡ the.zoneOf z ⌝ }
+{
+    let m = (z.micros / MINUTE_TICKS) as u16;
+    if z.negative {
+        return Offset::West(m);
+    }
+    Offset::East(m)
+}
+
+// The local time of an instant.
+fn local_at(t: Span, o: Offset) -> Span
+    requires { ⌜ (t .part < secondTicks) × (maxZone * minuteSeconds ≤ t .seconds) × (t .seconds < 2 ^ 63) × (okOffset o ≡ true) ⌝ }
+    ensures { λ r. ⌜ r ≡ spanOf (the.localAt (ticksOf t) o) ⌝ }
+{
+    let seconds = t.seconds;
+    let part = t.part;
+    match o {
+        Offset::East(m) => Span {
+            seconds: seconds + m as u64 * Span::MINUTE,
+            part,
+        },
+        Offset::West(m) => Span {
+            seconds: seconds - m as u64 * Span::MINUTE,
+            part,
+        },
+    }
+}
+
+fn with_zone(d: DateTime, zone: Zone) -> DateTime
+    ensures { λ r. ⌜ r ≡ the.withZone d zone ⌝ }
+{
+    DateTime {
+        year: d.year,
+        month: d.month,
+        day: d.day,
+        micros: d.micros,
+        zone,
+    }
+}
+
+fn adjusted_from(kind: Kind, d: DateTime, z: Offset) -> Outcome
+    requires { ⌜ (okDateTime d ≡ true) × (okOffset z ≡ true) ⌝ }
+    ensures { λ r. ⌜ meaning r ≡ the.adjustedFrom kind d (d .zone) z ⌝ }
+{
+    let own = d.zone;
+    match own {
+        Zone::Absent => Outcome::Is(operands::value_of(kind, with_zone(d, Zone::At(z)))),
+        Zone::At(w) => {
+            let i = ticks::instant_at(ticks::local(d), w);
+            results::at_ticks(kind, local_at(i, z), Zone::At(z))
+        }
+    }
+}
+
+fn adjusted_to(kind: Kind, d: DateTime, z: DayTime) -> Outcome
+    requires { ⌜ (okDateTime d ≡ true) × (okDayTime z ≡ true) ⌝ }
+    ensures { λ r. ⌜ meaning r ≡ the.adjustedTo kind d z ⌝ }
+{
+    if !is_zone(z) {
+        return results::refused(Refusal::BAD_ZONE);
+    }
+    adjusted_from(kind, d, zone_of(z))
+}
+
+fn moment_to(kind: Kind, d: DateTime, z: Value) -> Outcome
+    requires { ⌜ (okDateTime d ≡ true) × (okValue z ≡ true) ⌝ }
+    ensures { λ r. ⌜ meaning r ≡ the.momentTo kind d (operandOf z) ⌝ }
+{
+    let y = operands::operand(z);
+    match y {
+        Operand::Moment(_, _) => results::refused(Refusal::WRONG_KIND),
+        Operand::DayTime(t) => adjusted_to(kind, d, t),
+        Operand::YearMonth(_) => results::refused(Refusal::WRONG_KIND),
+    }
+}
+
+pub fn operand_to(a: Value, z: Value) -> Outcome
+    requires { ⌜ (okValue a ≡ true) × (okValue z ≡ true) ⌝ }
+    ensures { λ r. ⌜ meaning r ≡ the.operandTo (operandOf a) (operandOf z) ⌝ }
+{
+    let x = operands::operand(a);
+    match x {
+        Operand::Moment(kind, d) => moment_to(kind, d, z),
+        Operand::DayTime(_) => results::refused(Refusal::WRONG_KIND),
+        Operand::YearMonth(_) => results::refused(Refusal::WRONG_KIND),
+    }
+}
+
+pub fn without_zone(a: Value) -> Outcome
+    ensures { λ r. ⌜ meaning r ≡ the.withoutZone (operandOf a) ⌝ }
+{
+    let x = operands::operand(a);
+    match x {
+        Operand::Moment(kind, d) => Outcome::Is(operands::value_of(
+            kind,
+            with_zone(d, Zone::Absent),
+        )),
+        Operand::DayTime(_) => results::refused(Refusal::WRONG_KIND),
+        Operand::YearMonth(_) => results::refused(Refusal::WRONG_KIND),
+    }
+}

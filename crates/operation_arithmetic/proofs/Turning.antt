@@ -1,0 +1,48 @@
+-- Plus is the same either way round, refusals included.
+use mathlib.Core.Path.{_≡_, refl}
+use mathlib.Core.Bool.{Bool, true, false}
+use Prim.Native.Nat.{ℕ, _+_}
+use native.Mathlib.Omega.{arith}
+use Rattle.basis.specs.Choice.{pick, both}
+use Rattle.basis.specs.Answer.{refuses}
+use Rattle.value.specs.Refusals.{outside}
+use Rattle.value.specs.Durations.{plusHalf, minusHalf}
+use Rattle.value.specs.Kinds.{okValue}
+use Rattle.value.specs.declared.Value.{Value}
+use Rattle.operation_quantities.specs.Operands.{operandOf}
+use Rattle.operation_quantities.specs.Results.{inTicks, inMonths}
+use Rattle.operation_quantities.specs.declared.Operand.{Operand}
+use Rattle.operation_quantities.specs.declared.Operand.the-variants.{Moment, DayTime, YearMonth}
+use Rattle.operation_arithmetic.specs.Sums.{sumOf, plusOf}
+
+added-turned : (p q : ℕ) → p + q ≡ q + p
+added-turned p q = omega arith
+
+tests-turned : (a b : Bool) → both a b ≡ both b a
+unfolding both
+tests-turned true true = refl
+tests-turned true false = refl
+tests-turned false true = refl
+tests-turned false false = refl
+
+sum-turned : (x y : Operand) → sumOf x y ≡ sumOf y x
+unfolding sumOf
+sum-turned (Moment k d) (Moment j e) = refl
+sum-turned (Moment k d) (DayTime t) = refl
+sum-turned (Moment k d) (YearMonth m) = refl
+sum-turned (DayTime t) (Moment k d) = refl
+sum-turned (DayTime t) (DayTime s) =
+    λ i.
+    inTicks (added-turned (plusHalf (t .negative) (t .micros)) (plusHalf (s .negative) (s .micros)) i)
+    (added-turned (minusHalf (t .negative) (t .micros)) (minusHalf (s .negative) (s .micros)) i)
+sum-turned (DayTime t) (YearMonth m) = refl
+sum-turned (YearMonth m) (Moment k d) = refl
+sum-turned (YearMonth m) (DayTime t) = refl
+sum-turned (YearMonth m) (YearMonth n) =
+    λ i.
+    inMonths (added-turned (plusHalf (m .negative) (m .months)) (plusHalf (n .negative) (n .months)) i)
+    (added-turned (minusHalf (m .negative) (m .months)) (minusHalf (n .negative) (n .months)) i)
+
+pub plus-turned : (a b : Value) → plusOf a b ≡ plusOf b a
+unfolding plusOf
+plus-turned a b = λ i. pick (tests-turned (okValue a) (okValue b) i) (sum-turned (operandOf a) (operandOf b) i) (refuses outside)

@@ -1,0 +1,29 @@
+-- Document 01, "Operations": a duration times a whole number -999,999 to 999,999. The number is a sign and a magnitude.
+use mathlib.Core.Bool.{Bool}
+use Prim.Native.Nat.{ℕ, _*_}
+use lib.Dec.{leb}
+use Rattle.basis.specs.Choice.{pick, both}
+use Rattle.basis.specs.Answer.{Answer, refuses}
+use Rattle.value.specs.Refusals.{wrongKind, outside}
+use Rattle.value.specs.Durations.{plusHalf, minusHalf}
+use Rattle.value.specs.Kinds.{okValue}
+use Rattle.value.specs.declared.Value.{Value}
+use Rattle.operation_quantities.specs.Operands.{operandOf}
+use Rattle.operation_quantities.specs.Results.{inTicks, inMonths}
+use Rattle.operation_quantities.specs.declared.Operand.{Operand}
+use Rattle.operation_quantities.specs.declared.Operand.the-variants.{Moment, DayTime, YearMonth}
+
+abbrev pub maxFactor : ℕ
+maxFactor = 999_999
+
+-- (p - q) times n; times -n it is (q - p) times n
+abbrev pub signedTimes : (ℕ → ℕ → Answer Value) → Bool → ℕ → ℕ → ℕ → Answer Value
+signedTimes result negative n p q = pick negative (result (q * n) (p * n)) (result (p * n) (q * n))
+
+unfoldable pub productOf : Operand → Bool → ℕ → Answer Value
+productOf (Moment k d) negative n = refuses wrongKind
+productOf (DayTime t) negative n = signedTimes inTicks negative n (plusHalf (t .negative) (t .micros)) (minusHalf (t .negative) (t .micros))
+productOf (YearMonth m) negative n = signedTimes inMonths negative n (plusHalf (m .negative) (m .months)) (minusHalf (m .negative) (m .months))
+
+unfoldable pub timesOf : Value → Bool → ℕ → Answer Value
+timesOf a negative n = pick (both (okValue a) (leb n maxFactor)) (productOf (operandOf a) negative n) (refuses outside)

@@ -1,0 +1,71 @@
+// A duration times a whole number, which is a sign and a magnitude.
+use operation_quantities::Operand;
+use operation_quantities::operands;
+use operation_quantities::results;
+use value::DayTime;
+use value::Outcome;
+use value::Refusal;
+use value::Span;
+use value::Value;
+use value::YearMonth;
+use value_instants::spans;
+ghost use mathlib.Core.Path.{_≡_};
+ghost use mathlib.Core.Bool.{true};
+ghost use Prim.Native.Nat.{_*_, _≤_};
+ghost use Rattle.value.specs.Bounds.{maxDayTime};
+ghost use Rattle.value.specs.Kinds.{okValue, meaning};
+ghost use Rattle.value_instants.specs.Carried.{spanOf};
+ghost use Rattle.operation_quantities.specs.Operands.{operandOf};
+ghost use Rattle.operation_arithmetic.specs.Products as the;
+ghost use Rattle.operation_quantities.specs.declared.Operand.the-variants as X;
+
+pub const MAX_FACTOR: u32 = 999_999;
+
+pub fn max_factor() -> u32
+    ensures { λ r. ⌜ r ≡ the.maxFactor ⌝ }
+{
+    MAX_FACTOR
+}
+
+fn ticks_times(micros: u64, n: u32) -> Span
+    requires { ⌜ (micros ≤ maxDayTime) × (n ≤ the.maxFactor) ⌝ }
+    ensures { λ r. ⌜ r ≡ spanOf (micros * n) ⌝ }
+{
+    spans::times(spans::from_micros(micros), n)
+}
+
+fn day_time_times(t: DayTime, negative: bool, n: u32) -> Outcome
+    requires { ⌜ (t .micros ≤ maxDayTime) × (n ≤ the.maxFactor) ⌝ }
+    ensures { λ r. ⌜ meaning r ≡ the.productOf (X.DayTime t) negative n ⌝ }
+{
+    let p = ticks_times(operands::plus_half(t.negative, t.micros), n);
+    let q = ticks_times(operands::minus_half(t.negative, t.micros), n);
+    if negative {
+        return results::in_ticks(q, p);
+    }
+    results::in_ticks(p, q)
+}
+
+fn year_month_times(m: YearMonth, negative: bool, n: u32) -> Outcome
+    requires { ⌜ n ≤ the.maxFactor ⌝ }
+    ensures { λ r. ⌜ meaning r ≡ the.productOf (X.YearMonth m) negative n ⌝ }
+{
+    let p = operands::plus_half(m.negative, m.months as u64) * n as u64;
+    let q = operands::minus_half(m.negative, m.months as u64) * n as u64;
+    if negative {
+        return results::in_months(q, p);
+    }
+    results::in_months(p, q)
+}
+
+pub fn product(a: Value, negative: bool, n: u32) -> Outcome
+    requires { ⌜ (okValue a ≡ true) × (n ≤ the.maxFactor) ⌝ }
+    ensures { λ r. ⌜ meaning r ≡ the.productOf (operandOf a) negative n ⌝ }
+{
+    let x = operands::operand(a);
+    match x {
+        Operand::Moment(_, _) => results::refused(Refusal::WRONG_KIND),
+        Operand::DayTime(t) => day_time_times(t, negative, n),
+        Operand::YearMonth(m) => year_month_times(m, negative, n),
+    }
+}

@@ -1,0 +1,56 @@
+-- Document 01, "Operations", order and equality: dateTimes by UTC instant; dates by the instant at which they start;
+-- times as if on 1972-12-31, without wrapping round the day; durations by their number. A value without zone counts in
+-- the given offset, which is UTC in the calls of document 01.
+use Prim.Native.Nat.{ℕ, _+_}
+use lib.Dec.{ltb}
+use Rattle.basis.specs.Choice.{pick, both}
+use Rattle.basis.specs.Answer.{Answer, gives, refuses}
+use Rattle.value.specs.Refusals.{outside, wrongKind}
+use Rattle.value.specs.Durations.{plusHalf, minusHalf}
+use Rattle.value.specs.Kinds.{kindOf, okValue}
+use Rattle.value_instants.specs.Ticks.{instantOf}
+use Rattle.value.specs.declared.Offset.{Offset}
+use Rattle.value.specs.declared.Value.{Value}
+use Rattle.operation_quantities.specs.Operands.{operandOf, sameKind}
+use Rattle.operation_quantities.specs.declared.Operand.{Operand}
+use Rattle.operation_quantities.specs.declared.Operand.the-variants.{Moment, DayTime, YearMonth}
+use Rattle.operation_ordering.specs.declared.Compared.{Compared}
+use Rattle.operation_ordering.specs.declared.Compared.the-variants as CV
+
+pub data Order : Type 0 where
+  less : Order
+  equal : Order
+  greater : Order
+
+-- what an answer says: an order, or the number of a refusal
+abbrev pub comparedMeaning : Compared → Answer Order
+comparedMeaning CV.Less = gives less
+comparedMeaning CV.Equal = gives equal
+comparedMeaning CV.Greater = gives greater
+comparedMeaning (CV.Refused r) = refuses (r .number)
+
+-- what a value is ordered by, as the whole number up - down: its instant (a date is at 00:00:00, a time on 1972-12-31),
+-- or a duration's number
+unfoldable pub up : Offset → Operand → ℕ
+up o (Moment k d) = instantOf o d
+up o (DayTime t) = plusHalf (t .negative) (t .micros)
+up o (YearMonth m) = plusHalf (m .negative) (m .months)
+
+unfoldable pub down : Offset → Operand → ℕ
+down o (Moment k d) = 0
+down o (DayTime t) = minusHalf (t .negative) (t .micros)
+down o (YearMonth m) = minusHalf (m .negative) (m .months)
+
+abbrev pub order : ℕ → ℕ → Order
+order p q = pick (ltb p q) less (pick (ltb q p) greater equal)
+
+-- the order of two operands: that of up - down
+abbrev pub operandOrder : Offset → Operand → Operand → Order
+operandOrder o x y = order (up o x + down o y) (up o y + down o x)
+
+unfoldable pub orderIn : Offset → Value → Value → Answer Order
+orderIn o a b =
+    pick
+    (both (okValue a) (okValue b))
+    (pick (sameKind (kindOf a) (kindOf b)) (gives (operandOrder o (operandOf a) (operandOf b))) (refuses wrongKind))
+    (refuses outside)

@@ -1,0 +1,84 @@
+-- A difference is within its kind's bounds exactly where its magnitude is at most the bound.
+use mathlib.Core.Path.{_≡_, refl, ap, sym, _∙_}
+use mathlib.Core.Bool.{Bool, true, false}
+use Prim.Native.Nat.{ℕ, _-_, _≤_, _<_}
+use lib.Dec.{leb, ltb}
+use borrow.Author.Tests.{ltb-true, ltb-false, leb-true, le-leb, lt-leb}
+use Rattle.basis.specs.Choice.{pick}
+use Rattle.basis.specs.Answer.{Answer, gives, refuses}
+use Rattle.basis.proofs.Tests.{every-fails}
+use Rattle.value.specs.Bounds.{maxDayTime, maxYearMonth}
+use Rattle.value.specs.Refusals.{beyondResult}
+use Rattle.value.specs.Values.{okSigned}
+use Rattle.value.specs.Durations.{apart, lessTicks, lessMonths}
+use Rattle.value_instants.specs.Carried.{ticksOf, spanOf}
+use Rattle.value.specs.declared.Span.{Span}
+use Rattle.value.specs.declared.Value.{Value}
+use Rattle.value.specs.declared.Value.the-variants as VV
+use Rattle.value.proofs.Signs.{difference-ok, apart-below, apart-above}
+use Rattle.operation_quantities.specs.Results.{inTicks, inMonths}
+use Rattle.operation_quantities.proofs.Spanned.{ticks-of}
+
+pub bounded : (bound p q : ℕ) → okSigned bound (ltb p q) (apart p q) ≡ leb (apart p q) bound
+unfolding okSigned
+bounded bound p q = go (leb (apart p q) bound) refl
+  where
+    go : (b : Bool) → leb (apart p q) bound ≡ b → okSigned bound (ltb p q) (apart p q) ≡ leb (apart p q) bound
+    go true e = difference-ok bound p q (leb-true (apart p q) bound e) ∙ sym e
+    go false e = every-fails (leb (apart p q) bound) _ e ∙ sym e
+
+-- a sign and a magnitude with its test, as the code makes them
+abbrev madeTicks : Bool → ℕ → Answer Value
+madeTicks n a = pick (leb a maxDayTime) (gives (VV.DayTime (record { negative = n; micros = a }))) (refuses beyondResult)
+
+abbrev madeMonths : Bool → ℕ → Answer Value
+madeMonths n a = pick (leb a maxYearMonth) (gives (VV.YearMonth (record { negative = n; months = a }))) (refuses beyondResult)
+
+module _ (p q : ℕ) (n : Bool) (a : ℕ) (en : ltb p q ≡ n) (ea : apart p q ≡ a) where
+  pub ticks-made : madeTicks n a ≡ inTicks p q
+  unfolding inTicks
+  ticks-made =
+      (λ i. madeTicks (sym en i) (sym ea i))
+      ∙ (λ i. pick (sym (bounded maxDayTime p q) i) (gives (VV.DayTime (lessTicks p q))) (refuses beyondResult))
+
+  pub months-made : madeMonths n a ≡ inMonths p q
+  unfolding inMonths
+  months-made =
+      (λ i. madeMonths (sym en i) (sym ea i))
+      ∙ (λ i. pick (sym (bounded maxYearMonth p q) i) (gives (VV.YearMonth (lessMonths p q))) (refuses beyondResult))
+
+pub months-below : (p q : ℕ) → p < q → madeMonths true (q - p) ≡ inMonths p q
+months-below p q h = months-made p q true (q - p) (apart-below p q h .0) (apart-below p q h .1)
+
+pub months-above : (p q : ℕ) → q ≤ p → madeMonths false (p - q) ≡ inMonths p q
+months-above p q h = months-made p q false (p - q) (apart-above p q h .0) (apart-above p q h .1)
+
+module _ (p q s : Span) where
+  pub ticks-below : ltb (ticksOf p) (ticksOf q) ≡ true → s ≡ spanOf (ticksOf q - ticksOf p) → madeTicks true (ticksOf s) ≡ inTicks (ticksOf p) (ticksOf q)
+  ticks-below e f =
+      let h = apart-below (ticksOf p) (ticksOf q) (ltb-true _ _ e) in
+      ticks-made (ticksOf p) (ticksOf q) true (ticksOf s) e (h .1 ∙ sym (ticks-of s (ticksOf q - ticksOf p) f))
+
+  pub ticks-above : ltb (ticksOf p) (ticksOf q) ≡ false → s ≡ spanOf (ticksOf p - ticksOf q) → madeTicks false (ticksOf s) ≡ inTicks (ticksOf p) (ticksOf q)
+  ticks-above e f =
+      let h = apart-above (ticksOf p) (ticksOf q) (ltb-false _ _ e) in
+      ticks-made (ticksOf p) (ticksOf q) false (ticksOf s) e (h .1 ∙ sym (ticks-of s (ticksOf p - ticksOf q) f))
+
+-- a span beside the longest duration, as the code tests it
+module _ (n : Bool) (m s : Span) (b : Bool) (e : m ≡ spanOf maxDayTime) (f : b ≡ ltb (ticksOf m) (ticksOf s)) where
+  tested : ltb maxDayTime (ticksOf s) ≡ b
+  tested = sym (ap (λ (t : ℕ). ltb t (ticksOf s)) (ticks-of m maxDayTime e)) ∙ sym f
+
+  pub not-longer : b ≡ false → ticksOf s ≤ maxDayTime
+  not-longer h = ltb-false maxDayTime (ticksOf s) (tested ∙ h)
+
+  pub longer-refused : b ≡ true → refuses beyondResult ≡ madeTicks n (ticksOf s)
+  longer-refused h =
+      let t : leb (ticksOf s) maxDayTime ≡ false = lt-leb (ticksOf s) maxDayTime (ltb-true maxDayTime (ticksOf s) (tested ∙ h)) in
+      sym (λ i. pick (t i) (gives (VV.DayTime (record { negative = n; micros = ticksOf s }))) (refuses beyondResult))
+
+  pub not-longer-made : (u : ℕ) → b ≡ false → u ≡ ticksOf s → gives (VV.DayTime (record { negative = n; micros = u })) ≡ madeTicks n (ticksOf s)
+  not-longer-made u h g =
+      let t : leb (ticksOf s) maxDayTime ≡ true = le-leb (ticksOf s) maxDayTime (not-longer h) in
+      (λ i. gives (VV.DayTime (record { negative = n; micros = g i })))
+      ∙ sym (λ i. pick (t i) (gives (VV.DayTime (record { negative = n; micros = ticksOf s }))) (refuses beyondResult))

@@ -1,0 +1,91 @@
+-- A duration of zero moves nothing: PT0S no date, time or dateTime, P0M no date or dateTime.
+use mathlib.Core.Path.{_≡_, refl, ap, sym, _∙_}
+use mathlib.Core.Bool.{Bool, true, false}
+use Prim.Native.Nat.{ℕ, _+_, _-_, _*_, _/_, _%_, _≤_, min}
+use native.Mathlib.Omega.{arith}
+use lib.Dec.{leb}
+use borrow.Author.Tests.{le-leb}
+use Rattle.basis.specs.Choice.{pick, both}
+use Rattle.basis.specs.Answer.{gives, refuses}
+use Rattle.basis.proofs.Tests.{both-left, both-right, both-true}
+use Rattle.calendar.specs.Calendar.{monthDays, monthCount}
+use Rattle.value.specs.Bounds.{minYear, maxYear, maxMicros}
+use Rattle.value.specs.Refusals.{beyondResult}
+use Rattle.value.specs.Values.{okDateTime}
+use Rattle.value.specs.Kinds.{kept, okValue}
+use Rattle.value_instants.specs.Ticks.{localOf}
+use Rattle.value.specs.declared.DateTime.{DateTime}
+use Rattle.value.specs.declared.DayTime as D
+use Rattle.value.specs.declared.YearMonth as Y
+use Rattle.value.specs.declared.Kind.{Kind}
+use Rattle.value.specs.declared.Kind.the-variants as KV
+use Rattle.value.specs.declared.Value.{Value}
+use Rattle.value.specs.declared.Value.the-variants as VV
+use Rattle.value.proofs.Good.{good}
+use Rattle.value_instants.proofs.Locals.{local-in-years, placed-of-local}
+use Rattle.value.proofs.KindParts.{of-kind-kept, date-good, time-good}
+use Rattle.operation_quantities.specs.Operands.{valueOf}
+use Rattle.operation_quantities.specs.Results.{atTicks}
+use Rattle.operation_shifting.specs.Shifts.{monthOf, inMonth, movedTo, moved, movedBy, wrapped, wrappedMicros, shifted, shiftedBy}
+use Rattle.operation_shifting.proofs.Undo.{placed-gives}
+
+abbrev noTime : D.DayTime
+noTime = record { negative = false; micros = 0 }
+
+abbrev noMonths : Y.YearMonth
+noMonths = record { negative = false; months = 0 }
+
+same-local-time : (k : Kind) (d : DateTime) → okDateTime d ≡ true → kept k d ≡ d → atTicks k (localOf d + 0 - 0) (d .zone) ≡ gives (valueOf k d)
+same-local-time k d g e =
+    let l : localOf d + 0 - 0 ≡ localOf d = omega arith in
+    ap (λ (t : ℕ). atTicks k t (d .zone)) l ∙ placed-gives k (localOf d) (d .zone) (local-in-years d g)
+    ∙ (λ i. gives (valueOf k (kept k (placed-of-local d g i)))) ∙ (λ i. gives (valueOf k (e i)))
+
+same-time-of-day : (u : ℕ) → u ≤ maxMicros → wrappedMicros u 0 0 ≡ u
+same-time-of-day u h = omega arith
+
+pub no-time-date : (d : DateTime) → okValue (VV.Date d) ≡ true → shiftedBy KV.Date d noTime ≡ gives (VV.Date d)
+unfolding shifted
+no-time-date d g =
+    let h = date-good (VV.Date d) g d refl in
+    same-local-time KV.Date d (h .0) (of-kind-kept KV.Date d (h .1))
+
+pub no-time-date-time : (d : DateTime) → okValue (VV.DateTime d) ≡ true → shiftedBy KV.DateTime d noTime ≡ gives (VV.DateTime d)
+unfolding shifted okValue
+no-time-date-time d g = same-local-time KV.DateTime d g refl
+
+pub no-time-time : (d : DateTime) → okValue (VV.Time d) ≡ true → shiftedBy KV.Time d noTime ≡ gives (VV.Time d)
+unfolding shifted
+no-time-time d g =
+    let h = time-good (VV.Time d) g d refl in
+    let m = same-time-of-day (d .micros) (good d (h .0) .micros-to) in
+    λ i. gives (VV.Time (record { year = d .year; month = d .month; day = d .day; micros = m i; zone = d .zone }))
+
+-- the month's number gives its year and its month back
+month-back : (y m : ℕ) → 1 ≤ m → m ≤ monthCount → ((y * monthCount + (m - 1) + 0 - 0) / monthCount ≡ y) × ((y * monthCount + (m - 1) + 0 - 0) % monthCount + 1 ≡ m)
+month-back y m h l = (omega arith, omega arith)
+
+same-month : (d : DateTime) → okDateTime d ≡ true → inMonth d (monthOf d + 0 - 0) ≡ d
+same-month d g =
+    let h = good d g .day .date in
+    let b = month-back (d .year) (d .month) (h .month-from) (h .month-to) in
+    let c : min (d .day) (monthDays (d .year) (d .month)) ≡ d .day = omega (arith, h .day-to) in
+    (λ i. record { year = b .0 i; month = b .1 i; day = min (d .day) (monthDays (b .0 i) (b .1 i)); micros = d .micros; zone = d .zone })
+    ∙ (λ i. record { year = d .year; month = d .month; day = c i; micros = d .micros; zone = d .zone })
+
+stays-in-month : (k : Kind) (d : DateTime) → okDateTime d ≡ true → movedTo k d (monthOf d + 0 - 0) ≡ gives (valueOf k d)
+unfolding movedTo
+stays-in-month k d g =
+    let r = good d g .day in
+    let b = month-back (d .year) (d .month) (r .date .month-from) (r .date .month-to) in
+    let t : both (leb minYear (d .year)) (leb (d .year) maxYear) ≡ true = both-true _ _ (le-leb minYear (d .year) (r .year-from)) (le-leb (d .year) maxYear (r .year-to)) in
+    (λ i. pick (both (leb minYear (b .0 i)) (leb (b .0 i) maxYear)) (gives (valueOf k (inMonth d (monthOf d + 0 - 0)))) (refuses beyondResult))
+    ∙ (λ i. pick (t i) (gives (valueOf k (same-month d g i))) (refuses beyondResult))
+
+pub no-months-date : (d : DateTime) → okValue (VV.Date d) ≡ true → movedBy KV.Date d noMonths ≡ gives (VV.Date d)
+unfolding moved
+no-months-date d g = stays-in-month KV.Date d (date-good (VV.Date d) g d refl .0)
+
+pub no-months-date-time : (d : DateTime) → okValue (VV.DateTime d) ≡ true → movedBy KV.DateTime d noMonths ≡ gives (VV.DateTime d)
+unfolding moved okValue
+no-months-date-time d g = stays-in-month KV.DateTime d g

@@ -1,3 +1,0 @@
-pub mod Replies
-pub mod Parts
-pub mod Carried

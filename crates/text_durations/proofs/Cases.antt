@@ -1,0 +1,79 @@
+-- Worked cases by computation, beside those of document 01's table (crate `calls_cases`): fractions and totals at their bounds,
+-- and where reading stops.
+use mathlib.Core.Path.{_≡_, refl}
+use mathlib.Core.Bool.{true, false}
+use Prim.Native.Nat.{ℕ}
+use Prim.Native.String.{String}
+use Rattle.basis.specs.Choice.{both}
+use Rattle.basis.specs.Letters.{bytes}
+use Rattle.basis.specs.Answer.{gives, refuses}
+use Rattle.value.specs.declared.Value.the-variants as VV
+use Rattle.numerals.specs.Reading.{isDigit, number, fractionAt}
+use Rattle.numerals.specs.Writing.{digits, shortest, decimal, stripped, fractionText}
+use Rattle.text_durations.specs.Forms.{weight, dayTime, yearMonth}
+use Rattle.text_durations.specs.Walks.{component, components, shapeFrom, shape, counted, readBy, readDayTime, readYearMonth}
+use Rattle.text_durations.specs.Carried.{shapeEnd}
+use Rattle.text_durations.specs.Spelling.{shown, shownAll, left, body, durationText, dayTimeText, yearMonthText}
+
+-- the greatest number of months below zero, and none
+pub writes-most-months : yearMonthText (record { negative = true; months = 1_000_000 }) ≡ bytes "-P83333Y4M"
+unfolding digits shortest decimal stripped fractionText both weight shown shownAll left body durationText
+writes-most-months = refl
+
+pub writes-no-months : yearMonthText (record { negative = false; months = 0 }) ≡ bytes "P0M"
+unfolding durationText
+writes-no-months = refl
+
+-- a fraction: of six digits it reads, of seven it is 3, also where the total is beyond the bound; of none it has no shape
+pub reads-fraction : readDayTime (bytes "-P1DT0.000001S") ≡ gives (VV.DayTime (record { negative = true; micros = 86_400_000_001 }))
+unfolding isDigit number fractionAt both weight component components shapeFrom shape counted readBy
+reads-fraction = refl
+
+pub writes-fraction : dayTimeText (record { negative = true; micros = 86_400_500_000 }) ≡ bytes "-P1DT0.5S"
+unfolding digits shortest decimal stripped fractionText both weight shown shownAll left body durationText
+writes-fraction = refl
+
+pub seven-digits : readDayTime (bytes "PT99999999999999999999.0000000S") ≡ refuses 3
+unfolding isDigit number fractionAt both weight component components shapeFrom shape counted readBy
+seven-digits = refl
+
+pub no-fraction-digit : readDayTime (bytes "PT1.S") ≡ refuses 1
+unfolding isDigit number fractionAt both weight component components shapeFrom shape counted readBy
+no-fraction-digit = refl
+
+-- 10^18 microseconds and one more, and a component of many digits
+pub most-seconds : readDayTime (bytes "PT1000000000000S") ≡ gives (VV.DayTime (record { negative = false; micros = 1_000_000_000_000_000_000 }))
+unfolding isDigit number fractionAt both weight component components shapeFrom shape counted readBy
+most-seconds = refl
+
+pub one-tick-more : readDayTime (bytes "-PT1000000000000.000001S") ≡ refuses 2
+unfolding isDigit number fractionAt both weight component components shapeFrom shape counted readBy
+one-tick-more = refl
+
+pub many-digits : readDayTime (bytes "P00000000000000000000000000000000001D") ≡ gives (VV.DayTime (record { negative = false; micros = 86_400_000_000 }))
+unfolding isDigit number fractionAt both weight component components shapeFrom shape counted readBy
+many-digits = refl
+
+-- where reading stops: at the first byte that no good text could have there, or at the end of a text that stops short
+abbrev stops : String → ℕ
+stops t = shapeEnd dayTime (bytes t)
+
+pub places :
+    (stops "" ≡ 0)
+    × (stops "-" ≡ 1)
+    × (stops "P" ≡ 1)
+    × (stops "PT" ≡ 2)
+    × (stops "P1DT" ≡ 4)
+    × (stops "P1" ≡ 2)
+    × (stops "P1Y" ≡ 2)
+    × (stops "P1D1H" ≡ 3)
+    × (stops "PT1M1H" ≡ 5)
+    × (stops "PT1.S" ≡ 4)
+    × (stops "PT1.5X" ≡ 5)
+    × (stops "PT1.5SX" ≡ 6)
+    × (stops "P1DX" ≡ 3)
+    × (stops "X" ≡ 0)
+    × (shapeEnd yearMonth (bytes "P1YT") ≡ 3)
+    × (shapeEnd yearMonth (bytes "P1M1Y") ≡ 3)
+unfolding isDigit number fractionAt both weight component components shapeFrom shape
+places = (refl, refl, refl, refl, refl, refl, refl, refl, refl, refl, refl, refl, refl, refl, refl, refl)

@@ -1,0 +1,41 @@
+-- What one of a component counts: at least one, and a day counts most. A tick is the last digit of a fraction.
+use mathlib.Core.Path.{_≡_, refl}
+use mathlib.Core.Bool.{Bool, true, false}
+use Prim.Native.Nat.{ℕ, _+_, _*_, _/_, _^_, _≤_, _<_}
+use native.Mathlib.Omega.{arith}
+use lib.Dec.{eqb}
+use Rattle.basis.specs.Choice.{both}
+use Rattle.value.specs.Bounds.{secondTicks, dayTicks}
+use Rattle.numerals.specs.Reading.{fractionDigits}
+use Rattle.text_durations.specs.Forms.{weight, years, days, hours, minutes}
+use Rattle.text_durations.specs.Carried.{Roomy}
+
+pub fraction-of-second : 10 ^ fractionDigits ≡ secondTicks
+fraction-of-second = refl
+
+pub day-weight : weight false days ≡ dayTicks / secondTicks
+unfolding weight
+day-weight = refl
+
+-- between one and a day
+abbrev Between : ℕ → Type 0
+Between w = (1 ≤ w) × (w ≤ dayTicks / secondTicks)
+
+pub weight-between : (time : Bool) (c : ℕ) → Between (weight time c)
+unfolding weight
+weight-between time c = go (eqb c years) (eqb c days) (eqb c hours) (both time (eqb c minutes)) refl refl refl refl
+  where
+    go : (a b d e : Bool) → eqb c years ≡ a → eqb c days ≡ b → eqb c hours ≡ d → both time (eqb c minutes) ≡ e → Between (weight time c)
+    go true b d e p q r x = rw p (omega arith, omega arith)
+    go false true d e p q r x = rw (p, q) (omega arith, omega arith)
+    go false false true e p q r x = rw (p, q, r) (omega arith, omega arith)
+    go false false false true p q r x = rw (p, q, r, x) (omega arith, omega arith)
+    go false false false false p q r x = rw (p, q, r, x) (omega arith, omega arith)
+
+-- a cap with room for a day more has room for a digit more
+pub roomy-digit : (cap : ℕ) → Roomy cap → cap * 10 + 9 < 2 ^ 64
+unfolding weight
+roomy-digit cap h = omega arith
+
+pub weight-some : {w : ℕ} (time : Bool) (c : ℕ) → w ≡ weight time c → 1 ≤ w
+weight-some time c e = rw e (weight-between time c .0)

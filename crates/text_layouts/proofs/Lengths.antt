@@ -1,0 +1,37 @@
+-- No text of a kind is longer than the longest, and one is as long.
+use mathlib.Core.Path.{_≡_, refl}
+use mathlib.Core.List.{List, [], _∷_}
+use Prim.Native.Nat.{ℕ, _≤_}
+use native.Mathlib.Omega.{arith}
+use lib.ListN.{length, length-append}
+use Rattle.basis.specs.Letters.{bytes}
+use Rattle.value.specs.declared.Offset.the-variants.{East}
+use Rattle.value.specs.declared.Zone.the-variants.{At}
+use Rattle.value.specs.declared.DateTime.{DateTime}
+use Rattle.value.specs.declared.Kind.{Kind}
+use Rattle.value.specs.declared.Kind.the-variants as KV
+use Rattle.numerals.specs.Writing.{longest, digits, stripped, fractionText}
+use Rattle.text_scan.specs.Scanning.{layout, isPair}
+use Rattle.text_layouts.specs.Writing.{partText, pairOf, layoutText, kindText}
+use Rattle.text_layouts.specs.Carried.{widths}
+use Rattle.text_layouts.proofs.Pieces.{text-short, wide}
+
+by-widths : (ps : List ℕ) (d : DateTime) → length (layoutText ps d) ≤ widths ps
+unfolding layoutText widths
+by-widths [] d = omega arith
+by-widths (p ∷ ps) d = omega (arith, length-append (partText p d) (layoutText ps d), text-short p d, by-widths ps d)
+
+pub text-fits : (k : Kind) (d : DateTime) → length (kindText k d) ≤ longest
+text-fits k d = omega (arith, by-widths (layout k) d, wide k)
+
+-- 9999-12-31T23:59:59.999999+14:00
+abbrev last : DateTime
+last = record { year = 9999; month = 12; day = 31; micros = 86_399_999_999; zone = At (East 840) }
+
+pub last-text : kindText KV.DateTime last ≡ bytes "9999-12-31T23:59:59.999999+14:00"
+unfolding layoutText partText pairOf isPair digits stripped fractionText
+last-text = refl
+
+pub longest-reached : length (kindText KV.DateTime last) ≡ longest
+unfolding layoutText partText pairOf isPair digits stripped fractionText
+longest-reached = refl

@@ -1,0 +1,33 @@
+// Dates, times and dateTimes from text and to text, by the layout of their kind.
+use numerals::Text;
+use value::DateTime;
+use value::Kind;
+use value::Outcome;
+ghost use mathlib.Core.Path.{_≡_};
+ghost use Rattle.value.specs.Kinds.{meaning};
+ghost use Rattle.numerals.specs.Carried.{Holds};
+ghost use Rattle.text_layouts.specs.Reading.{readLayout};
+ghost use Rattle.text_layouts.specs.Writing.{kindText};
+
+mod writing; // writing.rt: the parts of a record as text
+
+// What a text of a kind reads as. The durations have no layout, so that for their kinds every text is refused with 1.
+pub fn read_layout(kind: Kind, s: &[u8]) -> Outcome
+    ensures { λ r. ⌜ meaning r ≡ readLayout kind (now (s .entry)) ⌝ }
+{
+    let t = text_scan::parts_of(kind, s);
+    text_checks::judged(kind, s.len(), t)
+}
+
+// The text of a record as a value of a kind: what the parts of its layout say of the record. The durations have none.
+pub fn layout_text(kind: Kind, d: DateTime) -> Text
+    ensures { λ r. ⌜ Holds (r .bytes) (r .len) (kindText kind d) ⌝ }
+{
+    match kind {
+        Kind::Date => writing::parts(b"Y-M-Dz", d),
+        Kind::Time => writing::parts(b"h:m:sfz", d),
+        Kind::DateTime => writing::parts(b"Y-M-DTh:m:sfz", d),
+        Kind::DayTimeDuration => Text::new(),
+        Kind::YearMonthDuration => Text::new(),
+    }
+}

@@ -1,0 +1,156 @@
+-- Document 01, "Reading text", check 1, the shape: the parts of a text, found before they are judged. A kind is a layout,
+-- the letters of its parts with the bytes that stand between them, and a text's parts are found one after the other along
+-- it. A byte past the text's end counts as 0, which is no digit and no punctuation.
+use mathlib.Core.Bool.{Bool, true, false}
+use mathlib.Core.List.{List, [], _∷_}
+use Prim.Native.Nat.{ℕ, _+_, _-_, _*_, _/_, _%_}
+use Prim.Native.Char.{code}
+use lib.Dec.{eqb, ltb}
+use lib.ListN.{length}
+use Rattle.basis.specs.Choice.{both, every, pick}
+use Rattle.basis.specs.Letters.{bytes}
+use Rattle.value.specs.Bounds.{secondTicks, minuteSeconds, hourMinutes, minuteTicks, hourTicks}
+use Rattle.value.specs.Kinds.{template}
+use Rattle.value.specs.declared.DateTime.{DateTime}
+use Rattle.value.specs.declared.Kind.{Kind}
+use Rattle.value.specs.declared.Kind.the-variants as KV
+use Rattle.numerals.specs.Reading.{isDigit, Number, numeralAt, at, fractionAt}
+use Rattle.numerals.specs.declared.Fraction.{Fraction}
+use Rattle.text_scan.specs.declared.Scan.{Scan}
+use Rattle.text_scan.specs.declared.Pair.{Pair}
+use Rattle.text_scan.specs.declared.Year.{Year}
+
+-- Y year, M month, D day, h hour, m minute, s second, f fraction, z zone; any other byte stands for itself.
+-- The durations have no layout.
+abbrev pub layout : Kind → List ℕ
+layout KV.Date = bytes "Y-M-Dz"
+layout KV.Time = bytes "h:m:sfz"
+layout KV.DateTime = bytes "Y-M-DTh:m:sfz"
+layout KV.DayTimeDuration = []
+layout KV.YearMonthDuration = []
+
+-- The parts found so far, the offset that is reached, and whether every part up to there was found; where not, the offset is
+-- that of the first byte at which no text of good shape could go on. The zone is its sign (0: there is none), hours and
+-- minutes.
+abbrev pub found : Bool → ℕ → ℕ → ℕ → ℕ → ℕ → ℕ → ℕ → Bool → ℕ → ℕ → ℕ → ℕ → Bool → Scan
+found n y mo d h mi se u l z zh zm i g =
+    record { negative = n; year = y; month = mo; day = d; hour = h; minute = mi; second = se; part = u; long = l; sign = z; zh = zh; zm = zm; at = i; good = g }
+
+-- before the first byte: the template's fields, for the parts that the kind has not, and no zone
+abbrev pub startOf : DateTime → Scan
+startOf d =
+    found false (d .year) (d .month) (d .day) (d .micros / hourTicks) (d .micros / minuteTicks % hourMinutes) (d .micros / secondTicks % minuteSeconds) (d .micros % secondTicks) false 0 0 0 0 true
+
+abbrev pub reached : Scan → ℕ → Bool → Scan
+reached t i g = found (t .negative) (t .year) (t .month) (t .day) (t .hour) (t .minute) (t .second) (t .part) (t .long) (t .sign) (t .zh) (t .zm) i g
+
+abbrev pub withYear : Scan → Bool → Year → Scan
+withYear t n y = found n (y .value) (t .month) (t .day) (t .hour) (t .minute) (t .second) (t .part) (t .long) (t .sign) (t .zh) (t .zm) (y .at) (y .good)
+
+abbrev pub withFraction : Scan → Fraction → Scan
+withFraction t f = found (t .negative) (t .year) (t .month) (t .day) (t .hour) (t .minute) (t .second) (f .ticks) (f .long) (t .sign) (t .zh) (t .zm) (f .end) true
+
+abbrev pub withZoneParts : Scan → ℕ → ℕ → ℕ → ℕ → Scan
+withZoneParts t z h m i = found (t .negative) (t .year) (t .month) (t .day) (t .hour) (t .minute) (t .second) (t .part) (t .long) z h m i true
+
+-- two digits at i, or the first offset at which there is none
+unfoldable pub pairAt : List ℕ → ℕ → Pair
+pairAt s i =
+    pick (isDigit (at s i))
+    (pick (isDigit (at s (i + 1))) (record { value = (at s i - code "0") * 10 + (at s (i + 1) - code "0"); at = i + 2; good = true })
+    (record { value = 0; at = i + 1; good = false }))
+    (record { value = 0; at = i; good = false })
+
+-- M, D, h, m, s: two digits
+unfoldable pub isPair : ℕ → Bool
+isPair p = pick (eqb p (code "M")) true (pick (eqb p (code "D")) true (pick (eqb p (code "h")) true (pick (eqb p (code "m")) true (eqb p (code "s")))))
+
+unfoldable pub withPair : ℕ → Scan → Pair → Scan
+withPair p t g =
+    pick (eqb p (code "M")) (found (t .negative) (t .year) (g .value) (t .day) (t .hour) (t .minute) (t .second) (t .part) (t .long) (t .sign) (t .zh) (t .zm) (g .at) (g .good))
+    (pick (eqb p (code "D")) (found (t .negative) (t .year) (t .month) (g .value) (t .hour) (t .minute) (t .second) (t .part) (t .long) (t .sign) (t .zh) (t .zm) (g .at) (g .good))
+    (pick (eqb p (code "h")) (found (t .negative) (t .year) (t .month) (t .day) (g .value) (t .minute) (t .second) (t .part) (t .long) (t .sign) (t .zh) (t .zm) (g .at) (g .good))
+    (pick (eqb p (code "m")) (found (t .negative) (t .year) (t .month) (t .day) (t .hour) (g .value) (t .second) (t .part) (t .long) (t .sign) (t .zh) (t .zm) (g .at) (g .good))
+    (found (t .negative) (t .year) (t .month) (t .day) (t .hour) (t .minute) (g .value) (t .part) (t .long) (t .sign) (t .zh) (t .zm) (g .at) (g .good)))))
+
+-- f: nothing, or a point and at least one digit
+abbrev pub fractionIs : Scan → ℕ → Fraction → Scan
+fractionIs t i f = pick (eqb (f .end) i) (reached t i false) (withFraction t f)
+
+unfoldable pub fractionPart : List ℕ → Scan → Scan
+fractionPart s t = pick (eqb (at s (t .at)) (code ".")) (fractionIs t (t .at + 1) (fractionAt s (t .at + 1))) t
+
+-- z: the text's end, or Z, or a sign with hh:mm
+abbrev pub zoneMinutes : Scan → ℕ → Pair → Pair → Scan
+zoneMinutes t z h m = pick (m .good) (withZoneParts t z (h .value) (m .value) (m .at)) (reached t (m .at) false)
+
+abbrev pub zoneHours : List ℕ → Scan → ℕ → Pair → Scan
+zoneHours s t z h =
+    pick (h .good) (pick (eqb (at s (h .at)) (code ":")) (zoneMinutes t z h (pairAt s (h .at + 1))) (reached t (h .at) false)) (reached t (h .at) false)
+
+unfoldable pub zoneSigned : List ℕ → Scan → ℕ → Scan
+zoneSigned s t z = zoneHours s t z (pairAt s (t .at + 1))
+
+unfoldable pub zonePart : List ℕ → Scan → Scan
+zonePart s t =
+    pick (eqb (length s) (t .at)) t
+    (pick (eqb (at s (t .at)) (code "Z")) (withZoneParts t (code "Z") 0 0 (t .at + 1))
+    (pick (eqb (at s (t .at)) (code "+")) (zoneSigned s t (code "+")) (pick (eqb (at s (t .at)) (code "-")) (zoneSigned s t (code "-")) (reached t (t .at) false))))
+
+-- What is kept of a year's number: all of it here; in the code less (Carried.antt).
+abbrev pub uncapped : ℕ → ℕ
+uncapped n = n
+
+-- a year has four digits, or more
+abbrev pub yearDigits : ℕ
+yearDigits = 4
+
+-- its first four digits are all 0, or it has more and the first is 0
+unfoldable pub fourZeros : List ℕ → ℕ → Bool
+fourZeros s i =
+    every
+    (eqb (at s i) (code "0")
+    ∷ eqb (at s (i + 1)) (code "0")
+    ∷ eqb (at s (i + 2)) (code "0")
+    ∷ eqb (at s (i + 3)) (code "0")
+    ∷ [])
+
+abbrev pub leadingZero : List ℕ → ℕ → ℕ → Bool
+leadingZero s i n = both (ltb yearDigits n) (eqb (at s i) (code "0"))
+
+module _ (keep : ℕ → ℕ) where
+  -- four digits, not all 0; or more, the first not 0
+  abbrev pub yearIs : List ℕ → ℕ → Number → Year
+  yearIs s i n =
+      pick (ltb (n .count) yearDigits) (record { value = 0; at = i + n .count; good = false })
+      (pick (fourZeros s i) (record { value = 0; at = i + 3; good = false })
+      (pick (leadingZero s i (n .count)) (record { value = 0; at = i + 4; good = false })
+      (record { value = keep (n .value); at = i + n .count; good = true })))
+
+  unfoldable pub yearAt : List ℕ → ℕ → Year
+  yearAt s i = yearIs s i (numeralAt s i)
+
+  -- Y: a year, after an optional minus
+  unfoldable pub yearPart : List ℕ → Scan → Scan
+  yearPart s t = pick (eqb (at s (t .at)) (code "-")) (withYear t true (yearAt s (t .at + 1))) (withYear t false (yearAt s (t .at)))
+
+  -- one letter of a layout
+  unfoldable pub partAt : ℕ → List ℕ → Scan → Scan
+  partAt p s t =
+      pick (eqb p (code "Y")) (yearPart s t)
+      (pick (eqb p (code "f")) (fractionPart s t)
+      (pick (eqb p (code "z")) (zonePart s t)
+      (pick (isPair p) (withPair p t (pairAt s (t .at))) (pick (eqb (at s (t .at)) p) (reached t (t .at + 1) true) (reached t (t .at) false)))))
+
+  -- after a part that is not there nothing more is looked for
+  abbrev pub partOf : ℕ → List ℕ → Scan → Scan
+  partOf p s t = pick (t .good) (partAt p s t) t
+
+  -- the parts of a layout, one after the other
+  unfoldable pub scanned : List ℕ → List ℕ → Scan → Scan
+  scanned [] s t = t
+  scanned (p ∷ ps) s t = scanned ps s (partOf p s t)
+
+  -- the parts of a text of a kind
+  abbrev pub partsOf : Kind → List ℕ → Scan
+  partsOf k s = scanned (layout k) s (startOf (template k))

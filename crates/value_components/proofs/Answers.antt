@@ -1,0 +1,24 @@
+-- Answers of equal meaning are equal, so that a contract on the meaning determines the answer.
+use mathlib.Core.Path.{_≡_, refl, ap}
+use Rattle.basis.specs.Answer.{Answer, gives, refuses}
+use Rattle.value_components.specs.Components as components
+use Rattle.value_components.specs.Components.{ComponentParts, ofDate, ofTime, ofDateTime, ofDuration}
+use Rattle.value_components.specs.declared.Components.{Components}
+use Rattle.value_components.specs.declared.Components.the-variants as CV
+
+abbrev componentsFrom : Answer ComponentParts → Components
+componentsFrom (gives (ofDate d z)) = CV.Date d z
+componentsFrom (gives (ofTime c z)) = CV.Time c z
+componentsFrom (gives (ofDateTime d c z)) = CV.DateTime d c z
+componentsFrom (gives (ofDuration l)) = CV.Duration l
+componentsFrom (refuses n) = CV.Refused (record { number = n })
+
+components-back : (a : Components) → componentsFrom (components.componentsMeaning a) ≡ a
+components-back (CV.Date d z) = refl
+components-back (CV.Time c z) = refl
+components-back (CV.DateTime d c z) = refl
+components-back (CV.Duration l) = refl
+components-back (CV.Refused r) = refl
+
+pub components-determined : (a b : Components) → components.componentsMeaning a ≡ components.componentsMeaning b → a ≡ b
+components-determined a b e = cc (ap componentsFrom e, components-back a, components-back b)

@@ -1,0 +1,72 @@
+-- The record at a local time has that local time, and the local time of a record gives the record back.
+use mathlib.Core.Path.{_≡_, refl, ap, sym, _∙_}
+use mathlib.Core.Bool.{Bool, true, false}
+use Prim.Native.Nat.{ℕ, _+_, _-_, _*_, _/_, _%_, _≤_, _<_}
+use native.Mathlib.Omega.{arith}
+use lib.Dec.{leb, ltb}
+use borrow.Author.Tests.{leb-true, le-leb}
+use Rattle.basis.specs.Choice.{pick, both}
+use Rattle.basis.proofs.Tests.{both-left, both-right, both-true}
+use Rattle.calendar.specs.declared.Date.{Date}
+use Rattle.calendar.specs.Calendar.{GoodDate, dayNumber, dayOf, dateOf}
+use Rattle.calendar.proofs.Dates.{date-day, date-good, day-date}
+use Rattle.value.specs.Bounds.{minYear, maxYear, maxMicros, dayTicks}
+use Rattle.value.specs.Values.{okZone, okDateTime}
+use Rattle.value.specs.Values.{dateIn}
+use Rattle.value_instants.specs.Ticks.{localOf, atLocal, inYears, placedAt}
+use Rattle.value.specs.declared.Zone.{Zone}
+use Rattle.value.specs.declared.DateTime.{DateTime}
+use Rattle.value_instants.specs.declared.Placed.the-variants as PV
+use Rattle.value.proofs.Good.{Good, GoodDay, good, record-ok}
+
+pub local-of-placed : (t : ℕ) (z : Zone) → localOf (atLocal t z) ≡ t
+unfolding localOf
+local-of-placed t z = omega (arith, day-date (t / dayTicks))
+
+pub placed-ok : (t : ℕ) (z : Zone) → inYears t ≡ true → okZone z ≡ true → okDateTime (atLocal t z) ≡ true
+unfolding inYears
+placed-ok t z e h =
+    record-ok (atLocal t z)
+    (record {
+      day =
+          record {
+            date = date-good (t / dayTicks);
+            year-from = leb-true _ _ (both-left _ _ e);
+            year-to = leb-true _ _ (both-right _ _ e);
+          };
+      micros-to = omega arith;
+      zone = h;
+    })
+
+-- the day and the time of day of a local time
+day-of-local : (n u : ℕ) → u ≤ maxMicros → (n * dayTicks + u) / dayTicks ≡ n
+day-of-local n u h = omega arith
+
+time-of-local : (n u : ℕ) → u ≤ maxMicros → (n * dayTicks + u) % dayTicks ≡ u
+time-of-local n u h = omega arith
+
+date-of-local : (d : DateTime) → okDateTime d ≡ true → dateOf (localOf d / dayTicks) ≡ dateIn d
+unfolding localOf
+date-of-local d e =
+    let g = good d e in
+    ap dateOf (day-of-local (dayOf (dateIn d)) (d .micros) (g .micros-to)) ∙ date-day (dateIn d) (g .day .date)
+
+pub placed-of-local : (d : DateTime) → okDateTime d ≡ true → atLocal (localOf d) (d .zone) ≡ d
+unfolding localOf
+placed-of-local d e =
+    let g = good d e in
+    let b : dateOf (localOf d / dayTicks) ≡ dateIn d = date-of-local d e in
+    let u : localOf d % dayTicks ≡ d .micros = time-of-local (dayOf (dateIn d)) (d .micros) (g .micros-to) in
+    λ i. record { year = b i .year; month = b i .month; day = b i .day; micros = u i; zone = d .zone }
+
+pub local-in-years : (d : DateTime) → okDateTime d ≡ true → inYears (localOf d) ≡ true
+unfolding inYears
+local-in-years d e =
+    let g = good d e in
+    let b : dateOf (localOf d / dayTicks) ≡ dateIn d = date-of-local d e in
+    rw b (both-true _ _ (le-leb _ _ (g .day .year-from)) (le-leb _ _ (g .day .year-to)))
+
+-- equal local times and zones are one record
+pub same-local : (a b : DateTime) → okDateTime a ≡ true → okDateTime b ≡ true → localOf a ≡ localOf b → a .zone ≡ b .zone → a ≡ b
+same-local a b ga gb e z =
+    sym (placed-of-local a ga) ∙ (λ i. atLocal (e i) (z i)) ∙ placed-of-local b gb

@@ -1,0 +1,44 @@
+-- Offsets and local times of records within the bounds: an offset is at most the bound either way, a local time at least a day.
+use mathlib.Core.Path.{_≡_}
+use mathlib.Core.Bool.{true}
+use Prim.Native.Nat.{ℕ, _+_, _*_, _≤_, _<_}
+use native.Mathlib.Omega.{arith}
+use borrow.Author.Tests.{leb-true}
+use Rattle.basis.specs.Choice.{every}
+use Rattle.basis.proofs.Tests.{both-left, both-right}
+use Rattle.calendar.specs.Calendar.{total, yearDays}
+use Rattle.value.specs.Bounds.{maxYear, maxZone, dayTicks}
+use Rattle.value.specs.Values.{dateIn, okOffset, okDateTime}
+use Rattle.value_instants.specs.Ticks.{localOf, east, west}
+use Rattle.value.specs.declared.Offset.{Offset}
+use Rattle.value.specs.declared.Offset.the-variants.{East, West}
+use Rattle.value.specs.declared.DateTime.{DateTime}
+use Rattle.value.proofs.Good.{good, numbered}
+
+-- an offset is at most the bound, either way
+pub east-to : (o : Offset) → okOffset o ≡ true → east o ≤ maxZone
+unfolding okOffset every
+east-to (East m) e = leb-true _ _ e
+east-to (West m) e = omega arith
+
+pub west-to : (o : Offset) → okOffset o ≡ true → west o ≤ maxZone
+unfolding okOffset every
+west-to (East m) e = omega arith
+west-to (West m) e = leb-true _ _ (both-left _ _ (both-right _ _ e))
+
+-- the local time of a record: at least a day, and less than the days of the years
+pub record Timed (d : DateTime) : Type 0 where
+  pub local-from : dayTicks ≤ localOf d
+  pub local-to : localOf d < total yearDays (maxYear + 1) * dayTicks
+  pub local-few : localOf d < 366 * (maxYear + 1) * dayTicks
+
+pub timed : (d : DateTime) → okDateTime d ≡ true → Timed d
+unfolding localOf
+timed d e =
+    let g = good d e in
+    let n = numbered (dateIn d) (g .day) in
+    record {
+      local-from = omega (arith, n .days-from);
+      local-to = omega (arith, n .days-to, g .micros-to);
+      local-few = omega (arith, n .days-few, g .micros-to);
+    }
