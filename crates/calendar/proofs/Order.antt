@@ -9,7 +9,7 @@ use borrow.Author.Tests.{eqb-true, eqb-false, ltb-true, ltb-false, lt-ltb}
 use Rattle.basis.specs.Choice.{pick}
 use Rattle.calendar.specs.declared.Date.{Date}
 use Rattle.calendar.specs.Calendar.{total, yearDays, monthRow, leapRow, dayOf, GoodDate, before}
-use Rattle.calendar.proofs.Periods.{run-below}
+use Rattle.calendar.proofs.Periods.{stretch-below}
 use Rattle.calendar.proofs.Years.{year-starts, year-ends, years-grow}
 
 pub earlier-year : (d e : Date) → GoodDate d → d .year < e .year → dayOf d < dayOf e
@@ -19,7 +19,7 @@ earlier-year d e g h =
 pub earlier-month : (d e : Date) → GoodDate d → d .year ≡ e .year → d .month < e .month → dayOf d < dayOf e
 earlier-month d e g q h =
     let f : ℕ → ℕ = monthRow (leapRow (d .year)) in
-    let r : total f (d .month - 1) + (d .day - 1) < total f (e .month - 1) = run-below f (d .month - 1) (e .month - 1) (d .day - 1) (omega (arith, g .month-from)) (omega (arith, g .day-from, g .day-to)) in
+    let r : total f (d .month - 1) + (d .day - 1) < total f (e .month - 1) = stretch-below f (d .month - 1) (e .month - 1) (d .day - 1) (omega (arith, g .month-from)) (omega (arith, g .day-from, g .day-to)) in
     let y : total yearDays (d .year) ≡ total yearDays (e .year) = ap (total yearDays) q in
     let m : total f (e .month - 1) ≡ total (monthRow (leapRow (e .year))) (e .month - 1) = ap (λ (x : ℕ). total (monthRow (leapRow x)) (e .month - 1)) q in
     omega arith

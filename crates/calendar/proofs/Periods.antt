@@ -40,8 +40,8 @@ module _ (f : ℕ → ℕ) where
       rw e at g
 
   -- a day of one period is numbered below every later period
-  pub run-below : (i j n : ℕ) → i < j → n < f i → total f i + n < total f j
-  run-below i j n h hn = omega (arith, total-suc i, total-grows (suc i) j h)
+  pub stretch-below : (i j n : ℕ) → i < j → n < f i → total f i + n < total f j
+  stretch-below i j n h hn = omega (arith, total-suc i, total-grows (suc i) j h)
 
   pub below : (i j n : ℕ) → total f i + n < total f j → i < j
   below i j n h = go (ltb i j) refl
@@ -82,7 +82,7 @@ module _ (f : ℕ → ℕ) where
   one-period i j n m hn hm e = go (ltb i j) (ltb j i) refl refl
     where
       later : (i j n m : ℕ) → i < j → n < f i → total f i + n ≡ total f j + m → ⊥
-      later i j n m h hn e = omega (arith, run-below i j n h hn)
+      later i j n m h hn e = omega (arith, stretch-below i j n h hn)
 
       go : (a b : Bool) → ltb i j ≡ a → ltb j i ≡ b → i ≡ j
       go true b ea eb = absurd (later i j n m (ltb-true i j ea) hn e)
@@ -93,7 +93,7 @@ module _ (f : ℕ → ℕ) where
   pub found-first : (fuel n : ℕ) → n < total f fuel → Found 0 n (periodOf f fuel 0 n)
   found-first fuel n h = found fuel 0 n (rw zero-add (omega (arith, total-zero)))
 
-  -- what `periodOf` finds from the first period on is the one place with the number
+  -- what `periodOf` finds from the first period on is the one period with the number
   pub placed : (fuel n j l : ℕ) → n < total f fuel → l < f j → total f j + l ≡ n
       → periodOf f fuel 0 n ≡ record { number = j; left = l }
   placed fuel n j l h hl e =

@@ -13,12 +13,12 @@ use Rattle.basis.specs.Choice.{pick}
 use Rattle.basis.specs.Letters.{bytes}
 use Rattle.numerals.specs.Reading.{Number, numeralAt}
 use Rattle.numerals.proofs.Shares.{within}
-use Rattle.numerals.proofs.DigitRows.{run-le, run-lt}
+use Rattle.numerals.proofs.Stretches.{stretch-le, stretch-lt}
 use Rattle.numerals.proofs.Powers.{widened}
 use Rattle.value.specs.declared.Kind.{Kind}
 use Rattle.condition_words.specs.Words.{stretchEnd, skipped, wordAt, same}
 use Rattle.condition_symbols.specs.Symbols as the
-use Rattle.condition_words.proofs.Running.{word-end, run-from, run-within, run-past}
+use Rattle.condition_words.proofs.Stretching.{word-end, stretch-from, stretch-within, stretch-past}
 use Rattle.condition_words.proofs.Sameness.{lengths-differ}
 use Rattle.condition_words.specs.declared.Class.{Class}
 use Rattle.condition_words.specs.declared.Class.the-variants.{Letter, Unquoted, Space}
@@ -74,15 +74,15 @@ pub stands-at : (s : List ℕ) (p c : ℕ) → eqb (getD s p 0) c ≡ true → l
 stands-at s p c e k = within s p c (eqb-true _ _ e) (leb-true 1 c k)
 
 skips-from : (s : List ℕ) (at : ℕ) → at ≤ skipped s at
-skips-from s at = run-from Space s at
+skips-from s at = stretch-from Space s at
 
--- a run that is not empty ends within the text
-run-in : (c : Class) (s : List ℕ) (p : ℕ) → p < stretchEnd c s p → stretchEnd c s p ≤ length s
-run-in c s p h = by (leb (length s) p) refl
+-- a stretch that is not empty ends within the text
+stretch-in : (c : Class) (s : List ℕ) (p : ℕ) → p < stretchEnd c s p → stretchEnd c s p ≤ length s
+stretch-in c s p h = by (leb (length s) p) refl
   where
     by : (b : Bool) → leb (length s) p ≡ b → stretchEnd c s p ≤ length s
-    by true e = absurd (omega (arith, run-past c s p (leb-true _ _ e)))
-    by false e = let k : p < length s = leb-false _ _ e in run-within c s p (omega arith)
+    by true e = absurd (omega (arith, stretch-past c s p (leb-true _ _ e)))
+    by false e = let k : p < length s = leb-false _ _ e in stretch-within c s p (omega arith)
 
 -- a word that is the same as one with letters has letters
 same-long : (a b : List ℕ) → same a b ≡ true → leb 1 (length b) ≡ true → 1 ≤ length a
@@ -103,7 +103,7 @@ module _ (s : List ℕ) (at : ℕ) where
   word-past : (v : List ℕ) → same (wordAt s (skipped s at)) v ≡ true → leb 1 (length v) ≡ true → Past (length s) at (stretchEnd Letter s (skipped s at))
   word-past v e h =
       let k : skipped s at < stretchEnd Letter s (skipped s at) = omega (arith, word-end s (skipped s at), same-long (wordAt s (skipped s at)) v e h) in
-      (omega (arith, skips-from s at), run-in Letter s (skipped s at) k)
+      (omega (arith, skips-from s at), stretch-in Letter s (skipped s at) k)
 
   pub closing-past : PastMark (length s) at (the.closingAt s at)
   closing-past = mark-past s at (code ")") refl
@@ -139,7 +139,7 @@ module _ (s : List ℕ) (at : ℕ) where
 
   makes-past : (p : ℕ) (n : Named) → at ≤ p → PastStart (length s) at (the.makes s p n)
   makes-past p N.No h = tt
-  makes-past p (N.Is k) h = made-past k p (stretchEnd Letter s p) (the.openingAt s (stretchEnd Letter s p)) (omega (arith, run-from Letter s p))
+  makes-past p (N.Is k) h = made-past k p (stretchEnd Letter s p) (the.openingAt s (stretchEnd Letter s p)) (omega (arith, stretch-from Letter s p))
       (mark-past s (stretchEnd Letter s p) (code "(") refl)
 
   pub start-past : PastStart (length s) at (the.startAt s at)
@@ -150,14 +150,14 @@ module _ (s : List ℕ) (at : ℕ) where
   text-past : (from : ℕ) → at < from → PastHeld (length s) at (the.textFrom s from)
   unfolding the.textFrom
   text-past from h = picked (PastHeld (length s) at) (ltb (stretchEnd Unquoted s from) (length s)) _ _
-      (λ e. let j : stretchEnd Unquoted s from < length s = ltb-true _ _ e in (omega (arith, run-from Unquoted s from), omega arith)) (λ e. tt)
+      (λ e. let j : stretchEnd Unquoted s from < length s = ltb-true _ _ e in (omega (arith, stretch-from Unquoted s from), omega arith)) (λ e. tt)
 
   field-past : (p : ℕ) → at ≤ p → p < length s → PastHeld (length s) at (the.fieldFrom s p)
   unfolding the.fieldFrom the.fieldOf
   field-past p h k = picked (PastHeld (length s) at) (eqb (getD s (p + 1) 0) (code "0")) _ _ (λ e. tt)
       (λ e. picked (PastHeld (length s) at) (leb 1 (numeralAt s (p + 1) .value)) _ _
       (λ f. picked (PastHeld (length s) at) (leb (numeralAt s (p + 1) .value) 16) _ _
-      (λ g. (omega arith, run-le s (p + 1) (omega arith))) (λ g. tt)) (λ f. tt))
+      (λ g. (omega arith, stretch-le s (p + 1) (omega arith))) (λ g. tt)) (λ f. tt))
 
   pub held-past : PastHeld (length s) at (the.heldAt s at)
   unfolding the.heldAt
@@ -169,7 +169,7 @@ module _ (s : List ℕ) (at : ℕ) where
   whole-past : (b : Bool) (p d : ℕ) → at < d → d ≤ length s → PastMultiplier (length s) at (the.wholeOf b p d (numeralAt s d))
   unfolding the.wholeOf
   whole-past b p d h k = picked (PastMultiplier (length s) at) (leb 1 (numeralAt s d .count)) _ _
-      (λ e. picked (PastMultiplier (length s) at) (leb (numeralAt s d .count) 6) _ _ (λ f. (omega arith, run-le s d k)) (λ f. tt)) (λ e. tt)
+      (λ e. picked (PastMultiplier (length s) at) (leb (numeralAt s d .count) 6) _ _ (λ f. (omega arith, stretch-le s d k)) (λ f. tt)) (λ e. tt)
 
   from-past : (p : ℕ) → at < p → p ≤ length s → PastMultiplier (length s) at (the.wholeFrom s p)
   unfolding the.wholeFrom
@@ -182,7 +182,7 @@ module _ (s : List ℕ) (at : ℕ) where
   multiplier-past = picked (PastMultiplier (length s) at) (eqb (getD s (skipped s at) 0) (code "*")) _ _
       (λ e. let j : skipped s at < length s = stands-at s (skipped s at) (code "*") e refl in
       from-past (skipped s (skipped s at + 1)) (omega (arith, skips-from s at, skips-from s (skipped s at + 1)))
-      (run-within Space s (skipped s at + 1) (omega arith))) (λ e. tt)
+      (stretch-within Space s (skipped s at + 1) (omega arith))) (λ e. tt)
 
 -- at the end of a text no `*` stands, so none without its whole number
 pub star-at-end : (s : List ℕ) (at : ℕ) → length s ≤ at → the.multiplierAt s at ≡ T.Bad → ⊥
@@ -200,7 +200,7 @@ Small (T.At negative v p n) = v < 1000000
 whole-small : (s : List ℕ) (b : Bool) (p d : ℕ) → Small (the.wholeOf b p d (numeralAt s d))
 unfolding the.wholeOf
 whole-small s b p d = picked Small (leb 1 (numeralAt s d .count)) _ _
-    (λ e. picked Small (leb (numeralAt s d .count) 6) _ _ (λ f. widened (numeralAt s d .value) (numeralAt s d .count) 6 (leb-true _ _ f) (run-lt s d)) (λ f. tt)) (λ e. tt)
+    (λ e. picked Small (leb (numeralAt s d .count) 6) _ _ (λ f. widened (numeralAt s d .value) (numeralAt s d .count) 6 (leb-true _ _ f) (stretch-lt s d)) (λ f. tt)) (λ e. tt)
 
 pub multiplier-small : (s : List ℕ) (at : ℕ) → Small (the.multiplierAt s at)
 unfolding the.multiplierAt the.wholeFrom

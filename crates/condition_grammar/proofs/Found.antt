@@ -15,7 +15,7 @@ use Rattle.numerals.proofs.Shares.{within}
 use Rattle.value.specs.declared.Kind.{Kind}
 use Rattle.value.specs.declared.Kind.the-variants as K
 use Rattle.condition_words.specs.Words.{stretchEnd, skipped, wordAt, same}
-use Rattle.condition_words.proofs.Running.{run-from, run-within}
+use Rattle.condition_words.proofs.Stretching.{stretch-from, stretch-within}
 use Rattle.condition_words.specs.declared.Class.the-variants as C
 use Rattle.condition_symbols.specs.Symbols as the
 use Rattle.condition_symbols.specs.declared.Op.{Op}
@@ -32,13 +32,13 @@ use Rattle.condition_symbols.specs.declared.Multiplier.{Multiplier}
 use Rattle.condition_symbols.specs.declared.Multiplier.the-variants as T
 use Rattle.condition_grammar.specs.Productions.{Spaces, OneByte, Word, Field, numbered, Quoted, quoted, Whole, unsigned, signed, plus, minus, eq, ne, lt, le, gt, ge, nameOf, Phrase, Condition, Clause, Test, Sum, Term, Factor, Argument}
 use Rattle.condition_grammar.proofs.Ends.{picked, stands-at}
-use Rattle.condition_grammar.proofs.Stretches.{run-before, spaces-stand, letters-stand, same-is, first-of, numeral-stands}
+use Rattle.condition_grammar.proofs.Stretches.{stretch-before, spaces-stand, letters-stand, same-is, first-of, numeral-stands}
 use Rattle.condition_grammar.proofs.Standing.{Operator, or, and, comparison, sign, joint, Times, Naming}
 
 module _ (s : List ℕ) where
   pub rest-stands : (n : ℕ) → n ≤ length s → leb (length s) (skipped s n) ≡ true → Spaces s n (length s)
   rest-stands n h e =
-      let q : skipped s n ≡ length s = omega (arith, leb-true (length s) (skipped s n) e, run-within C.Space s n h) in
+      let q : skipped s n ≡ length s = omega (arith, leb-true (length s) (skipped s n) e, stretch-within C.Space s n h) in
       rw q at (spaces-stand s n h)
 
 module _ (s : List ℕ) (a : ℕ) where
@@ -48,13 +48,13 @@ module _ (s : List ℕ) (a : ℕ) where
   mark-stands : (w : Char) → eqb (getD s p 0) (code w) ≡ true → leb 1 (code w) ≡ true → OneByte s w a p (p + 1)
   mark-stands w e h =
       let k : p < length s = stands-at s p (code w) e h in
-      record { spaces = spaces-stand s a (omega (arith, run-from C.Space s a)); stands = eqb-true _ _ e; next = refl }
+      record { spaces = spaces-stand s a (omega (arith, stretch-from C.Space s a)); stands = eqb-true _ _ e; next = refl }
 
   word-stands : (w : String) (c : ℕ) (cs : List ℕ) → bytes w ≡ c ∷ cs → same (wordAt s p) (bytes w) ≡ true → leb 1 c ≡ true → Word s w a p (stretchEnd C.Letter s p)
   word-stands w c cs q e h =
       let f : wordAt s p ≡ bytes w = same-is _ _ e in
       let k : p < length s = within s p c (first-of s p _ c cs (f ∙ q)) (leb-true 1 c h) in
-      record { spaces = spaces-stand s a (omega (arith, run-from C.Space s a)); longest = letters-stand s p (omega arith); letters = f }
+      record { spaces = spaces-stand s a (omega (arith, stretch-from C.Space s a)); longest = letters-stand s p (omega arith); letters = f }
 
 module _ (s : List ℕ) (a : ℕ) where
   abbrev JointStands : Phrase → Joint → Type 0
@@ -175,16 +175,16 @@ module _ (s : List ℕ) (a : ℕ) where
   HeldStands H.Bad = Unit {0}
   HeldStands H.Sum = Unit {0}
 
-  -- the run of bytes that are no quotes ends at a quote
+  -- the stretch of bytes that are no quotes ends at a quote
   quote-ends : (from : ℕ) (m : OneByte s "\"" a (skipped s a) from) → from ≤ length s → stretchEnd C.Unquoted s from < length s →
       Quoted s from (stretchEnd C.Unquoted s from) a (stretchEnd C.Unquoted s from + 1)
   quote-ends from m h k =
-      let l = run-before C.Unquoted s from h k in
+      let l = stretch-before C.Unquoted s from h k in
       quoted m (l .forward) (l .all) (by (eqb (getD s (stretchEnd C.Unquoted s from) 0) (code "\"")) refl) refl
     where
       by : (b : Bool) → eqb (getD s (stretchEnd C.Unquoted s from) 0) (code "\"") ≡ b → getD s (stretchEnd C.Unquoted s from) 0 ≡ code "\""
       by true e = eqb-true _ _ e
-      by false e = absurd (run-before C.Unquoted s from h k .ends (eqb-false _ _ e))
+      by false e = absurd (stretch-before C.Unquoted s from h k .ends (eqb-false _ _ e))
 
   text-stands : eqb (getD s (skipped s a) 0) (code "\"") ≡ true → HeldStands (the.textFrom s (skipped s a + 1))
   unfolding the.textFrom

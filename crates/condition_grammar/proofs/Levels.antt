@@ -13,7 +13,7 @@ use borrow.Author.Tests.{eqb-true, ltb-true, ltb-false, ne-eqb, not-false}
 use Rattle.basis.specs.Choice.{pick, both}
 use Rattle.basis.specs.Letters.{bytes}
 use Rattle.numerals.specs.Reading.{Number, isDigit, number, numeralAt}
-use Rattle.numerals.proofs.DigitRows.{a-digit}
+use Rattle.numerals.proofs.Stretches.{a-digit}
 use Rattle.value.specs.declared.Kind.{Kind}
 use Rattle.condition_words.specs.Words.{letter, belongs, stretchOf, stretchEnd, skipped, wordAt, same}
 use Rattle.condition_depth.specs.Depth.{deep, deepFrom, maxDepth}
@@ -99,7 +99,7 @@ module _ (s : List ℕ) (k at : ℕ) (h : at < length s) where
   within-quotes n l =
       record { opened = l .opened; closed = l .closed; apart = l .apart; counts = inside s (l .opened) (l .closed) true at (l .counts) h n refl }
 
--- runs of spaces and of letters, which have no quote and no parenthesis among them
+-- stretches of spaces and of letters, which have no quote and no parenthesis among them
 of-no-other : (c : Class) (b n : ℕ) → belongs c n ≡ false → belongs c b ≡ true → b ≡ n → ⊥
 of-no-other c b n f e q = let z : _≡_ {A = ℕ} 0 1 = cc (f, e, ap (belongs c) q) in omega arith
 
@@ -110,9 +110,9 @@ module _ (s : List ℕ) (k : ℕ) (c : Class) (p : (b : ℕ) → belongs c b ≡
   of-level (suc n) at h l = picked (Level s false k) (belongs c (getD s at 0)) _ _
       (λ e. of-level n (at + 1) (omega arith) (past-plain s k at (omega arith) (p (getD s at 0) e) l)) (λ e. l)
 
-  run-level : (at : ℕ) → Level s false k at → Level s false k (stretchEnd c s at)
+  stretch-level : (at : ℕ) → Level s false k at → Level s false k (stretchEnd c s at)
   unfolding stretchEnd
-  run-level at l = of-level (length s - at) at (omega arith) l
+  stretch-level at l = of-level (length s - at) at (omega arith) l
 
 space-plain : (b : ℕ) → belongs Space b ≡ true → Plain b
 unfolding belongs
@@ -122,7 +122,7 @@ letter-plain : (b : ℕ) → belongs Letter b ≡ true → Plain b
 unfolding belongs letter both
 letter-plain b e = (of-no-other Letter b (code "\"") refl e, of-no-other Letter b (code "(") refl e, of-no-other Letter b (code ")") refl e)
 
--- runs of digits
+-- stretches of digits
 count-from : (v k : ℕ) (xs : List ℕ) → k ≤ number v k xs .count
 unfolding number
 count-from v k [] = omega arith
@@ -160,7 +160,7 @@ module _ (s : List ℕ) (k : ℕ) where
       }
 
   skip-level : (at : ℕ) → Level s false k at → Level s false k (skipped s at)
-  skip-level at l = run-level s k Space space-plain at l
+  skip-level at l = stretch-level s k Space space-plain at l
 
   -- one byte that is neither a quote nor a parenthesis, and is not 0
   byte-level : (at c : ℕ) → eqb (getD s at 0) c ≡ true → leb 1 c ≡ true → Plain c → Level s false k at → Level s false k (at + 1)
@@ -182,16 +182,16 @@ module _ (s : List ℕ) where
   quote-ends (suc n) at e h = picked (λ x. x < length s → getD s x 0 ≡ code "\"") (belongs Unquoted (getD s at 0)) _ _
       (λ b. quote-ends n (at + 1) (omega arith)) (λ b i. is-quote (getD s at 0) b) h
 
-  quoted-run : (k n at : ℕ) → n ≤ length s - at → Level s true k at → Level s true k (stretchOf n Unquoted s at)
+  quoted-stretch : (k n at : ℕ) → n ≤ length s - at → Level s true k at → Level s true k (stretchOf n Unquoted s at)
   unfolding stretchOf
-  quoted-run k zero at h l = l
-  quoted-run k (suc n) at h l = picked (Level s true k) (belongs Unquoted (getD s at 0)) _ _
-      (λ e. quoted-run k n (at + 1) (omega arith) (within-quotes s k at (omega arith) (no-quote (getD s at 0) e) l)) (λ e. l)
+  quoted-stretch k zero at h l = l
+  quoted-stretch k (suc n) at h l = picked (Level s true k) (belongs Unquoted (getD s at 0)) _ _
+      (λ e. quoted-stretch k n (at + 1) (omega arith) (within-quotes s k at (omega arith) (no-quote (getD s at 0) e) l)) (λ e. l)
 
   text-level : (k from : ℕ) → Level s true k from → stretchEnd Unquoted s from < length s → Level s false k (stretchEnd Unquoted s from + 1)
   unfolding stretchEnd
   text-level k from l h = out-of-quotes s k (stretchOf (length s - from) Unquoted s from) h (quote-ends (length s - from) from refl h)
-      (quoted-run k (length s - from) from (omega arith) l)
+      (quoted-stretch k (length s - from) from (omega arith) l)
 
 -- the symbols
 module _ (s : List ℕ) (k : ℕ) where
@@ -230,7 +230,7 @@ module _ (s : List ℕ) (k : ℕ) where
 
   module _ (at : ℕ) (l : Level s false k at) where
     word-level : Level s false k (stretchEnd Letter s (skipped s at))
-    word-level = run-level s k Letter letter-plain (skipped s at) (skip-level s k at l)
+    word-level = stretch-level s k Letter letter-plain (skipped s at) (skip-level s k at l)
 
     operator-level : (w : List ℕ) (o : Op) → LevelJoint (the.operatorAt s at w o)
     unfolding the.operatorAt
@@ -302,7 +302,7 @@ module _ (s : List ℕ) (k : ℕ) where
       makes-level p m (N.Is j) = by (eqb (getD s (skipped s (stretchEnd Letter s p)) 0) (code "(")) refl
         where
           by : (b : Bool) → eqb (getD s (skipped s (stretchEnd Letter s p)) 0) (code "(") ≡ b → LevelStart (the.startMade j p (pick b (M.At (skipped s (stretchEnd Letter s p) + 1)) M.No))
-          by true e = opens (skipped s (stretchEnd Letter s p)) (skip-level s k (stretchEnd Letter s p) (run-level s k Letter letter-plain p m)) e
+          by true e = opens (skipped s (stretchEnd Letter s p)) (skip-level s k (stretchEnd Letter s p) (stretch-level s k Letter letter-plain p m)) e
           by false e = tt
 
       pub start-level : LevelStart (the.startAt s at)

@@ -28,7 +28,7 @@ use Rattle.condition_symbols.specs.declared.Start.the-variants as S
 use Rattle.condition_symbols.specs.declared.Held.the-variants as H
 use Rattle.condition_symbols.specs.declared.Multiplier.the-variants as T
 use Rattle.condition_grammar.specs.Productions.{Longest, Spaces, OneByte, Word, Digit, Numeral, Field, numbered, Quoted, quoted, Whole, unsigned, signed, Sign, plus, minus, Comparison, eq, ne, lt, le, gt, ge, nameOf, Phrase, Condition, Clause, Test, Sum, Term, Factor, Argument}
-use Rattle.condition_grammar.proofs.Stretches.{longest-is, spaces-end, letters-end, first-of, digits-from, digits-first, numeral-run}
+use Rattle.condition_grammar.proofs.Stretches.{longest-is, spaces-end, letters-end, first-of, digits-from, digits-first, numeral-stretch}
 
 -- the operators that join the parts of a part
 pub data Operator (s : List ℕ) : Phrase → Op → ℕ → ℕ → ℕ → Type 0 where
@@ -109,7 +109,7 @@ module _ {s : List ℕ} where
       let i : 1 ≤ n - p = omega arith in
       let j : n - p ≤ 6 = omega arith in
       let e : p + (n - p) ≡ n = omega arith in
-      rw (numeral-run s x, le-leb _ _ i, le-leb _ _ j, e)
+      rw (numeral-stretch s x, le-leb _ _ i, le-leb _ _ j, e)
 
   whole-found : {b : Bool} {v p n : ℕ} (c : ℕ) → Whole s v b c p n → the.wholeFrom s (skipped s c) ≡ T.At b v p n
   unfolding the.wholeFrom
@@ -151,7 +151,7 @@ module _ {s : List ℕ} where
   unfolding the.heldAt the.fieldFrom the.fieldOf
   field-found {i = i} {p = p} {n = n} (numbered {m = m} d x z h k) =
       let e : p + 1 + (n - (p + 1)) ≡ n = omega (arith, d .next, digits-from s (x .digits)) in
-      rw (spaces-end (d .spaces), d .stands, ← d .next, ne-eqb _ _ z, numeral-run s x, le-leb _ _ h, le-leb _ _ k, d .next, e)
+      rw (spaces-end (d .spaces), d .stands, ← d .next, ne-eqb _ _ z, numeral-stretch s x, le-leb _ _ h, le-leb _ _ k, d .next, e)
 
   pub rest-found : {n : ℕ} → Spaces s n (length s) → leb (length s) (skipped s n) ≡ true
   rest-found r = rw (spaces-end r) (le-leb (length s) (length s) (omega arith))

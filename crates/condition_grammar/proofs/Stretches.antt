@@ -1,4 +1,4 @@
--- A longest stretch of bytes, a word and a numeral as the productions have them are what the definitions of crates words and numerals find,
+-- A longest stretch of bytes, a word and a numeral as the productions have them are what the definitions of crates `condition_words` and `numerals` find,
 -- and the other way round.
 use mathlib.Core.Path.{_≡_, refl, sym, ap, subst, _∙_}
 use mathlib.Core.Bool.{Bool, true, false}
@@ -15,9 +15,9 @@ use borrow.Author.Tests.{leb-true, leb-false, ltb-true, ltb-false, eqb-true, eq-
 use Rattle.basis.specs.Choice.{pick, both}
 use Rattle.basis.proofs.Tests.{both-left, both-right, both-true}
 use Rattle.numerals.specs.Reading.{number, numeralAt, isDigit, at}
-use Rattle.numerals.proofs.DigitRows.{stop, digit-within, a-digit}
+use Rattle.numerals.proofs.Stretches.{stop, digit-within, a-digit}
 use Rattle.condition_words.specs.Words.{letter, belongs, stretchOf, stretchEnd, skipped, between, same}
-use Rattle.condition_words.proofs.Running.{run-from, run-within}
+use Rattle.condition_words.proofs.Stretching.{stretch-from, stretch-within}
 use Rattle.condition_words.specs.declared.Class.{Class}
 use Rattle.condition_words.specs.declared.Class.the-variants as C
 use Rattle.condition_grammar.proofs.Ends.{picked}
@@ -114,30 +114,30 @@ module _ (c : Class) (s : List ℕ) where
       (λ b. of-ends n (p + 1) (omega arith)) (λ b i. b) h
 
   module _ (p : ℕ) (h : p ≤ length s) where
-    run-all : (i : ℕ) → p ≤ i → i < stretchEnd c s p → Of c (getD s i 0)
+    stretch-all : (i : ℕ) → p ≤ i → i < stretchEnd c s p → Of c (getD s i 0)
     unfolding stretchEnd
-    run-all = of-all (length s - p) p
+    stretch-all = of-all (length s - p) p
 
-    run-over : stretchEnd c s p < length s → belongs c (getD s (stretchEnd c s p) 0) ≡ false
+    stretch-over : stretchEnd c s p < length s → belongs c (getD s (stretchEnd c s p) 0) ≡ false
     unfolding stretchEnd
-    run-over = of-ends (length s - p) p refl
+    stretch-over = of-ends (length s - p) p refl
 
-    -- a run that ends before the text does
-    pub run-before : stretchEnd c s p < length s → Longest (Of c) s p (stretchEnd c s p)
-    run-before k =
-        record { forward = run-from c s p; within = omega arith; all = run-all; ends = λ x. no-both (of-belongs c _ x) (run-over k) }
+    -- a stretch that ends before the text does
+    pub stretch-before : stretchEnd c s p < length s → Longest (Of c) s p (stretchEnd c s p)
+    stretch-before k =
+        record { forward = stretch-from c s p; within = omega arith; all = stretch-all; ends = λ x. no-both (of-belongs c _ x) (stretch-over k) }
 
-    -- a run of bytes of which 0 is none
-    pub run-stands : (Of c 0 → ⊥) → Longest (Of c) s p (stretchEnd c s p)
-    run-stands z = by (ltb (stretchEnd c s p) (length s)) refl
+    -- a stretch of bytes of which 0 is none
+    pub stretch-stands : (Of c 0 → ⊥) → Longest (Of c) s p (stretchEnd c s p)
+    stretch-stands z = by (ltb (stretchEnd c s p) (length s)) refl
       where
         by : (b : Bool) → ltb (stretchEnd c s p) (length s) ≡ b → Longest (Of c) s p (stretchEnd c s p)
-        by true e = run-before (ltb-true _ _ e)
+        by true e = stretch-before (ltb-true _ _ e)
         by false e =
             record {
-              forward = run-from c s p;
-              within = run-within c s p h;
-              all = run-all;
+              forward = stretch-from c s p;
+              within = stretch-within c s p h;
+              all = stretch-all;
               ends = λ x. z (subst (Of c) (List·getD-eq-default s 0 (ltb-false _ _ e)) x);
             }
 
@@ -156,10 +156,10 @@ no-letter-0 (colon e) = omega arith
 
 module _ (s : List ℕ) (p : ℕ) (h : p ≤ length s) where
   pub spaces-stand : Spaces s p (skipped s p)
-  spaces-stand = run-stands C.Space s p h (λ e. omega arith)
+  spaces-stand = stretch-stands C.Space s p h (λ e. omega arith)
 
   pub letters-stand : Longest Letter s p (stretchEnd C.Letter s p)
-  letters-stand = run-stands C.Letter s p h no-letter-0
+  letters-stand = stretch-stands C.Letter s p h no-letter-0
 
 pub same-is : (a b : List ℕ) → same a b ≡ true → a ≡ b
 unfolding same
@@ -205,8 +205,8 @@ module _ (s : List ℕ) where
       let g : suc (to - p) ≡ to + 1 - p = omega (arith, digits-from d) in
       digits-number d ∙ number-on v (to - p) to (of-digit _ e) ∙ ap (λ k. number (v * 10 + (at s to - code "0")) k (drop (to + 1) s)) g
 
-  pub numeral-run : {p n v : ℕ} → Numeral s v p n → numeralAt s p ≡ record { value = v; count = n - p }
-  numeral-run {p} {n} {v} x = digits-number (x .digits) ∙ stop v (n - p) (drop n s) (ap isDigit (head-of n) ∙ no-digit-of _ (x .ends))
+  pub numeral-stretch : {p n v : ℕ} → Numeral s v p n → numeralAt s p ≡ record { value = v; count = n - p }
+  numeral-stretch {p} {n} {v} x = digits-number (x .digits) ∙ stop v (n - p) (drop n s) (ap isDigit (head-of n) ∙ no-digit-of _ (x .ends))
 
   no-digit-0 : Digit 0 → ⊥
   no-digit-0 x = let h : code "0" ≤ 0 = x .from in omega arith

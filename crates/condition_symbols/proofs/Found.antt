@@ -14,13 +14,13 @@ use Rattle.numerals.specs.Reading.{Number, numeralAt}
 use Rattle.numerals.specs.Carried.{Found}
 use Rattle.numerals.specs.declared.DigitsRead.{DigitsRead}
 use Rattle.numerals.proofs.Shares.{within}
-use Rattle.numerals.proofs.DigitRows.{run-lt, run-le}
+use Rattle.numerals.proofs.Stretches.{stretch-lt, stretch-le}
 use Rattle.numerals.proofs.Powers.{widened}
 use Rattle.value.specs.declared.Kind.{Kind}
 use Rattle.value.specs.declared.Kind.the-variants as K
 use Rattle.condition_words.specs.Words.{stretchEnd, skipped, wordAt, same}
 use Rattle.condition_symbols.specs.Symbols as the
-use Rattle.condition_words.proofs.Running.{word-end, run-from, run-within, run-past}
+use Rattle.condition_words.proofs.Stretching.{word-end, stretch-from, stretch-within, stretch-past}
 use Rattle.condition_words.specs.declared.Class.the-variants.{Letter, Unquoted, Space}
 use Rattle.condition_symbols.specs.declared.Op.{Op}
 use Rattle.condition_symbols.specs.declared.Op.the-variants as O
@@ -121,7 +121,7 @@ module _ (s : List ℕ) (at p x : ℕ) (e : p ≡ skipped s at) (q : x ≡ getD 
 
 -- after a mark, spaces are skipped within the text
 pub skips-within : (s : List ℕ) (p x c d : ℕ) → x ≡ getD s p 0 → x ≡ c → leb 1 c ≡ true → d ≡ skipped s (p + 1) → d ≤ length s
-skips-within s p x c d e h k g = rw g (run-within Space s (p + 1) (after-within s p x c e h k))
+skips-within s p x c d e h k g = rw g (stretch-within Space s (p + 1) (after-within s p x c e h k))
 
 module _ (s : List ℕ) (at p : ℕ) (e : p ≡ skipped s at) (w : List ℕ) (f : w ≡ wordAt s p) where
   word-to : p + length w ≡ stretchEnd Letter s p
@@ -131,8 +131,8 @@ module _ (s : List ℕ) (at p : ℕ) (e : p ≡ skipped s at) (w : List ℕ) (f 
   word-fits n h k = by (leb (length s) p) refl
     where
       by : (b : Bool) → leb (length s) p ≡ b → p + length w < n
-      by true i = omega (arith, word-to, run-past Letter s p (leb-true _ _ i))
-      by false i = let j : p < length s = leb-false _ _ i in omega (arith, word-to, run-within Letter s p (omega arith))
+      by true i = omega (arith, word-to, stretch-past Letter s p (leb-true _ _ i))
+      by false i = let j : p < length s = leb-false _ _ i in omega (arith, word-to, stretch-within Letter s p (omega arith))
 
   pub operator-is : (o : Op) (v : List ℕ) {t : Bool} → t ≡ same w v → t ≡ true → J.At o p (p + length w) ≡ the.operatorAt s at v o
   unfolding the.operatorAt
@@ -192,7 +192,7 @@ module _ (s : List ℕ) (negative : Bool) (from at cap : ℕ) (e : cap ≡ 1 * 1
       rw (le-leb _ _ j, lt-leb _ _ k)
 
   whole-small : r .end - at ≤ the.maxDigits → numeralAt s at .value < 10 ^ the.maxDigits
-  whole-small h = widened (numeralAt s at .value) (numeralAt s at .count) the.maxDigits (omega (arith, f .ends)) (run-lt s at)
+  whole-small h = widened (numeralAt s at .value) (numeralAt s at .count) the.maxDigits (omega (arith, f .ends)) (stretch-lt s at)
 
   pub whole-fits : r .end - at ≤ the.maxDigits → r .value < 2 ^ 32
   whole-fits h = omega (arith, f .capped)

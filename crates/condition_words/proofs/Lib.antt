@@ -1,3 +1,3 @@
 pub mod Letters
-pub mod Running
+pub mod Stretching
 pub mod Sameness

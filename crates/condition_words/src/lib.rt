@@ -1,10 +1,10 @@
-// Longest runs of bytes in a condition's text, words among them, and bytes cut out of a text (document 01, "Conditions").
+// Longest stretches of bytes in a condition's text, words among them, and bytes cut out of a text (document 01, "Conditions").
 ghost use mathlib.Core.Path.{_≡_};
 ghost use Prim.Native.Nat.{_≤_};
 ghost use lib.ListN.{length};
 ghost use Rattle.condition_words.specs.Words as the;
 
-// What a run is made of: spaces, letters of a word, bytes other than the quote.
+// What a stretch is made of: spaces, letters of a word, bytes other than the quote.
 pub enum Class {
     Space,
     Letter,

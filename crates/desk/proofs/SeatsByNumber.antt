@@ -71,15 +71,15 @@ pub record SoundTo (d : Desk) (i : ℕ) : Type 0 where
   pub within : i ≤ seatCount
   pub lastIn : d .«last_served» < seatCount
   pub short : d .«timetable_length» ≤ maxTimetable
-  pub places : all (soundAt d) i ≡ true
+  pub seats-sound : all (soundAt d) i ≡ true
 
 pub sound-starts : (d : Desk) → d .«last_served» < seatCount → d .«timetable_length» ≤ maxTimetable → SoundTo d 0
 unfolding all
-sound-starts d l m = record { within = omega arith; lastIn = l; short = m; places = refl }
+sound-starts d l m = record { within = omega arith; lastIn = l; short = m; seats-sound = refl }
 
 module _ {d : Desk} {i : ℕ} (x : SoundTo d i) where
   pub sound-on : i < seatCount → soundAt d i ≡ true → SoundTo d (i + 1)
-  sound-on l e = record { within = omega arith; lastIn = x .lastIn; short = x .short; places = all-more _ _ (x .places) e }
+  sound-on l e = record { within = omega arith; lastIn = x .lastIn; short = x .short; seats-sound = all-more _ _ (x .seats-sound) e }
 
   pub sound-fails : i < seatCount → soundAt d i ≡ false → soundOf d ≡ false
   unfolding soundOf every both
@@ -90,5 +90,5 @@ module _ {d : Desk} {i : ℕ} (x : SoundTo d i) where
   sound-ends l =
       let w = x .within in
       let e : i ≡ seatCount = omega arith in
-      let a : all (soundAt d) seatCount ≡ true = rw e at (x .places) in
+      let a : all (soundAt d) seatCount ≡ true = rw e at (x .seats-sound) in
       rw (lt-ltb _ _ (x .lastIn), le-leb _ _ (x .short), a) refl

@@ -1,4 +1,4 @@
--- At any earlier time the answers so far are the first of the expected ones: a run can be gone on with until enough turns
+-- At any earlier time the answers so far are the first of the expected ones: a course can be gone on with until enough turns
 -- are taken, and what it has answered stays.
 use mathlib.Core.Path.{_≡_, refl, sym, ap, _∙_}
 use mathlib.Core.Bool.{Bool, true, false}

@@ -28,7 +28,7 @@ TicketsOnce =
     → openOf later (afterAll f (openOf r d .desk) es) .answer ≡ gives j
     → k < j
 
--- the seat number i is held by a query
+-- seat number i is held by a query
 pub record Seated (d : Desk) (i : ℕ) : Type 0 where
   pub desk : length (d .seats) ≡ seatCount
   pub sound : soundOf d ≡ true

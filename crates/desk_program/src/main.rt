@@ -1,4 +1,4 @@
-// The desk program (docs/LINES.md, "The desk program"): one run of crate `desk_host`.
+// The desk program (docs/LINES.md, "The desk program"): one call of crate `desk_host`.
 fn main() {
     desk_host::run();
 }

@@ -86,7 +86,7 @@ fn last_names(line: &[u8], index: usize, name: &[u8]) -> ScriptEvent
     ScriptEvent::NoEvent
 }
 
-// `seat`: a number or the condition of the seat of a number.
+// `seat`: a number or the condition of a seat.
 fn seat_event(line: &[u8], index: usize, name: &[u8]) -> ScriptEvent
     ensures { λ r. ⌜ r ≡ the.seatBy (now (line .entry)) index (now (name .entry)) ⌝ }
 {

@@ -36,7 +36,7 @@ conditionWith s text =
     (record { held = s .held; ticket = s .ticket; offset = s .offset; hits = s .hits; unreadable = s .unreadable; «condition_length» = s .«condition_length»; condition = text ++ replicate (conditionRoom - length text) 0 })
     s
 
--- the desk with another seat of a number
+-- the desk with another seat at an index
 abbrev pub withSeat : Desk → ℕ → Seat → Desk
 withSeat d index s =
     pick (ltb index seatCount)

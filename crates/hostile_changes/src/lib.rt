@@ -45,7 +45,7 @@ fn with_condition(mut seat: Seat, text: &[u8]) -> Seat
     seat
 }
 
-// `seat`: a number of the seat of a number. A number past the last alters nothing.
+// `seat`: a number of the seat with this index. An index past the last alters nothing.
 pub fn set_seat(mut desk: Desk, index: usize, number: SeatNumber) -> Desk
     ensures { λ r. ⌜ r ≡ the.numberAt desk index number ⌝ }
 {
@@ -56,7 +56,7 @@ pub fn set_seat(mut desk: Desk, index: usize, number: SeatNumber) -> Desk
     desk
 }
 
-// `seat`: the condition of the seat of a number, likewise.
+// `seat`: the condition of the seat with this index, likewise.
 pub fn set_condition(mut desk: Desk, index: usize, text: &[u8]) -> Desk
     ensures { λ r. ⌜ r ≡ the.conditionSet desk index (now (text .entry)) ⌝ }
 {

@@ -1,4 +1,4 @@
--- A number that is read digit by digit, and left as soon as it is beyond its bound, is the number of the whole run of digits.
+-- A number that is read digit by digit, and left as soon as it is beyond its bound, is the number of the whole stretch of digits.
 use mathlib.Core.Path.{_≡_, refl, ap, sym, _∙_}
 use mathlib.Core.Bool.{Bool, true, false}
 use mathlib.Core.List.{List, [], _∷_}
@@ -27,7 +27,7 @@ rest-less v d most h = go (ltb (most - v * 10) d) refl
     go true e = e ∙ sym (lt-ltb most (v * 10 + d) (omega (arith, ltb-true (most - v * 10) d e)))
     go false e = e ∙ sym (le-ltb most (v * 10 + d) (omega (arith, ltb-false (most - v * 10) d e)))
 
--- the number of a run is no less than that of its first digits
+-- the number of a stretch is no less than that of its first digits
 grows : (v k : ℕ) (xs : List ℕ) → v ≤ number v k xs .value
 unfolding number
 grows v k [] = omega arith
@@ -61,34 +61,34 @@ module _ (s : List ℕ) (most : ℕ) (some : 1 ≤ length s) where
   too-long h = rw (le-leb 1 (length s) some, lt-leb (length s) maxNumberDigits h)
 
   module _ (few : length s ≤ maxNumberDigits) where
-    is-run : numberOf most s ≡ wholeWithin most (length s) (numeralAt s 0)
+    is-stretch : numberOf most s ≡ wholeWithin most (length s) (numeralAt s 0)
     unfolding numberOf
-    is-run = rw (le-leb 1 (length s) some, le-leb (length s) maxNumberDigits few)
+    is-stretch = rw (le-leb 1 (length s) some, le-leb (length s) maxNumberDigits few)
 
     module _ {i v : ℕ} (p : Passed s most i v) where
-      next-run : i < length s → isDigit (getD s i 0) ≡ true → number (v * 10 + (getD s i 0 - 48)) (i + 1) (drop (i + 1) s) ≡ numeralAt s 0
+      next-stretch : i < length s → isDigit (getD s i 0) ≡ true → number (v * 10 + (getD s i 0 - 48)) (i + 1) (drop (i + 1) s) ≡ numeralAt s 0
       unfolding number
-      next-run h e =
+      next-stretch h e =
           let r : number v i (getD s i 0 ∷ drop (suc i) s) ≡ numeralAt s 0 = rw (drop-cons s i 0 h) at (p .rest) in
           let r2 : number (v * 10 + (getD s i 0 - 48)) (suc i) (drop (suc i) s) ≡ numeralAt s 0 = rw (e, number) at r in
           rw add-one r2
 
       pub next : i < length s → isDigit (getD s i 0) ≡ true → v * 10 + (getD s i 0 - 48) ≤ most → Passed s most (i + 1) (v * 10 + (getD s i 0 - 48))
-      next h e l = record { to = omega arith; low = l; rest = next-run h e }
+      next h e l = record { to = omega arith; low = l; rest = next-stretch h e }
 
       pub at-other : i < length s → isDigit (getD s i 0) ≡ false → numberOf most s ≡ noNumber
       unfolding number wholeWithin
       at-other h e =
           let r : number v i (getD s i 0 ∷ drop (suc i) s) ≡ numeralAt s 0 = rw (drop-cons s i 0 h) at (p .rest) in
           let r2 : record { value = v; count = i } ≡ numeralAt s 0 = rw (e, number) at r in
-          is-run ∙ ap (wholeWithin most (length s)) (sym r2) ∙ rw (ne-eqb i (length s) (λ q. omega arith))
+          is-stretch ∙ ap (wholeWithin most (length s)) (sym r2) ∙ rw (ne-eqb i (length s) (λ q. omega arith))
 
       pub too-great : i < length s → isDigit (getD s i 0) ≡ true → most < v * 10 + (getD s i 0 - 48) → numberOf most s ≡ noNumber
       unfolding wholeWithin
       too-great h e l =
           let g = grows (v * 10 + (getD s i 0 - 48)) (i + 1) (drop (i + 1) s) in
-          let r = ap (λ (n : reading.Number). n .value) (next-run h e) in
-          is-run ∙ rw (lt-leb (numeralAt s 0 .value) most (omega arith)) (either (eqb (numeralAt s 0 .count) (length s)))
+          let r = ap (λ (n : reading.Number). n .value) (next-stretch h e) in
+          is-stretch ∙ rw (lt-leb (numeralAt s 0 .value) most (omega arith)) (either (eqb (numeralAt s 0 .count) (length s)))
         where
           either : (b : Bool) → pick b noNumber noNumber ≡ noNumber
           either true = refl
@@ -99,4 +99,4 @@ module _ (s : List ℕ) (most : ℕ) (some : 1 ≤ length s) where
       at-end h =
           let r : record { value = v; count = i } ≡ numeralAt s 0 = rw (drop-of-length-le s h, number) at (p .rest) in
           let q = p .to in
-          is-run ∙ ap (wholeWithin most (length s)) (sym r) ∙ rw (eq-eqb i (length s) (omega arith), le-leb v most (p .low))
+          is-stretch ∙ ap (wholeWithin most (length s)) (sym r) ∙ rw (eq-eqb i (length s) (omega arith), le-leb v most (p .low))

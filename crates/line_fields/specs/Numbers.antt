@@ -20,7 +20,7 @@ greatest = 18_446_744_073_709_551_615
 abbrev pub noNumber : FieldNumber
 noNumber = record { good = false; value = 0 }
 
--- the run of digits at the start of a text of some length, where it is the whole text and its number is within the bound
+-- the stretch of digits at the start of a text of some length, where it is the whole text and its number is within the bound
 unfoldable pub wholeWithin : ℕ → ℕ → reading.Number → FieldNumber
 wholeWithin most long n =
     pick (eqb (n .count) long) (pick (leb (n .value) most) (record { good = true; value = n .value }) noNumber) noNumber

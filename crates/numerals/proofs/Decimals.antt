@@ -15,7 +15,7 @@ use Rattle.numerals.specs.Writing.{digits, shortest, decimal}
 use Rattle.numerals.specs.Carried.{Added}
 use Rattle.numerals.specs.declared.Text.{Text}
 use Rattle.numerals.proofs.Powers.{few-digits}
-use Rattle.numerals.proofs.DigitRows.{pass, stop}
+use Rattle.numerals.proofs.Stretches.{pass, stop}
 use Rattle.numerals.proofs.Texts.{named}
 
 pub length-digits : (k n : ℕ) → length (digits k n) ≡ k
@@ -57,9 +57,9 @@ read-digits (suc k) n v j rest h =
     ∙ ap (λ (w : ℕ). number w (suc (j + k)) rest) e
     ∙ ap (λ (w : ℕ). number (v * 10 ^ suc k + n) w rest) f
 
--- the run that k digits and no digit after them make
-pub digits-run : (k n : ℕ) (rest : List ℕ) → n < 10 ^ k → isDigit (getD rest 0 0) ≡ false → number 0 0 (digits k n ++ rest) ≡ record { value = n; count = k }
-digits-run k n rest h q =
+-- the stretch that k digits and no digit after them make
+pub digits-stretch : (k n : ℕ) (rest : List ℕ) → n < 10 ^ k → isDigit (getD rest 0 0) ≡ false → number 0 0 (digits k n ++ rest) ≡ record { value = n; count = k }
+digits-stretch k n rest h q =
     let z : 0 * 10 ^ k + n ≡ n = omega arith in
     let y : 0 + k ≡ k = omega arith in
     read-digits k n 0 0 rest h ∙ rw (z, y) (stop n k rest q)
@@ -146,9 +146,9 @@ read-shortest (suc k) n rest h = go (ltb n 10) refl (read-shortest k (n / 10) ((
         ∙ ap (λ (x : ℕ). number x (suc (length (shortest k (n / 10)))) rest) v
         ∙ ap (λ (x : ℕ). number n x rest) w
 
-pub decimal-run : (n : ℕ) (rest : List ℕ) → isDigit (getD rest 0 0) ≡ false → number 0 0 (decimal n ++ rest) ≡ record { value = n; count = length (decimal n) }
+pub decimal-stretch : (n : ℕ) (rest : List ℕ) → isDigit (getD rest 0 0) ≡ false → number 0 0 (decimal n ++ rest) ≡ record { value = n; count = length (decimal n) }
 unfolding decimal
-decimal-run n rest q = read-shortest (suc n) n rest (few-digits n) ∙ stop n (length (shortest (suc n) n)) rest q
+decimal-stretch n rest q = read-shortest (suc n) n rest (few-digits n) ∙ stop n (length (shortest (suc n) n)) rest q
 
 -- its digits are so many of its last ones
 shortest-digits : (k n : ℕ) → digits (length (shortest k n)) n ≡ shortest k n

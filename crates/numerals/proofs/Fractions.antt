@@ -16,8 +16,8 @@ use Rattle.numerals.specs.Reading.{isDigit, number, numeralAt, fractionD
 use Rattle.numerals.specs.Carried.{Found, Added}
 use Rattle.numerals.specs.Writing.{digits, stripped, fractionText}
 use Rattle.numerals.proofs.Powers.{widened, filled}
-use Rattle.numerals.proofs.DigitRows.{run-le, run-lt}
-use Rattle.numerals.proofs.Decimals.{length-digits, digits-run}
+use Rattle.numerals.proofs.Stretches.{stretch-le, stretch-lt}
+use Rattle.numerals.proofs.Decimals.{length-digits, digits-stretch}
 use Rattle.numerals.proofs.Stripping.{stripped-le, stripped-lt, given-back}
 use Rattle.numerals.proofs.Texts.{then, unchanged, named}
 
@@ -32,10 +32,10 @@ module _ (s : List ℕ) (i : ℕ) {cap : ℕ} (ec : cap ≡ 1 * 10 ^ fractionDig
 
   module _ (h : r .end - i ≤ fractionDigits) where
     exact : r .value ≡ numeralAt s i .value
-    exact = omega (arith, f .capped, widened (numeralAt s i .value) (numeralAt s i .count) fractionDigits (omega (arith, count)) (run-lt s i))
+    exact = omega (arith, f .capped, widened (numeralAt s i .value) (numeralAt s i .count) fractionDigits (omega (arith, count)) (stretch-lt s i))
 
     pub ticks-fit : r .value * 10 ^ (fractionDigits - (r .end - i)) < 10 ^ fractionDigits
-    ticks-fit = rw (exact, count) (filled (numeralAt s i .value) (numeralAt s i .count) fractionDigits (omega (arith, count)) (run-lt s i))
+    ticks-fit = rw (exact, count) (filled (numeralAt s i .value) (numeralAt s i .count) fractionDigits (omega (arith, count)) (stretch-lt s i))
 
     pub some-ticks : {t : ℕ} → t ≡ r .value * 10 ^ (fractionDigits - (r .end - i)) → record { ticks = t; long = false; end = r .end } ≡ fractionAt s i
     unfolding fractionAt
@@ -53,7 +53,7 @@ fraction-end s i = go (leb (numeralAt s i .count) fractionDigits) refl
     go false e = rw e
 
 pub fraction-le : (s : List ℕ) (i : ℕ) → i ≤ length s → fractionAt s i .end ≤ length s
-fraction-le s i h = omega (arith, fraction-end s i, run-le s i h)
+fraction-le s i h = omega (arith, fraction-end s i, stretch-le s i h)
 
 -- there are never ticks for a whole second
 pub fraction-lt : (s : List ℕ) (i : ℕ) → fractionAt s i .ticks < 10 ^ fractionDigits
@@ -61,7 +61,7 @@ unfolding fractionAt
 fraction-lt s i = go (leb (numeralAt s i .count) fractionDigits) refl
   where
     go : (b : Bool) → leb (numeralAt s i .count) fractionDigits ≡ b → fractionOf i (numeralAt s i) .ticks < 10 ^ fractionDigits
-    go true e = rw e (filled (numeralAt s i .value) (numeralAt s i .count) fractionDigits (leb-true _ _ e) (run-lt s i))
+    go true e = rw e (filled (numeralAt s i .value) (numeralAt s i .count) fractionDigits (leb-true _ _ e) (stretch-lt s i))
     go false e = rw e (omega arith)
 
 -- the digits of a fraction's text
@@ -86,7 +86,7 @@ unfolding fractionAt
 fraction-back s i u rest h q e =
     let k : ℕ = stripped fractionDigits u .count in
     let w : ℕ = stripped fractionDigits u .value in
-    let r : numeralAt s i ≡ record { value = w; count = k } = ap (number 0 0) e ∙ digits-run k w rest (stripped-lt fractionDigits u h) q in
+    let r : numeralAt s i ≡ record { value = w; count = k } = ap (number 0 0) e ∙ digits-stretch k w rest (stripped-lt fractionDigits u h) q in
     rw (r, le-leb k fractionDigits (stripped-le fractionDigits u), given-back fractionDigits u h, kept-length u)
 
 -- writing it

@@ -1,6 +1,6 @@
 pub mod Shares
 pub mod Powers
-pub mod DigitRows
+pub mod Stretches
 pub mod Passing
 pub mod Decimals
 pub mod Filling

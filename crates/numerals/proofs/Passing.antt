@@ -1,4 +1,4 @@
--- A reader that passes digits one by one and keeps their number as far as a cap finds what the whole run gives.
+-- A reader that passes digits one by one and keeps their number as far as a cap finds what the whole stretch gives.
 use mathlib.Core.Path.{_≡_, ap, sym, _∙_}
 use mathlib.Core.Bool.{true, false}
 use mathlib.Core.List.{List, _∷_}

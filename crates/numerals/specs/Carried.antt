@@ -11,7 +11,7 @@ use Rattle.numerals.specs.Reading.{numeralAt}
 use Rattle.numerals.specs.declared.DigitsRead.{DigitsRead}
 use Rattle.numerals.specs.declared.Text.{Text}
 
--- what code keeps of the run at i: where it ends, and its number as far as a cap
+-- what code keeps of the stretch at i: where it ends, and its number as far as a cap
 pub record Found (s : List ℕ) (i cap : ℕ) (r : DigitsRead) : Type 0 where
   pub ends : r .end ≡ i + numeralAt s i .count
   pub capped : r .value ≡ min cap (numeralAt s i .value)

@@ -1,4 +1,4 @@
--- Document 01, "Reading text": digits, rows of them, and the digits of a fraction. A number that is read has no bound
+-- Document 01, "Reading text": digits, stretches of them, and the digits of a fraction. A number that is read has no bound
 -- here, however many digits it has. A byte past the end of a text counts as 0, which is no digit and no punctuation.
 use mathlib.Core.Bool.{Bool, true, false}
 use mathlib.Core.List.{List, [], _∷_}

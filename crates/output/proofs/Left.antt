@@ -55,8 +55,8 @@ left-set f [] i x z l = absurd (omega arith)
 left-set f (s ∷ ss) zero x z l = omega arith
 left-set f (s ∷ ss) (suc i) x z l = omega (arith, left-set f ss i x z (omega arith))
 
-place-set : (f : Files) (d : Desk) (i : ℕ) (x : Seat) → i < length (d .seats) → seatsLeft f (set (d .seats) i x) + seatLeft f (seatAt d i) ≡ seatsLeft f (d .seats) + seatLeft f x
-place-set f d i x l = left-set f (d .seats) i x _ l
+seat-set : (f : Files) (d : Desk) (i : ℕ) (x : Seat) → i < length (d .seats) → seatsLeft f (set (d .seats) i x) + seatLeft f (seatAt d i) ≡ seatsLeft f (d .seats) + seatLeft f x
+seat-set f d i x l = left-set f (d .seats) i x _ l
 
 left-bounded : (f : Files) (ss : List Seat) → length (f .timetable) ≤ maxTimetable → seatsLeft f ss ≤ (maxTimetable + 1) * length ss
 unfolding seatsLeft
@@ -67,7 +67,7 @@ left-bounded f (s ∷ ss) l = omega (arith, seat-bounded f s l, left-bounded f s
 pub serving-less : (f : Files) (d h : Desk) (i : ℕ) → i < length (d .seats) → seatAt d i .held ≡ true → h .seats ≡ set (d .seats) i (serveOf f (seatAt d i) .seat)
     → deskLeft f h < deskLeft f d
 unfolding deskLeft
-serving-less f d h i l b e = rw e (omega (arith, place-set f d i (serveOf f (seatAt d i) .seat) l, served-less f (seatAt d i) b))
+serving-less f d h i l b e = rw e (omega (arith, seat-set f d i (serveOf f (seatAt d i) .seat) l, served-less f (seatAt d i) b))
 
 pub desk-bounded : (f : Files) (d : Desk) → length (f .timetable) ≤ maxTimetable → deskLeft f d ≤ (maxTimetable + 1) * length (d .seats)
 unfolding deskLeft

@@ -15,8 +15,8 @@ use Rattle.basis.specs.Choice.{pick, both}
 use Rattle.numerals.specs.Reading.{isDigit, number, Number, numeralAt, at, fractionDigits, fractionAt}
 use Rattle.numerals.specs.Writing.{decimal}
 use Rattle.numerals.proofs.Shares.{cell, head, beyond}
-use Rattle.numerals.proofs.DigitRows.{stop}
-use Rattle.numerals.proofs.Decimals.{decimal-run, decimal-some}
+use Rattle.numerals.proofs.Stretches.{stop}
+use Rattle.numerals.proofs.Decimals.{decimal-stretch, decimal-some}
 use Rattle.numerals.proofs.Fractions.{kept, kept-length, no-fraction, a-fraction, fraction-back}
 use Rattle.numerals.proofs.Stripping.{stripped-some}
 use Rattle.text_durations.specs.declared.Walk.{Walk}
@@ -39,7 +39,7 @@ module _ (n : ℕ) (rest : List ℕ) (q : isDigit (getD rest 0 0) ≡ false) whe
 
   other-number : (c : ℕ) → (getD rest 0 0 ≡ c → ⊥) → (c ≡ seconds → ⊥) → Other c (decimal n ++ rest)
   other-number c e f =
-      let r : number 0 0 (decimal n ++ rest) .count ≡ length (decimal n) = ap (λ (m : Number). m .count) (decimal-run n rest q) in
+      let r : number 0 0 (decimal n ++ rest) .count ≡ length (decimal n) = ap (λ (m : Number). m .count) (decimal-stretch n rest q) in
       inr (λ z. e (sym follows ∙ ap (λ (k : ℕ). getD (decimal n ++ rest) k 0) (sym r) ∙ z), f)
 
 -- r is t with so much more counted, its fraction, and so many bytes on
@@ -70,7 +70,7 @@ module _ (s : List ℕ) (time : Bool) (c : ℕ) (t : Walk) (z : t .ticks ≡ 0) 
   unfolding component
   present n rest d e =
       let k : ℕ = length (decimal n) in
-      let r : numeralAt s (t .at) ≡ record { value = n; count = k } = ap (number 0 0) e ∙ decimal-run n (c ∷ rest) d in
+      let r : numeralAt s (t .at) ≡ record { value = n; count = k } = ap (number 0 0) e ∙ decimal-stretch n (c ∷ rest) d in
       let a : at s (t .at + k) ≡ c = cell s (t .at) e k ∙ follows n (c ∷ rest) d in
       rw (r, ne-eqb k 0 (λ y. omega (arith, decimal-some n)), eq-eqb (at s (t .at + k)) c a)
       (record { sum = refl; ticks = z; long = l; offset = omega arith })
@@ -82,7 +82,7 @@ module _ (s : List ℕ) (time : Bool) (c : ℕ) (t : Walk) (z : t .ticks ≡ 0) 
   pointed-back n u rest ec nz h d dp e =
       let k : ℕ = length (decimal n) in
       let tail : List ℕ = kept u ++ c ∷ rest in
-      let r : numeralAt s (t .at) ≡ record { value = n; count = k } = ap (number 0 0) e ∙ decimal-run n (point ∷ tail) dp in
+      let r : numeralAt s (t .at) ≡ record { value = n; count = k } = ap (number 0 0) e ∙ decimal-stretch n (point ∷ tail) dp in
       let a : at s (t .at + k) ≡ point = cell s (t .at) e k ∙ follows n (point ∷ tail) dp in
       let g : drop (t .at + k) s ≡ point ∷ tail = beyond s (t .at) (decimal n) (point ∷ tail) e in
       let j : drop (t .at + k + 1) s ≡ tail = beyond s (t .at + k) (point ∷ []) tail g in

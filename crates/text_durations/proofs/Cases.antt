@@ -58,7 +58,7 @@ many-digits = refl
 abbrev stops : String → ℕ
 stops t = shapeEnd dayTime (bytes t)
 
-pub places :
+pub offsets :
     (stops "" ≡ 0)
     × (stops "-" ≡ 1)
     × (stops "P" ≡ 1)
@@ -76,4 +76,4 @@ pub places :
     × (shapeEnd yearMonth (bytes "P1YT") ≡ 3)
     × (shapeEnd yearMonth (bytes "P1M1Y") ≡ 3)
 unfolding isDigit number fractionAt both weight component components shapeFrom shape
-places = (refl, refl, refl, refl, refl, refl, refl, refl, refl, refl, refl, refl, refl, refl, refl, refl)
+offsets = (refl, refl, refl, refl, refl, refl, refl, refl, refl, refl, refl, refl, refl, refl, refl, refl)

@@ -21,8 +21,8 @@ use Rattle.value_instants.proofs.Within.{east-to, west-to}
 use Rattle.numerals.specs.Reading.{isDigit, number, numeralAt, at, fractionDigits, fractionAt}
 use Rattle.numerals.specs.Writing.{digits}
 use Rattle.numerals.proofs.Shares.{cell, head, beyond, none-left, some-left}
-use Rattle.numerals.proofs.DigitRows.{is-digit}
-use Rattle.numerals.proofs.Decimals.{length-digits, two-cells, four-pairs, digits-run}
+use Rattle.numerals.proofs.Stretches.{is-digit}
+use Rattle.numerals.proofs.Decimals.{length-digits, two-cells, four-pairs, digits-stretch}
 use Rattle.numerals.proofs.Stripping.{stripped-some}
 use Rattle.numerals.proofs.Fractions.{kept, kept-length, fraction-back}
 use Rattle.text_scan.specs.declared.Scan.{Scan}
@@ -55,7 +55,7 @@ module _ (s : List ℕ) (i y : ℕ) (rest : List ℕ) (from : 1 ≤ y) (to : y �
   halves = e ∙ ap (λ (l : List ℕ). l ++ rest) (four-pairs y) ∙ append-assoc (digits 2 (y / 100)) (digits 2 (y % 100)) rest
 
   four : numeralAt s i ≡ record { value = y; count = 4 }
-  four = ap (number 0 0) e ∙ digits-run 4 y rest (omega arith) q
+  four = ap (number 0 0) e ∙ digits-stretch 4 y rest (omega arith) q
 
   -- the four bytes; a year that is not 0 has one that is not 0
   bytes-are : (at s i ≡ code "0" + y / 100 / 10) × (at s (i + 1) ≡ code "0" + y / 100 % 10) × (at s (i + 2) ≡ code "0" + y % 100 / 10) × (at s (i + 3) ≡ code "0" + y % 100 % 10)

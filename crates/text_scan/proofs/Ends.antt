@@ -12,7 +12,7 @@ use Rattle.basis.specs.Choice.{both}
 use Rattle.numerals.specs.Reading.{isDigit, Number, numeralAt, at, fractionAt}
 use Rattle.numerals.specs.declared.Fraction.{Fraction}
 use Rattle.numerals.proofs.Shares.{within}
-use Rattle.numerals.proofs.DigitRows.{digit-within, run-le}
+use Rattle.numerals.proofs.Stretches.{digit-within, stretch-le}
 use Rattle.numerals.proofs.Fractions.{fraction-le}
 use Rattle.text_scan.specs.declared.Scan.{Scan}
 use Rattle.text_scan.specs.declared.Pair.{Pair}
@@ -42,7 +42,7 @@ module _ (keep : ℕ → ℕ) (s : List ℕ) (i : ℕ) where
 
   year-le : i ≤ length s → yearAt keep s i .at ≤ length s
   unfolding yearAt
-  year-le h = year-is-le (numeralAt s i) (run-le s i h)
+  year-le h = year-is-le (numeralAt s i) (stretch-le s i h)
 
 module _ (s : List ℕ) (t : Scan) (h : t .at ≤ length s) where
   fraction-is-le : (i : ℕ) (f : Fraction) → i ≤ length s → f .end ≤ length s → fractionIs t i f .at ≤ length s

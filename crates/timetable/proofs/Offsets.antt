@@ -13,7 +13,7 @@ use borrow.Author.Tests.{ltb-true, ltb-false}
 use Rattle.basis.specs.Choice.{pick}
 use Rattle.timetable.specs.Parted.{parted, bytesBefore}
 use Rattle.timetable.specs.Lines.{newline, lessEmptyLast, linesOf, lineCount, withOffsets, linesFrom, lineEnd, afterEnd, nextLine, lineAt}
-use Rattle.timetable.proofs.Parting.{before-within, place-within, first-part}
+use Rattle.timetable.proofs.Parting.{before-within, offset-within, first-part}
 
 -- ---- the first line
 
@@ -59,7 +59,7 @@ end-from t at = omega arith
 
 pub end-within : (t : List ℕ) (at : ℕ) → at ≤ length t → lineEnd t at ≤ length t
 unfolding lineEnd
-end-within t at h = place-within newline t at h refl
+end-within t at h = offset-within newline t at h refl
 
 pub next-within : (t : List ℕ) (at : ℕ) → at ≤ length t → nextLine t at ≤ length t
 unfolding nextLine afterEnd

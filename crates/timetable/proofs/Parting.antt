@@ -39,8 +39,8 @@ before-within c (b ∷ bs) = go (eqb b c) (before-within c bs)
     go false h = omega arith
 
 -- an offset found from within a list lies within it
-pub place-within : (c : ℕ) (s : List ℕ) (at : ℕ) {r : ℕ} → at ≤ length s → r ≡ at + bytesBefore c (drop at s) → r ≤ length s
-place-within c s at h e = omega (arith, before-within c (drop at s), length-drop at s)
+pub offset-within : (c : ℕ) (s : List ℕ) (at : ℕ) {r : ℕ} → at ≤ length s → r ≡ at + bytesBefore c (drop at s) → r ≤ length s
+offset-within c s at h e = omega (arith, before-within c (drop at s), length-drop at s)
 
 -- the parts after the first, whose bytes are n
 abbrev pub partsAfter : ℕ → ℕ → List ℕ → List (List ℕ)

@@ -1,4 +1,4 @@
-use Rattle.condition_words.proofs.Running.{cut-long}
+use Rattle.condition_words.proofs.Stretching.{cut-long}
 use borrow.Author.Needs.{needs}
 use Rattle.condition_words.proofs.cut.Statement.{statement}
 use Rattle.condition_words.proofs.cut.Tie as tie

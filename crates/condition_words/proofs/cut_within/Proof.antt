@@ -1,4 +1,4 @@
-use Rattle.condition_words.proofs.Running.{cut-none}
+use Rattle.condition_words.proofs.Stretching.{cut-none}
 use borrow.Author.Needs.{needs}
 use Rattle.condition_words.proofs.cut_within.Statement.{statement}
 use Rattle.condition_words.proofs.cut_within.Tie as tie

@@ -5,7 +5,7 @@ use lib.ListN.{length}
 use borrow.Author.Needs.{needs}
 use Rattle.basis.proofs.Tests.{no, yes}
 use Rattle.condition_words.specs.Words.{stretchOf, stretchEnd}
-use Rattle.condition_words.proofs.Running.{run-on, run-stops, run-ends}
+use Rattle.condition_words.proofs.Stretching.{stretch-on, stretch-stops, stretch-ends}
 use Rattle.condition_words.proofs.stretch_end.Statement.{statement}
 use Rattle.condition_words.proofs.stretch_end.Tie as tie
 use Rattle.condition_words.proofs.stretch_end.Reads as reads
@@ -29,7 +29,7 @@ belongs-requires : tie.Need-belongs-requires Inv-loop μ-loop
 belongs-requires c κs = search needs
 
 returns : tie.Need-returns Inv-loop μ-loop
-returns c = search (run-stops, no)
+returns c = search (stretch-stops, no)
 
 add-p : tie.Need-add-p Inv-loop μ-loop
 add-p c = omega arith
@@ -38,10 +38,10 @@ loop-less : tie.Need-loop-less Inv-loop μ-loop
 loop-less c = omega arith
 
 loop-again : tie.Need-loop-again Inv-loop μ-loop
-loop-again c = search (run-on, yes)
+loop-again c = search (stretch-on, yes)
 
 returns-2 : tie.Need-returns-2 Inv-loop μ-loop
-returns-2 c = search run-ends
+returns-2 c = search stretch-ends
 
 pub stretch-end-spec : {M : Type 1} → statement M
 stretch-end-spec =

@@ -1,4 +1,4 @@
-use Rattle.condition_words.proofs.Running.{no-word, word-from, word-within, word-cut}
+use Rattle.condition_words.proofs.Stretching.{no-word, word-from, word-within, word-cut}
 use borrow.Author.Needs.{needs}
 use Rattle.condition_words.proofs.word.Statement.{statement}
 use Rattle.condition_words.proofs.word.Tie as tie

@@ -3,7 +3,7 @@ use Prim.Native.Nat.{_-_}
 use lib.ListN.{length}
 use borrow.Author.Needs.{needs}
 use Rattle.basis.proofs.Tests.{no, yes}
-use Rattle.numerals.proofs.DigitRows.{a-digit}
+use Rattle.numerals.proofs.Stretches.{a-digit}
 use Rattle.numerals.proofs.Passing.{Passed, start, next, at-other, at-end}
 use Rattle.numerals.proofs.digits.Statement.{statement}
 use Rattle.numerals.proofs.digits.Tie as tie

@@ -1,4 +1,4 @@
-use Rattle.numerals.proofs.DigitRows.{a-digit}
+use Rattle.numerals.proofs.Stretches.{a-digit}
 use Rattle.basis.proofs.Tests.{no, yes as good}
 use native.Mathlib.Omega.{arith}
 use Rattle.text_scan.specs.Scanning.{pairAt}

@@ -5,7 +5,7 @@ use borrow.Author.Tests.{ltb-true, ltb-false}
 use lib.ListN.{length, getD}
 use mathlib.Core.Path.{_≡_, refl, sym, _∙_}
 use Rattle.basis.proofs.Tests.{no, yes}
-use Rattle.numerals.proofs.DigitRows.{a-digit}
+use Rattle.numerals.proofs.Stretches.{a-digit}
 use Rattle.line_fields.proofs.Within.{Passed, start, next, none-read, too-short, too-long, at-other, too-great, at-end}
 use Rattle.line_fields.proofs.numbers.read.Statement.{statement}
 use Rattle.line_fields.proofs.numbers.read.Tie as tie

@@ -3,7 +3,7 @@ use mathlib.Core.Path.{sym, ap, _∙_}
 use native.Mathlib.Omega.{arith}
 use borrow.Author.Needs.{needs}
 use Rattle.timetable.specs.Fields.{fieldAt}
-use Rattle.timetable.proofs.Parting.{place-within}
+use Rattle.timetable.proofs.Parting.{offset-within}
 use Rattle.timetable.proofs.Counting.{no-field-zero, no-field-empty}
 use Rattle.timetable.proofs.Tabs.{field-missing, field-found, cut-field}
 use Rattle.timetable.proofs.fields.field.Statement.{statement}
@@ -51,7 +51,7 @@ part-result-start-3 c = omega arith
 part-result-end-3 : tie.Need-part-result-end-3
 part-result-end-3 c =
     let b = c .before .before in
-    place-within _ (b .before .before .before .args .line .now) (b .after-tabs .result) (c .before .if2 .left) (c .offset-of .ensures)
+    offset-within _ (b .before .before .before .args .line .now) (b .after-tabs .result) (c .before .if2 .left) (c .offset-of .ensures)
 
 returns-3 : tie.Need-returns-3
 returns-3 c =

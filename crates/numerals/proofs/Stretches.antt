@@ -1,4 +1,4 @@
--- Runs of digits: a digit is passed, another byte stops the run; a run stays within the text, and one of k digits is a
+-- Stretches of digits: a digit is passed, another byte stops the stretch; a stretch stays within the text, and one of k digits is a
 -- number below 10 ^ k.
 use mathlib.Core.Path.{_≡_, refl}
 use mathlib.Core.Bool.{Bool, true, false}
@@ -50,8 +50,8 @@ count-le v k (x ∷ xs) = go (isDigit x) (count-le (v * 10 + (x - code "0")) (su
     go true h = omega arith
     go false h = omega arith
 
-pub run-le : (s : List ℕ) (i : ℕ) → i ≤ length s → i + numeralAt s i .count ≤ length s
-run-le s i h = omega (arith, count-le 0 0 (drop i s), length-drop i s)
+pub stretch-le : (s : List ℕ) (i : ℕ) → i ≤ length s → i + numeralAt s i .count ≤ length s
+stretch-le s i h = omega (arith, count-le 0 0 (drop i s), length-drop i s)
 
 number-lt : (v k : ℕ) (xs : List ℕ) → v < 10 ^ k → number v k xs .value < 10 ^ number v k xs .count
 unfolding number
@@ -65,5 +65,5 @@ number-lt v k (x ∷ xs) h = go (isDigit x) refl (number-lt (v * 10 + (x - code 
     go true e r = r (omega (arith, a-digit x e, pow-suc 10 k))
     go false e r = h
 
-pub run-lt : (s : List ℕ) (i : ℕ) → numeralAt s i .value < 10 ^ numeralAt s i .count
-run-lt s i = number-lt 0 0 (drop i s) (omega arith)
+pub stretch-lt : (s : List ℕ) (i : ℕ) → numeralAt s i .value < 10 ^ numeralAt s i .count
+stretch-lt s i = number-lt 0 0 (drop i s) (omega arith)

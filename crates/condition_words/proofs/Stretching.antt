@@ -1,5 +1,5 @@
--- A run goes on at a byte of its class and stops at any other; it ends at or past its beginning, and within the text if it
--- begins there. So a word is as long as its run.
+-- A stretch goes on at a byte of its class and stops at any other; it ends at or past its beginning, and within the text if it
+-- begins there. So a word is as long as its stretch.
 use mathlib.Core.Path.{_≡_, refl, sym, ap, _∙_}
 use mathlib.Core.Bool.{Bool, true, false}
 use mathlib.Core.List.{List, []}
@@ -16,17 +16,17 @@ use Rattle.condition_words.specs.declared.Class.{Class}
 use Rattle.condition_words.specs.declared.Class.the-variants.{Letter}
 
 module _ (c : Class) (s : List ℕ) (at p : ℕ) (inv : stretchEnd c s at ≡ stretchOf (length s - p) c s p) where
-  pub run-on : p < length s → belongs c (getD s p 0) ≡ true → stretchEnd c s at ≡ stretchOf (length s - (p + 1)) c s (p + 1)
+  pub stretch-on : p < length s → belongs c (getD s p 0) ≡ true → stretchEnd c s at ≡ stretchOf (length s - (p + 1)) c s (p + 1)
   unfolding stretchOf
-  run-on h e = let k : length s - p ≡ suc (length s - (p + 1)) = omega arith in inv ∙ rw (k, stretchOf, e)
+  stretch-on h e = let k : length s - p ≡ suc (length s - (p + 1)) = omega arith in inv ∙ rw (k, stretchOf, e)
 
-  pub run-stops : p < length s → belongs c (getD s p 0) ≡ false → p ≡ stretchEnd c s at
+  pub stretch-stops : p < length s → belongs c (getD s p 0) ≡ false → p ≡ stretchEnd c s at
   unfolding stretchOf
-  run-stops h e = let k : length s - p ≡ suc (length s - (p + 1)) = omega arith in sym (inv ∙ rw (k, e))
+  stretch-stops h e = let k : length s - p ≡ suc (length s - (p + 1)) = omega arith in sym (inv ∙ rw (k, e))
 
-  pub run-ends : length s ≤ p → p ≡ stretchEnd c s at
+  pub stretch-ends : length s ≤ p → p ≡ stretchEnd c s at
   unfolding stretchOf
-  run-ends h = let k : length s - p ≡ 0 = omega arith in sym (inv ∙ rw k)
+  stretch-ends h = let k : length s - p ≡ 0 = omega arith in sym (inv ∙ rw k)
 
 of-from : (n : ℕ) (c : Class) (s : List ℕ) (p : ℕ) → p ≤ stretchOf n c s p
 unfolding stretchOf
@@ -46,37 +46,37 @@ of-within (suc n) c s p = by (belongs c (getD s p 0)) (of-within n c s (p + 1))
     by true h = omega arith
     by false h = omega arith
 
-pub run-from : (c : Class) (s : List ℕ) (p : ℕ) → p ≤ stretchEnd c s p
+pub stretch-from : (c : Class) (s : List ℕ) (p : ℕ) → p ≤ stretchEnd c s p
 unfolding stretchEnd
-run-from c s p = of-from (length s - p) c s p
+stretch-from c s p = of-from (length s - p) c s p
 
-pub run-within : (c : Class) (s : List ℕ) (p : ℕ) → p ≤ length s → stretchEnd c s p ≤ length s
+pub stretch-within : (c : Class) (s : List ℕ) (p : ℕ) → p ≤ length s → stretchEnd c s p ≤ length s
 unfolding stretchEnd
-run-within c s p h = omega (arith, of-within (length s - p) c s p)
+stretch-within c s p h = omega (arith, of-within (length s - p) c s p)
 
--- past the end there is no run
-pub run-past : (c : Class) (s : List ℕ) (p : ℕ) → length s ≤ p → stretchEnd c s p ≡ p
+-- past the end there is no stretch
+pub stretch-past : (c : Class) (s : List ℕ) (p : ℕ) → length s ≤ p → stretchEnd c s p ≡ p
 unfolding stretchEnd
-run-past c s p h = omega (arith, of-within (length s - p) c s p, of-from (length s - p) c s p)
+stretch-past c s p h = omega (arith, of-within (length s - p) c s p, of-from (length s - p) c s p)
 
 pub word-end : (s : List ℕ) (p : ℕ) → p + length (wordAt s p) ≡ stretchEnd Letter s p
 word-end s p = simp (length-take, length-drop) (by (leb (length s) p) refl)
   where
     by : (b : Bool) → leb (length s) p ≡ b → p + min (stretchEnd Letter s p - p) (length s - p) ≡ stretchEnd Letter s p
-    by true e = omega (arith, run-past Letter s p (leb-true _ _ e))
-    by false e = let h : p < length s = leb-false _ _ e in omega (arith, run-from Letter s p, run-within Letter s p (omega arith))
+    by true e = omega (arith, stretch-past Letter s p (leb-true _ _ e))
+    by false e = let h : p < length s = leb-false _ _ e in omega (arith, stretch-from Letter s p, stretch-within Letter s p (omega arith))
 
 -- what a word's code cuts out
 module _ (s : List ℕ) (at : ℕ) where
   pub no-word : length s ≤ at → [] ≡ wordAt s at
-  no-word h = rw (run-past Letter s at h, sub-self at)
+  no-word h = rw (stretch-past Letter s at h, sub-self at)
 
   module _ (e : ℕ) (q : e ≡ stretchEnd Letter s at) where
     pub word-from : at ≤ e
-    word-from = omega (arith, run-from Letter s at)
+    word-from = omega (arith, stretch-from Letter s at)
 
     pub word-within : at < length s → e ≤ length s
-    word-within h = omega (arith, run-within Letter s at (omega arith))
+    word-within h = omega (arith, stretch-within Letter s at (omega arith))
 
     pub word-cut : take (e - at) (drop at s) ≡ wordAt s at
     word-cut = rw q
