@@ -20,12 +20,12 @@ pub enum Part {
 
 pub const PARTS: [(Part, &str); 6] = [
     (Part::YearWalk, "the walk over the years: `calendar`"),
-    (Part::ConditionText, "the condition's text, its symbols and grammar: `condition`, `reading`, `symbols`, `depth`, `words`"),
-    (Part::Values, "values read, fields and literals: `text`, `layouts`, `judging`, `scan`, `durations`, `numerals`"),
+    (Part::ConditionText, "the condition's text, its symbols and grammar: `condition`, `condition_readers`, `condition_symbols`, `condition_depth`, `condition_words`"),
+    (Part::Values, "values read, fields and literals: `text`, `text_layouts`, `text_checks`, `text_scan`, `text_durations`, `numerals`"),
     (
         Part::Computing,
-        "comparing and computing: `operation`, `arithmetic`, `ordering`, `adjusting`, `casting`, `shifting`, `quantities`, `instants`, `value`, \
-         `results`, `givens`, `sorts`, `operators`",
+        "comparing and computing: `operation`, `operation_arithmetic`, `operation_ordering`, `operation_adjusting`, `operation_casting`, `operation_shifting`, `operation_quantities`, `value_instants`, `value`, \
+         `condition_parts`, `condition_givens`, `condition_sorts`, `condition_operators`",
     ),
     (Part::Copying, "bytes copied: `memcpy`, `memset`"),
     (Part::Desk, "all else: seats, lines found, output lines"),
@@ -68,11 +68,11 @@ fn part_of(name: &str) -> Part {
     let krate = name.split("::").next().unwrap_or("");
     match krate {
         "calendar" => Part::YearWalk,
-        "condition" | "reading" | "symbols" | "depth" | "words" => Part::ConditionText,
+        "condition" | "condition_readers" | "condition_symbols" | "condition_depth" | "condition_words" => Part::ConditionText,
         "numerals" if name.contains("decimal") => Part::Desk,
-        "text" | "layouts" | "judging" | "scan" | "durations" | "numerals" => Part::Values,
-        "operation" | "arithmetic" | "ordering" | "adjusting" | "casting" | "shifting" | "quantities" => Part::Computing,
-        "instants" | "value" | "results" | "givens" | "sorts" | "operators" => Part::Computing,
+        "text" | "text_layouts" | "text_checks" | "text_scan" | "text_durations" | "numerals" => Part::Values,
+        "operation" | "operation_arithmetic" | "operation_ordering" | "operation_adjusting" | "operation_casting" | "operation_shifting" | "operation_quantities" => Part::Computing,
+        "value_instants" | "value" | "condition_parts" | "condition_givens" | "condition_sorts" | "condition_operators" => Part::Computing,
         _ if name.contains("memcpy") || name.contains("memmove") || name.contains("memset") => Part::Copying,
         _ => Part::Desk,
     }
@@ -113,7 +113,7 @@ mod tests {
 
     #[test]
     fn what_is_called_does_not_count_for_its_caller() {
-        let file = "summary: 37\n\nfn=(1) reading::test\n0 5\ncfn=(2) calendar::day_number\ncalls=3 0\n0 30\n+1 1\n\n\
+        let file = "summary: 37\n\nfn=(1) condition_readers::test\n0 5\ncfn=(2) calendar::day_number\ncalls=3 0\n0 30\n+1 1\n\n\
                     fn=(2)\n0 30\n\nfn=(3) memcpy\n* 1\n";
         let profile = Profile { counts: own_counts(file) };
         assert_eq!(profile.total(), 37);

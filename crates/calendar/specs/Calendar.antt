@@ -54,8 +54,8 @@ dayNumber y m d = total yearDays y + total (monthRow (leapRow y)) (m - 1) + (d -
 abbrev pub dayOf : Date → ℕ
 dayOf d = dayNumber (d .year) (d .month) (d .day)
 
--- Periods of f i, f (i + 1), .. days: the period in which the day numbered n lies, and its number there. At most `fuel` periods
--- are passed.
+-- Periods of f i, f (i + 1), .. days: the number of the period in which day n lies, and how many of its days come before
+-- n. At most `fuel` periods are passed.
 pub record Period : Type 0 where
   pub number : ℕ
   pub left : ℕ

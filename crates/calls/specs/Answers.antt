@@ -1,5 +1,6 @@
--- docs/LINES.md, "The calculator": the answer to a line. What call it is stands first; "then each text is read, from the left;
--- the first that does not read gives `refused` and its number. Then the call is made; a refusal gives `refused` and its number."
+-- docs/LINES.md, "The calculator": the answer to a line. Which call it is stands first; "Then each text is read, from the
+-- left; the first that does not read gives `refused→` and its number." "Then the call is made; a refusal gives `refused→` and
+-- its number".
 use mathlib.Core.Bool.{false}
 use mathlib.Core.List.{List, _∷_, _++_}
 use Prim.Native.Nat.{ℕ}
@@ -58,7 +59,7 @@ twoText T.Adjust a z = said textOf (adjustOf a z)
 abbrev pub noCall : List ℕ
 noCall = refusedText badCondition
 
--- "Input of over 65,536 bytes is answered with the one line `refused` 7 and nothing else."
+-- "Input of over 65,536 bytes is answered with the one line `refused→7` and nothing else."
 abbrev pub maxCallsInput : ℕ
 maxCallsInput = 65_536
 

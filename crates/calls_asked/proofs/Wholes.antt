@@ -13,7 +13,7 @@ use Rattle.basis.specs.Choice.{pick, both}
 use Rattle.numerals.specs.Reading.{at, numeralAt}
 use Rattle.numerals.specs.Carried.{Found}
 use Rattle.numerals.specs.declared.DigitsRead.{DigitsRead}
-use Rattle.numerals.proofs.Shares.{within}
+use Rattle.numerals.proofs.Positions.{within}
 use Rattle.value.specs.declared.Value.{Value}
 use Rattle.value.specs.Kinds.{okValue}
 use Rattle.value.specs.Refusals.{outside}

@@ -1,4 +1,4 @@
--- docs/LINES.md, "The calculator": which call a line is. "A line that is no such call is answered with `refused` 7: an unknown
+-- docs/LINES.md, "The calculator": which call a line is. "A line that is no such call is answered with `refused→7`: an unknown
 -- word, too few or too many fields, a K that is no kind's name, an N of another form."
 use mathlib.Core.Bool.{Bool, false}
 use mathlib.Core.List.{List}

@@ -1,5 +1,5 @@
 -- Carried: a reply as it grows, and the room that its parts take. No promise to a caller rests on it: what a reply says is
--- Replies.antt and Parts.antt.
+-- Replies.antt and ReplyParts.antt.
 use mathlib.Core.Path.{_≡_}
 use mathlib.Core.List.{List, _++_}
 use Prim.Native.Nat.{ℕ, _+_, _*_}

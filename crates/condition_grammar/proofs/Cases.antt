@@ -11,7 +11,7 @@ use Rattle.basis.specs.Choice.{pick, both}
 use Rattle.basis.specs.Letters.{bytes}
 use Rattle.numerals.specs.Reading.{isDigit, number}
 use Rattle.value.specs.declared.Kind.the-variants as K
-use Rattle.condition_words.specs.Words.{letter, belongs, stretchOf, stretchEnd, same}
+use Rattle.condition_words.specs.Words.{letter, belongs, stretchEndIn, stretchEnd, same}
 use Rattle.condition_depth.specs.Depth.{deep, deepFrom, maxDepth}
 use Rattle.condition_symbols.specs.Symbols as the
 use Rattle.condition_symbols.specs.declared.Op.the-variants as O
@@ -31,7 +31,7 @@ pub texts-state :
     States (bytes "xs:date($1) - xs:date($2)+xs:date( $3 )  ") (two O.Plus 0 25 (two O.Minus 0 12 (day 0 1 8) (day 14 2 22)) (day 26 3 35)) ×
     States (bytes "xs:date($1) and xs:date($2) or xs:date($3) and xs:date($4)") (two O.Or 0 28 (two O.And 0 12 (day 0 1 8) (day 16 2 24)) (two O.And 31 43 (day 31 3 39) (day 47 4 55))) ×
     States (bytes "xs:date($1)* -5 * 07") (one (times false 7) 18 (one (times true 5) 13 (day 0 1 8)))
-unfolding parse conditionIn conditionMoreIn clauseIn clauseMoreIn testIn sumIn sumMoreIn termIn termMoreIn factorIn heldIn inner many repeated closedAt the.markAt the.operatorAt the.comparing the.comparisonAt the.signAt the.named the.startAt the.textFrom the.fieldOf the.fieldFrom the.heldAt the.wholeOf the.wholeFrom the.multiplierAt number isDigit both letter belongs stretchOf stretchEnd same
+unfolding parse conditionIn conditionMoreIn clauseIn clauseMoreIn testIn sumIn sumMoreIn termIn termMoreIn factorIn heldIn inner many repeated closedAt the.markAt the.operatorAt the.comparing the.comparisonAt the.signAt the.named the.startAt the.textFrom the.fieldOf the.fieldFrom the.heldAt the.wholeOf the.wholeFrom the.multiplierAt number isDigit both letter belongs stretchEndIn stretchEnd same
 texts-state = (parsed-is-stated _ _ 39 refl, parsed-is-stated _ _ 58 refl, parsed-is-stated _ _ 20 refl)
 
 -- a text with at most sixteen opening parentheses is not too deep
@@ -76,5 +76,5 @@ pub texts-state-none :
     StatesNone (bytes "xs:date($1) * - 5") ×
     StatesNone (bytes "xs:date((\"2000-01-01\"))") ×
     StatesNone (bytes "xs:date($1)orxs:date($2)")
-unfolding parse conditionIn conditionMoreIn clauseIn clauseMoreIn testIn sumIn sumMoreIn termIn termMoreIn factorIn heldIn inner many repeated closedAt the.markAt the.operatorAt the.comparing the.comparisonAt the.signAt the.named the.startAt the.textFrom the.fieldOf the.fieldFrom the.heldAt the.wholeOf the.wholeFrom the.multiplierAt number isDigit both letter belongs stretchOf stretchEnd same openings
+unfolding parse conditionIn conditionMoreIn clauseIn clauseMoreIn testIn sumIn sumMoreIn termIn termMoreIn factorIn heldIn inner many repeated closedAt the.markAt the.operatorAt the.comparing the.comparisonAt the.signAt the.named the.startAt the.textFrom the.fieldOf the.fieldFrom the.heldAt the.wholeOf the.wholeFrom the.multiplierAt number isDigit both letter belongs stretchEndIn stretchEnd same openings
 texts-state-none = (none-stated _ refl refl, none-stated _ refl refl, none-stated _ refl refl, none-stated _ refl refl, none-stated _ refl refl)

@@ -12,7 +12,7 @@ use borrow.Author.Tests.{leb-true, leb-false, ltb-true, eqb-true, eqb-false}
 use Rattle.basis.specs.Choice.{pick}
 use Rattle.basis.specs.Letters.{bytes}
 use Rattle.numerals.specs.Reading.{Number, numeralAt}
-use Rattle.numerals.proofs.Shares.{within}
+use Rattle.numerals.proofs.Positions.{within}
 use Rattle.numerals.proofs.Stretches.{stretch-le, stretch-lt}
 use Rattle.numerals.proofs.Powers.{widened}
 use Rattle.value.specs.declared.Kind.{Kind}
@@ -133,7 +133,7 @@ module _ (s : List ℕ) (at : ℕ) where
   sign-past = picked (PastJoint (length s) at) (eqb (getD s (skipped s at) 0) (code "+")) _ _ (λ e. next-past s at (code "+") e refl)
       (λ f. picked (PastJoint (length s) at) (eqb (getD s (skipped s at) 0) (code "-")) _ _ (λ e. next-past s at (code "-") e refl) (λ e. tt))
 
-  made-past : (k : Kind) (p e : ℕ) (m : Mark) → at ≤ e → PastMark (length s) e m → PastStart (length s) at (the.startMade k p m)
+  made-past : (k : Kind) (p e : ℕ) (m : Mark) → at ≤ e → PastMark (length s) e m → PastStart (length s) at (the.kindStart k p m)
   made-past k p e M.No h g = tt
   made-past k p e (M.At n) h g = (omega arith, g .1)
 

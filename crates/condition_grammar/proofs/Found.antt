@@ -11,7 +11,7 @@ use lib.ListN.{length, getD}
 use borrow.Author.Tests.{leb-true, ltb-true, eqb-true, eqb-false}
 use Rattle.basis.specs.Letters.{bytes}
 use Rattle.numerals.specs.Reading.{numeralAt, at}
-use Rattle.numerals.proofs.Shares.{within}
+use Rattle.numerals.proofs.Positions.{within}
 use Rattle.value.specs.declared.Kind.{Kind}
 use Rattle.value.specs.declared.Kind.the-variants as K
 use Rattle.condition_words.specs.Words.{stretchEnd, skipped, wordAt, same}
@@ -141,9 +141,9 @@ module _ (s : List ℕ) (a : ℕ) where
   StartStands (S.Open n) = Opening n
   StartStands (S.Make k p n) = Naming s k a p n
 
-  made-stands : (k : Kind) (p m : ℕ) → Word s (nameOf k) a p m → StartStands (the.startMade k p (the.openingAt s m))
+  made-stands : (k : Kind) (p m : ℕ) → Word s (nameOf k) a p m → StartStands (the.kindStart k p (the.openingAt s m))
   unfolding the.markAt
-  made-stands k p m w = picked (λ x. StartStands (the.startMade k p x)) (eqb (getD s (skipped s m) 0) (code "(")) _ _
+  made-stands k p m w = picked (λ x. StartStands (the.kindStart k p x)) (eqb (getD s (skipped s m) 0) (code "(")) _ _
       (λ e. record { m = m; q = skipped s m; name = w; opening = mark-stands s m "(" e refl }) (λ e. tt)
 
   abbrev MakesStand : Named → Type 0

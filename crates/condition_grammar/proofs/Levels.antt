@@ -15,7 +15,7 @@ use Rattle.basis.specs.Letters.{bytes}
 use Rattle.numerals.specs.Reading.{Number, isDigit, number, numeralAt}
 use Rattle.numerals.proofs.Stretches.{a-digit}
 use Rattle.value.specs.declared.Kind.{Kind}
-use Rattle.condition_words.specs.Words.{letter, belongs, stretchOf, stretchEnd, skipped, wordAt, same}
+use Rattle.condition_words.specs.Words.{letter, belongs, stretchEndIn, stretchEnd, skipped, wordAt, same}
 use Rattle.condition_depth.specs.Depth.{deep, deepFrom, maxDepth}
 use Rattle.condition_symbols.specs.Symbols as the
 use Rattle.condition_depth.proofs.Depths.{at-quote, inside, at-opening, too-deep, at-closing, at-other}
@@ -104,8 +104,8 @@ of-no-other : (c : Class) (b n : ℕ) → belongs c n ≡ false → belongs c b 
 of-no-other c b n f e q = let z : _≡_ {A = ℕ} 0 1 = cc (f, e, ap (belongs c) q) in omega arith
 
 module _ (s : List ℕ) (k : ℕ) (c : Class) (p : (b : ℕ) → belongs c b ≡ true → Plain b) where
-  of-level : (n at : ℕ) → n ≤ length s - at → Level s false k at → Level s false k (stretchOf n c s at)
-  unfolding stretchOf
+  of-level : (n at : ℕ) → n ≤ length s - at → Level s false k at → Level s false k (stretchEndIn n c s at)
+  unfolding stretchEndIn
   of-level zero at h l = l
   of-level (suc n) at h l = picked (Level s false k) (belongs c (getD s at 0)) _ _
       (λ e. of-level n (at + 1) (omega arith) (past-plain s k at (omega arith) (p (getD s at 0) e) l)) (λ e. l)
@@ -176,21 +176,21 @@ unfolding belongs
 is-quote b e = eqb-true _ _ (not-false _ e)
 
 module _ (s : List ℕ) where
-  quote-ends : (n at : ℕ) → n ≡ length s - at → stretchOf n Unquoted s at < length s → getD s (stretchOf n Unquoted s at) 0 ≡ code "\""
-  unfolding stretchOf
+  quote-ends : (n at : ℕ) → n ≡ length s - at → stretchEndIn n Unquoted s at < length s → getD s (stretchEndIn n Unquoted s at) 0 ≡ code "\""
+  unfolding stretchEndIn
   quote-ends zero at e h = absurd (omega arith)
   quote-ends (suc n) at e h = picked (λ x. x < length s → getD s x 0 ≡ code "\"") (belongs Unquoted (getD s at 0)) _ _
       (λ b. quote-ends n (at + 1) (omega arith)) (λ b i. is-quote (getD s at 0) b) h
 
-  quoted-stretch : (k n at : ℕ) → n ≤ length s - at → Level s true k at → Level s true k (stretchOf n Unquoted s at)
-  unfolding stretchOf
+  quoted-stretch : (k n at : ℕ) → n ≤ length s - at → Level s true k at → Level s true k (stretchEndIn n Unquoted s at)
+  unfolding stretchEndIn
   quoted-stretch k zero at h l = l
   quoted-stretch k (suc n) at h l = picked (Level s true k) (belongs Unquoted (getD s at 0)) _ _
       (λ e. quoted-stretch k n (at + 1) (omega arith) (within-quotes s k at (omega arith) (no-quote (getD s at 0) e) l)) (λ e. l)
 
   text-level : (k from : ℕ) → Level s true k from → stretchEnd Unquoted s from < length s → Level s false k (stretchEnd Unquoted s from + 1)
   unfolding stretchEnd
-  text-level k from l h = out-of-quotes s k (stretchOf (length s - from) Unquoted s from) h (quote-ends (length s - from) from refl h)
+  text-level k from l h = out-of-quotes s k (stretchEndIn (length s - from) Unquoted s from) h (quote-ends (length s - from) from refl h)
       (quoted-stretch k (length s - from) from (omega arith) l)
 
 -- the symbols
@@ -301,7 +301,7 @@ module _ (s : List ℕ) (k : ℕ) where
       makes-level p m N.No = tt
       makes-level p m (N.Is j) = by (eqb (getD s (skipped s (stretchEnd Letter s p)) 0) (code "(")) refl
         where
-          by : (b : Bool) → eqb (getD s (skipped s (stretchEnd Letter s p)) 0) (code "(") ≡ b → LevelStart (the.startMade j p (pick b (M.At (skipped s (stretchEnd Letter s p) + 1)) M.No))
+          by : (b : Bool) → eqb (getD s (skipped s (stretchEnd Letter s p)) 0) (code "(") ≡ b → LevelStart (the.kindStart j p (pick b (M.At (skipped s (stretchEnd Letter s p) + 1)) M.No))
           by true e = opens (skipped s (stretchEnd Letter s p)) (skip-level s k (stretchEnd Letter s p) (stretch-level s k Letter letter-plain p m)) e
           by false e = tt
 

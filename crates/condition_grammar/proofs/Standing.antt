@@ -12,7 +12,7 @@ use borrow.Author.Tests.{eq-eqb, ne-eqb, le-leb, lt-ltb}
 use Rattle.basis.specs.Choice.{both}
 use Rattle.basis.specs.Letters.{bytes}
 use Rattle.numerals.specs.Reading.{numeralAt, at}
-use Rattle.numerals.proofs.Shares.{within}
+use Rattle.numerals.proofs.Positions.{within}
 use Rattle.value.specs.declared.Kind.{Kind}
 use Rattle.value.specs.declared.Kind.the-variants as K
 use Rattle.condition_words.specs.Words.{skipped, between, same}
@@ -131,7 +131,7 @@ module _ {s : List ℕ} where
   unfolding the.startAt
   opening-found m = rw (spaces-end (m .spaces), m .stands, m .next)
 
-  made-found : {m q n : ℕ} (k : Kind) (p : ℕ) → OneByte s "(" m q n → the.startMade k p (the.openingAt s m) ≡ S.Make k p n
+  made-found : {m q n : ℕ} (k : Kind) (p : ℕ) → OneByte s "(" m q n → the.kindStart k p (the.openingAt s m) ≡ S.Make k p n
   made-found k p m = rw (mark-found m)
 
   pub naming-found : {k : Kind} {a p n : ℕ} → Naming s k a p n → the.startAt s a ≡ S.Make k p n

@@ -16,7 +16,7 @@ use Rattle.basis.specs.Choice.{pick, both}
 use Rattle.basis.proofs.Tests.{both-left, both-right, both-true}
 use Rattle.numerals.specs.Reading.{number, numeralAt, isDigit, at}
 use Rattle.numerals.proofs.Stretches.{stop, digit-within, a-digit}
-use Rattle.condition_words.specs.Words.{letter, belongs, stretchOf, stretchEnd, skipped, between, same}
+use Rattle.condition_words.specs.Words.{letter, belongs, stretchEndIn, stretchEnd, skipped, between, same}
 use Rattle.condition_words.proofs.Stretching.{stretch-from, stretch-within}
 use Rattle.condition_words.specs.declared.Class.{Class}
 use Rattle.condition_words.specs.declared.Class.the-variants as C
@@ -76,16 +76,16 @@ no-digit-of b n = by (isDigit b) refl
     by false e = e
 
 module _ (c : Class) (s : List ℕ) where
-  of-longest : (n p to : ℕ) → Longest (Of c) s p to → to ≤ p + n → stretchOf n c s p ≡ to
-  unfolding stretchOf
+  of-longest : (n p to : ℕ) → Longest (Of c) s p to → to ≤ p + n → stretchEndIn n c s p ≡ to
+  unfolding stretchEndIn
   of-longest zero p to l h = let f : p ≤ to = l .forward in omega arith
   of-longest (suc n) p to l h = by (belongs c (getD s p 0)) refl (leb to p) refl (λ g k. of-longest n (p + 1) to g k)
     where
       next : p < to → Longest (Of c) s (p + 1) to
       next k = record { forward = omega arith; within = l .within; all = λ i a b. l .all i (omega arith) b; ends = l .ends }
 
-      by : (b : Bool) → belongs c (getD s p 0) ≡ b → (d : Bool) → leb to p ≡ d → (Longest (Of c) s (p + 1) to → to ≤ p + 1 + n → stretchOf n c s (p + 1) ≡ to) →
-          pick b (stretchOf n c s (p + 1)) p ≡ to
+      by : (b : Bool) → belongs c (getD s p 0) ≡ b → (d : Bool) → leb to p ≡ d → (Longest (Of c) s (p + 1) to → to ≤ p + 1 + n → stretchEndIn n c s (p + 1) ≡ to) →
+          pick b (stretchEndIn n c s (p + 1)) p ≡ to
       by true e true d r =
           let f : p ≤ to = l .forward in let g : to ≤ p = leb-true _ _ d in let q : p ≡ to = omega arith in
           absurd (l .ends (subst (λ i. Of c (getD s i 0)) q (belongs-of c _ e)))
@@ -97,8 +97,8 @@ module _ (c : Class) (s : List ℕ) where
   unfolding stretchEnd
   longest-is {p} {to} l = let w : to ≤ length s = l .within in of-longest (length s - p) p to l (omega arith)
 
-  of-all : (n p i : ℕ) → p ≤ i → i < stretchOf n c s p → Of c (getD s i 0)
-  unfolding stretchOf
+  of-all : (n p i : ℕ) → p ≤ i → i < stretchEndIn n c s p → Of c (getD s i 0)
+  unfolding stretchEndIn
   of-all zero p i h = λ k. absurd (omega arith)
   of-all (suc n) p i h = picked (λ x. i < x → Of c (getD s i 0)) (belongs c (getD s p 0)) _ _
       (λ e k. by e (leb i p) refl (λ g. of-all n (p + 1) i g k)) (λ e k. absurd (omega arith))
@@ -107,8 +107,8 @@ module _ (c : Class) (s : List ℕ) where
       by e true d r = let g : i ≤ p = leb-true _ _ d in let q : p ≡ i = omega arith in subst (λ j. Of c (getD s j 0)) q (belongs-of c _ e)
       by e false d r = let g : p < i = leb-false _ _ d in r (omega arith)
 
-  of-ends : (n p : ℕ) → n ≡ length s - p → stretchOf n c s p < length s → belongs c (getD s (stretchOf n c s p) 0) ≡ false
-  unfolding stretchOf
+  of-ends : (n p : ℕ) → n ≡ length s - p → stretchEndIn n c s p < length s → belongs c (getD s (stretchEndIn n c s p) 0) ≡ false
+  unfolding stretchEndIn
   of-ends zero p e h = absurd (omega arith)
   of-ends (suc n) p e h = picked (λ x. x < length s → belongs c (getD s x 0) ≡ false) (belongs c (getD s p 0)) _ _
       (λ b. of-ends n (p + 1) (omega arith)) (λ b i. b) h

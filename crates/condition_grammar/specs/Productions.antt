@@ -16,7 +16,6 @@ use Rattle.numerals.specs.Reading.{at}
 use Rattle.condition_words.specs.Words.{between}
 use Rattle.value.specs.declared.Kind.{Kind}
 use Rattle.value.specs.declared.Kind.the-variants as K
-use Rattle.condition_symbols.specs.Symbols.{maxField, maxDigits}
 use Rattle.condition_symbols.specs.declared.Op.{Op}
 use Rattle.condition_symbols.specs.declared.Op.the-variants as O
 use Rattle.condition_grammar.specs.Trees.{Tree, leaf, one, two, literal, field, cast, times}
@@ -67,7 +66,7 @@ pub record Numeral (s : List ℕ) (v from to : ℕ) : Type 0 where
 
 -- "`$n` is one symbol without leading zeros", "a field `$1` to `$16`": the field i
 pub data Field (s : List ℕ) (i : ℕ) : ℕ → ℕ → ℕ → Type 0 where
-  numbered : {a p m n : ℕ} → OneByte s "$" a p m → Numeral s i m n → (at s m ≡ code "0" → ⊥) → 1 ≤ i → i ≤ maxField → Field s i a p n
+  numbered : {a p m n : ℕ} → OneByte s "$" a p m → Numeral s i m n → (at s m ≡ code "0" → ⊥) → 1 ≤ i → i ≤ 16 → Field s i a p n
 
 -- "a text in double quotes (no quote inside)": the bytes from an offset up to another are what stands in the quotes
 pub data Quoted (s : List ℕ) : ℕ → ℕ → ℕ → ℕ → Type 0 where
@@ -76,8 +75,8 @@ pub data Quoted (s : List ℕ) : ℕ → ℕ → ℕ → ℕ → Type 0 where
 
 -- "a whole number of one to six digits, a minus allowed directly before them": v, and whether the minus is there
 pub data Whole (s : List ℕ) (v : ℕ) : Bool → ℕ → ℕ → ℕ → Type 0 where
-  unsigned : {a p n : ℕ} → Spaces s a p → Numeral s v p n → p < n → n ≤ p + maxDigits → Whole s v false a p n
-  signed : {a p m n : ℕ} → OneByte s "-" a p m → Numeral s v m n → m < n → n ≤ m + maxDigits → Whole s v true a p n
+  unsigned : {a p n : ℕ} → Spaces s a p → Numeral s v p n → p < n → n ≤ p + 6 → Whole s v false a p n
+  signed : {a p m n : ℕ} → OneByte s "-" a p m → Numeral s v m n → m < n → n ≤ m + 6 → Whole s v true a p n
 
 -- "`+` or `-`"
 pub data Sign (s : List ℕ) : Op → ℕ → ℕ → ℕ → Type 0 where

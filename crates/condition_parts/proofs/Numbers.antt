@@ -22,7 +22,7 @@ use Rattle.value.specs.declared.Kind.{Kind}
 use Rattle.value.specs.declared.Kind.the-variants as K
 use Rattle.value.specs.declared.Value.{Value}
 use Rattle.text_scan.specs.declared.Scan.{Scan}
-use Rattle.text_scan.specs.Scanning.{uncapped, partsOf}
+use Rattle.text_scan.specs.Scanning.{uncapped, scannedParts}
 use Rattle.text_checks.specs.Reading as judging
 use Rattle.text_layouts.specs.Reading.{readLayout}
 use Rattle.text_durations.specs.Walks.{counted, readBy, shape, asValue}
@@ -92,8 +92,8 @@ read-by-only f s = counted-only (f .unit) (f .most) (shape (f .before) (f .after
 
 pub read-only : (k : Kind) (s : List ℕ) → Only (readAs k s)
 unfolding readAs readLayout
-read-only K.Date s = judge-only K.Date (length s) (partsOf uncapped K.Date s)
-read-only K.Time s = judge-only K.Time (length s) (partsOf uncapped K.Time s)
-read-only K.DateTime s = judge-only K.DateTime (length s) (partsOf uncapped K.DateTime s)
+read-only K.Date s = judge-only K.Date (length s) (scannedParts uncapped K.Date s)
+read-only K.Time s = judge-only K.Time (length s) (scannedParts uncapped K.Time s)
+read-only K.DateTime s = judge-only K.DateTime (length s) (scannedParts uncapped K.DateTime s)
 read-only K.DayTimeDuration s = as-value-only _ (readBy dayTime s) (read-by-only dayTime s)
 read-only K.YearMonthDuration s = as-value-only _ (readBy yearMonth s) (read-by-only yearMonth s)

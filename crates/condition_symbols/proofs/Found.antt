@@ -13,7 +13,7 @@ use Rattle.basis.specs.Letters.{bytes}
 use Rattle.numerals.specs.Reading.{Number, numeralAt}
 use Rattle.numerals.specs.Carried.{Found}
 use Rattle.numerals.specs.declared.DigitsRead.{DigitsRead}
-use Rattle.numerals.proofs.Shares.{within}
+use Rattle.numerals.proofs.Positions.{within}
 use Rattle.numerals.proofs.Stretches.{stretch-lt, stretch-le}
 use Rattle.numerals.proofs.Powers.{widened}
 use Rattle.value.specs.declared.Kind.{Kind}
@@ -82,11 +82,11 @@ module _ (s : List ℕ) (at p x : ℕ) (e : p ≡ skipped s at) (q : x ≡ getD 
     start-no-name i = named-so N.No i
 
     module _ (k : Kind) (i : y ≡ N.Is k) (m : Mark) (o : m ≡ the.markAt s (p + length w) (code "(")) where
-      marked-so : (z : Mark) → m ≡ z → the.startMade k p z ≡ the.startAt s at
+      marked-so : (z : Mark) → m ≡ z → the.kindStart k p z ≡ the.startAt s at
       marked-so z j =
           let v : p + length w ≡ stretchEnd Letter s p = ap (λ l. p + length l) f ∙ word-end s p in
           let u : z ≡ the.openingAt s (stretchEnd Letter s p) = sym j ∙ o ∙ ap (λ n. the.markAt s n (code "(")) v in
-          ap (the.startMade k p) u ∙ named-so (N.Is k) i
+          ap (the.kindStart k p) u ∙ named-so (N.Is k) i
 
       pub start-no-mark : m ≡ M.No → S.No ≡ the.startAt s at
       start-no-mark j = marked-so M.No j

@@ -81,13 +81,13 @@ named w =
     (pick (same w (bytes "xs:yearMonthDuration")) (N.Is K.YearMonthDuration) N.No))))
 
 -- a kind's name goes on with a parenthesis
-abbrev pub startMade : Kind → ℕ → Mark → Start
-startMade k from M.No = S.No
-startMade k from (M.At n) = S.Make k from n
+abbrev pub kindStart : Kind → ℕ → Mark → Start
+kindStart k from M.No = S.No
+kindStart k from (M.At n) = S.Make k from n
 
 abbrev pub makes : List ℕ → ℕ → Named → Start
 makes s p N.No = S.No
-makes s p (N.Is k) = startMade k p (openingAt s (stretchEnd Letter s p))
+makes s p (N.Is k) = kindStart k p (openingAt s (stretchEnd Letter s p))
 
 -- how a factor begins: a parenthesis, or a kind's name and a parenthesis
 unfoldable pub startAt : List ℕ → ℕ → Start

@@ -11,38 +11,38 @@ use borrow.Author.Tests.{leb-true, leb-false}
 use lib.ListN.{length, getD, take, drop, length-take, length-drop}
 use Rattle.basis.specs.Choice.{pick}
 use lib.Seq.{take-all}
-use Rattle.condition_words.specs.Words.{belongs, stretchOf, stretchEnd, wordAt, between}
+use Rattle.condition_words.specs.Words.{belongs, stretchEndIn, stretchEnd, wordAt, between}
 use Rattle.condition_words.specs.declared.Class.{Class}
 use Rattle.condition_words.specs.declared.Class.the-variants.{Letter}
 
-module _ (c : Class) (s : List ℕ) (at p : ℕ) (inv : stretchEnd c s at ≡ stretchOf (length s - p) c s p) where
-  pub stretch-on : p < length s → belongs c (getD s p 0) ≡ true → stretchEnd c s at ≡ stretchOf (length s - (p + 1)) c s (p + 1)
-  unfolding stretchOf
-  stretch-on h e = let k : length s - p ≡ suc (length s - (p + 1)) = omega arith in inv ∙ rw (k, stretchOf, e)
+module _ (c : Class) (s : List ℕ) (at p : ℕ) (inv : stretchEnd c s at ≡ stretchEndIn (length s - p) c s p) where
+  pub stretch-on : p < length s → belongs c (getD s p 0) ≡ true → stretchEnd c s at ≡ stretchEndIn (length s - (p + 1)) c s (p + 1)
+  unfolding stretchEndIn
+  stretch-on h e = let k : length s - p ≡ suc (length s - (p + 1)) = omega arith in inv ∙ rw (k, stretchEndIn, e)
 
   pub stretch-stops : p < length s → belongs c (getD s p 0) ≡ false → p ≡ stretchEnd c s at
-  unfolding stretchOf
+  unfolding stretchEndIn
   stretch-stops h e = let k : length s - p ≡ suc (length s - (p + 1)) = omega arith in sym (inv ∙ rw (k, e))
 
   pub stretch-ends : length s ≤ p → p ≡ stretchEnd c s at
-  unfolding stretchOf
+  unfolding stretchEndIn
   stretch-ends h = let k : length s - p ≡ 0 = omega arith in sym (inv ∙ rw k)
 
-of-from : (n : ℕ) (c : Class) (s : List ℕ) (p : ℕ) → p ≤ stretchOf n c s p
-unfolding stretchOf
+of-from : (n : ℕ) (c : Class) (s : List ℕ) (p : ℕ) → p ≤ stretchEndIn n c s p
+unfolding stretchEndIn
 of-from zero c s p = le-refl p
 of-from (suc n) c s p = by (belongs c (getD s p 0)) (of-from n c s (p + 1))
   where
-    by : (b : Bool) → p + 1 ≤ stretchOf n c s (p + 1) → p ≤ pick b (stretchOf n c s (p + 1)) p
+    by : (b : Bool) → p + 1 ≤ stretchEndIn n c s (p + 1) → p ≤ pick b (stretchEndIn n c s (p + 1)) p
     by true h = omega arith
     by false h = le-refl p
 
-of-within : (n : ℕ) (c : Class) (s : List ℕ) (p : ℕ) → stretchOf n c s p ≤ p + n
-unfolding stretchOf
+of-within : (n : ℕ) (c : Class) (s : List ℕ) (p : ℕ) → stretchEndIn n c s p ≤ p + n
+unfolding stretchEndIn
 of-within zero c s p = omega arith
 of-within (suc n) c s p = by (belongs c (getD s p 0)) (of-within n c s (p + 1))
   where
-    by : (b : Bool) → stretchOf n c s (p + 1) ≤ p + 1 + n → pick b (stretchOf n c s (p + 1)) p ≤ p + suc n
+    by : (b : Bool) → stretchEndIn n c s (p + 1) ≤ p + 1 + n → pick b (stretchEndIn n c s (p + 1)) p ≤ p + suc n
     by true h = omega arith
     by false h = omega arith
 

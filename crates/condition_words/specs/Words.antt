@@ -25,12 +25,12 @@ belongs Letter b = letter b
 belongs Unquoted b = not (eqb b quote)
 
 -- where the longest stretch of bytes of a class ends that begins at an offset, of at most n bytes
-unfoldable pub stretchOf : ℕ → Class → List ℕ → ℕ → ℕ
-stretchOf zero c s at = at
-stretchOf (suc n) c s at = let further = stretchOf n c s (at + 1) in pick (belongs c (getD s at 0)) further at
+unfoldable pub stretchEndIn : ℕ → Class → List ℕ → ℕ → ℕ
+stretchEndIn zero c s at = at
+stretchEndIn (suc n) c s at = let further = stretchEndIn n c s (at + 1) in pick (belongs c (getD s at 0)) further at
 
 unfoldable pub stretchEnd : Class → List ℕ → ℕ → ℕ
-stretchEnd c s at = stretchOf (length s - at) c s at
+stretchEnd c s at = stretchEndIn (length s - at) c s at
 
 -- past the spaces from an offset on
 abbrev pub skipped : List ℕ → ℕ → ℕ

@@ -28,6 +28,6 @@ firstFrom d want i = firstPassing (heldIs d want) i seatCount
 abbrev pub hasTicket : Desk → ℕ → ℕ → Bool
 hasTicket d ticket i = both (seatAt d i .held) (eqb (seatAt d i .ticket) ticket)
 
--- the first held seat with the ticket; 16 where none has it
+-- the number of the first held seat with the ticket; 16 where none has it
 abbrev pub seatOf : Desk → ℕ → ℕ
 seatOf d ticket = firstPassing (hasTicket d ticket) 0 seatCount

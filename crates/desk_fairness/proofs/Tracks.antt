@@ -1,4 +1,4 @@
--- One ticket followed through the calls: while it is held, at one number by one seat, and once it is held no more. Another's
+-- One ticket followed through the calls: while it is held, in one seat, always of the same number, and once it is held no more. Another's
 -- opening, closing or turn leaves both as they are; a turn of its own serves its seat.
 use mathlib.Core.Path.{_≡_, refl, sym, ap, _∙_, subst}
 use mathlib.Core.Bool.{true, false, true≢false}
@@ -40,7 +40,7 @@ pub is-mine : (k : ℕ) (a : Turned) (others : List Turned) → ticketOf a ≡ k
 is-mine k a others e = rw (eq-eqb _ _ e)
 
 module _ (f : Files) (k : ℕ) (pos : 1 ≤ k) where
-  -- ticket k is held, number i, by the seat s
+  -- ticket k is held by the seat s, which has number i
   pub record Track (d : Desk) (i : ℕ) (s : Seat) : Type 0 where
     pub sound : Sound d
     pub lengths : haveLengths f d ≡ true

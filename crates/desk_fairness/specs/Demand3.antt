@@ -28,7 +28,7 @@ use Rattle.desk.specs.declared.Desk.{Desk}
 use Rattle.desk_fairness.specs.Events.{Event, turns, answersOf, turnCount, Unclosed}
 
 -- "a query the desk accepted": d, a desk of 16 seats, was asked to open r and gave the ticket k.
--- "every turn the same timetable, of the length the desk was made for": the turns are over f.
+-- "every turn the same timetable .., of the length the desk was made for": the turns are over f.
 pub record Query (f : Files) (r : Request) (d : Desk) (k : ℕ) : Type 0 where
   pub desk : length (d .seats) ≡ seatCount
   pub lengths : haveLengths f d ≡ true

@@ -49,7 +49,7 @@ refused-no e f = true≢false (sym (ap isGiven f) ∙ e)
 
 -- ---- which seat it is
 module _ (d : Desk) where
-  -- free seats, from the first seat on
+  -- the first free seat, looked for from number 0 on
   none-free : AllHeld d → firstFrom d false 0 ≡ seatCount
   none-free h =
       first-none (heldIs d false) 0 seatCount

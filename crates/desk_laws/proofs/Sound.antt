@@ -112,7 +112,7 @@ module _ (d : Desk) (o : Sound d) (i : ℕ) (li : i < seatCount) (s : Seat) (las
   pub at-other : (j : ℕ) → (j ≡ i → ⊥) → seatAt (replaced d i s last issued) j ≡ seatAt d j
   at-other j ne = getD-set-other (d .seats) i j s _ ne
 
-  -- a seat has the new seat, or what it had
+  -- of each number: the new seat, or the one that was there
   pub which : (j : ℕ) → ((j ≡ i) × (seatAt (replaced d i s last issued) j ≡ s)) ⊎ ((j ≡ i → ⊥) × (seatAt (replaced d i s last issued) j ≡ seatAt d j))
   which j = elim (ℕ-discrete j i) [ yes q ↦ inl (q, ap (seatAt (replaced d i s last issued)) q ∙ at-same) | no n ↦ inr (n, at-other j n) ]
 

@@ -13,7 +13,7 @@ use Rattle.desk_seat.specs.Bounds.{conditionRoom}
 use Rattle.desk.specs.Bounds.{seatCount}
 use Rattle.hostile.specs.Fields.{conditionText}
 use Rattle.line_fields.specs.Numbers.{noNumber, numberOf}
-use Rattle.hostile.specs.Events.{lastNumber, onlyIf, seatBy, seatEventWith, conditionIn}
+use Rattle.hostile.specs.Events.{lastNumber, onlyIf, seatBy, seatEventWith, conditionEvent}
 use Rattle.line_fields.specs.declared.numbers.FieldNumber.{FieldNumber}
 use Rattle.hostile.specs.declared.ScriptEvent.{ScriptEvent}
 use Rattle.hostile.specs.declared.ScriptEvent.the-variants as E
@@ -38,14 +38,14 @@ seat-read line p er ee e3 ep e2 =
     er ∙ ap (onlyIf (p .good)) (ee ∙ ap (seatBy line (p .value)) e3) ∙ ap (seatEventWith line) (ep ∙ ap (numberOf (seatCount - 1)) e2)
 
 module _ (line : List ℕ) (index : ℕ) {text : List ℕ} (e : text ≡ conditionText line) where
-  pub fits : length text ≤ conditionRoom → {b : Bool} {r : ScriptEvent} → b ≡ hasField line 4 → r ≡ onlyIf b (E.Condition index) → r ≡ conditionIn line index
-  unfolding conditionIn
+  pub fits : length text ≤ conditionRoom → {b : Bool} {r : ScriptEvent} → b ≡ hasField line 4 → r ≡ onlyIf b (E.Condition index) → r ≡ conditionEvent line index
+  unfolding conditionEvent
   fits h eb er =
       let l : leb (length (conditionText line)) conditionRoom ≡ true = ap (λ (x : List ℕ). leb (length x) conditionRoom) (sym e) ∙ le-leb (length text) conditionRoom h in
       er ∙ ap (λ (x : Bool). onlyIf x (E.Condition index)) eb ∙ sym (λ i. pick (l i) (onlyIf (hasField line 4) (E.Condition index)) E.NoEvent)
 
-  pub too-long : conditionRoom < length text → E.NoEvent ≡ conditionIn line index
-  unfolding conditionIn
+  pub too-long : conditionRoom < length text → E.NoEvent ≡ conditionEvent line index
+  unfolding conditionEvent
   too-long h =
       let l : leb (length (conditionText line)) conditionRoom ≡ false = ap (λ (x : List ℕ). leb (length x) conditionRoom) (sym e) ∙ lt-leb (length text) conditionRoom h in
       sym (λ i. pick (l i) (onlyIf (hasField line 4) (E.Condition index)) E.NoEvent)

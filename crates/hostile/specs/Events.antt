@@ -78,15 +78,15 @@ abbrev pub conditionLengthWith : ℕ → FieldNumber → ScriptEvent
 conditionLengthWith index n = onlyIf (n .good) (E.Seat index (S.ConditionLength (n .value)))
 
 -- `seat→I→condition→TEXT`: "0 to 240 bytes"
-unfoldable pub conditionIn : List ℕ → ℕ → ScriptEvent
-conditionIn line index =
+unfoldable pub conditionEvent : List ℕ → ℕ → ScriptEvent
+conditionEvent line index =
     pick (leb (length (conditionText line)) conditionRoom) (onlyIf (hasField line 4) (E.Condition index)) E.NoEvent
 
 unfoldable pub lastNamesBy : List ℕ → ℕ → List ℕ → ScriptEvent
 lastNamesBy line index name =
     pick (same name (bytes "unreadable")) (unreadableWith index (lastNumber line 4 greatest))
     (pick (same name (bytes "condition_length")) (conditionLengthWith index (lastNumber line 4 greatest))
-    (pick (same name (bytes "condition")) (conditionIn line index) E.NoEvent))
+    (pick (same name (bytes "condition")) (conditionEvent line index) E.NoEvent))
 
 unfoldable pub seatBy : List ℕ → ℕ → List ℕ → ScriptEvent
 seatBy line index name =
@@ -106,15 +106,15 @@ buildingBy line word =
     (pick (same word (bytes "seat")) (seatEventWith line (numberOf (seatCount - 1) (fieldAt line 2))) E.NoEvent)
 
 -- "`turn`, `sound` and `show` have no further field"
-abbrev pub standsAlone : List ℕ → ScriptEvent → ScriptEvent
-standsAlone line e = onlyIf (not (hasField line 2)) e
+abbrev pub ifAlone : List ℕ → ScriptEvent → ScriptEvent
+ifAlone line e = onlyIf (not (hasField line 2)) e
 
 unfoldable pub askingBy : List ℕ → List ℕ → ScriptEvent
 askingBy line word =
-    pick (same word (bytes "turn")) (standsAlone line E.Turn)
+    pick (same word (bytes "turn")) (ifAlone line E.Turn)
     (pick (same word (bytes "turns")) (turnsWith (lastNumber line 2 greatest))
-    (pick (same word (bytes "sound")) (standsAlone line E.Sound)
-    (pick (same word (bytes "show")) (standsAlone line E.Show) (buildingBy line word))))
+    (pick (same word (bytes "sound")) (ifAlone line E.Sound)
+    (pick (same word (bytes "show")) (ifAlone line E.Show) (buildingBy line word))))
 
 -- the file has so many bytes: "N greater than what was read: `refused→7`"
 unfoldable pub eventBy : List ℕ → List ℕ → ℕ → ScriptEvent

@@ -11,7 +11,7 @@ pub enum DeskNumber {
     Issued(u32),
 }
 
-// A number of a seat, by its name.
+// What a seat holds, by its name.
 pub enum SeatNumber {
     Held(bool),
     Ticket(u32),

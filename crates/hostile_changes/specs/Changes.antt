@@ -20,7 +20,7 @@ deskWith d (D.LastServed n) = record { seats = d .seats; «last_served» = n; «
 deskWith d (D.Length n) = record { seats = d .seats; «last_served» = d .«last_served»; «timetable_length» = n; issued = d .issued }
 deskWith d (D.Issued n) = record { seats = d .seats; «last_served» = d .«last_served»; «timetable_length» = d .«timetable_length»; issued = n }
 
--- `seat→I→NAME→N`: "that number of the seat at number I becomes N"
+-- `seat→I→NAME→N`: "that number of the seat numbered I becomes N"
 abbrev pub seatWith : Seat → SeatNumber → Seat
 seatWith s (S.Held h) = record { held = h; ticket = s .ticket; offset = s .offset; hits = s .hits; unreadable = s .unreadable; «condition_length» = s .«condition_length»; condition = s .condition }
 seatWith s (S.Ticket n) = record { held = s .held; ticket = n; offset = s .offset; hits = s .hits; unreadable = s .unreadable; «condition_length» = s .«condition_length»; condition = s .condition }
@@ -36,15 +36,15 @@ conditionWith s text =
     (record { held = s .held; ticket = s .ticket; offset = s .offset; hits = s .hits; unreadable = s .unreadable; «condition_length» = s .«condition_length»; condition = text ++ replicate (conditionRoom - length text) 0 })
     s
 
--- the desk with another seat at an index
+-- the desk with this seat as number `index`; a number past the last alters nothing
 abbrev pub withSeat : Desk → ℕ → Seat → Desk
 withSeat d index s =
     pick (ltb index seatCount)
     (record { seats = set (d .seats) index s; «last_served» = d .«last_served»; «timetable_length» = d .«timetable_length»; issued = d .issued })
     d
 
-abbrev pub numberAt : Desk → ℕ → SeatNumber → Desk
-numberAt d index number = withSeat d index (seatWith (seatAt d index) number)
+abbrev pub numberSet : Desk → ℕ → SeatNumber → Desk
+numberSet d index number = withSeat d index (seatWith (seatAt d index) number)
 
 abbrev pub conditionSet : Desk → ℕ → List ℕ → Desk
 conditionSet d index text = withSeat d index (conditionWith (seatAt d index) text)

@@ -47,7 +47,7 @@ fn with_condition(mut seat: Seat, text: &[u8]) -> Seat
 
 // `seat`: a number of the seat with this index. An index past the last alters nothing.
 pub fn set_seat(mut desk: Desk, index: usize, number: SeatNumber) -> Desk
-    ensures { λ r. ⌜ r ≡ the.numberAt desk index number ⌝ }
+    ensures { λ r. ⌜ r ≡ the.numberSet desk index number ⌝ }
 {
     if Desk::SEATS <= index {
         return desk;

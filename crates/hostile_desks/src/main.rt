@@ -25,7 +25,7 @@ use output_lines::open_line;
 use timetable_reader::read_line;
 
 // The most bytes of a script.
-const MAX_INPUT: usize = 65_536;
+const MAX_INPUT: usize = line_fields::MAX_INPUT;
 
 // The events that make a call write its answer and hand back the desk after it.
 fn fresh(n: usize) -> Desk {

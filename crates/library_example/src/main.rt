@@ -10,7 +10,7 @@ mod seats; // seats.rt: the desk's calls, and which call a line is
 mod told; // told.rt: what the desk's calls answered
 
 // The most bytes of calls.
-const MAX_INPUT: usize = 65_536;
+const MAX_INPUT: usize = line_fields::MAX_INPUT;
 
 // Answers the calls over a desk that is made for the timetable.
 fn serve(t: &[u8], input: &[u8]) {
@@ -29,12 +29,10 @@ fn serve(t: &[u8], input: &[u8]) {
     seats::live(desk, t, input);
 }
 
-// One byte more than is taken is asked for, so that what is too long shows. A file that cannot be opened is not read.
+// One byte more than is taken is asked for, so that what is too long shows. A file that cannot be opened counts as empty.
 fn main() {
     let mut file = [0; Desk::MAX_TIMETABLE + 1];
-    let descriptor = os::open_read(b"timetable.tsv");
-    let long = io::read_full(descriptor, &mut file);
-    libc::close(descriptor);
+    let long = files::read(b"timetable.tsv", &mut file);
     let mut input = [0; MAX_INPUT + 1];
     let given = io::read_full(STDIN_FILENO, &mut input);
     serve(&file[..long], &input[..given]);

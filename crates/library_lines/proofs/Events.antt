@@ -10,21 +10,21 @@ use Rattle.timetable.specs.Fields.{fieldAt, hasField}
 use Rattle.condition_words.specs.Words.{same}
 use Rattle.line_fields.specs.Numbers.{numberOf}
 use Rattle.line_fields.specs.declared.numbers.FieldNumber.{FieldNumber}
-use Rattle.library_lines.specs.Given.{word}
+use Rattle.library_lines.specs.Given.{fourBytes}
 use Rattle.library_lines.specs.Calls.{closeBy, callBy}
 use Rattle.library_lines.proofs.Fields.{first-of, second-of}
 
-module _ (line : List ℕ) {n : FieldNumber} {f : List ℕ} (ef : f ≡ fieldAt line 2) (en : n ≡ numberOf word f) where
-  good : numberOf word (fieldAt line 2) .good ≡ n .good
-  good = ap (λ (x : FieldNumber). x .good) (sym (en ∙ ap (numberOf word) ef))
+module _ (line : List ℕ) {n : FieldNumber} {f : List ℕ} (ef : f ≡ fieldAt line 2) (en : n ≡ numberOf fourBytes f) where
+  good : numberOf fourBytes (fieldAt line 2) .good ≡ n .good
+  good = ap (λ (x : FieldNumber). x .good) (sym (en ∙ ap (numberOf fourBytes) ef))
 
   pub no-number : not (n .good) ≡ true → 0 ≡ closeBy line
   unfolding closeBy
-  no-number q = second-of {b = numberOf word (fieldAt line 2) .good} (pick (hasField line 3) 0 3) 0 (good ∙ no refl q)
+  no-number q = second-of {b = numberOf fourBytes (fieldAt line 2) .good} (pick (hasField line 3) 0 3) 0 (good ∙ no refl q)
 
   pub one-number : not (n .good) ≡ false → {h : Bool} {r : ℕ} → h ≡ hasField line 3 → r ≡ pick h 0 3 → r ≡ closeBy line
   unfolding closeBy
-  one-number q eh er = er ∙ (λ i. pick (eh i) 0 3) ∙ first-of {b = numberOf word (fieldAt line 2) .good} (pick (hasField line 3) 0 3) 0 (good ∙ yes refl q)
+  one-number q eh er = er ∙ (λ i. pick (eh i) 0 3) ∙ first-of {b = numberOf fourBytes (fieldAt line 2) .good} (pick (hasField line 3) 0 3) 0 (good ∙ yes refl q)
 
 module _ (line w : List ℕ) where
   abbrev turn : ℕ

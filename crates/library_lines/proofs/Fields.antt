@@ -24,7 +24,7 @@ use Rattle.value.specs.declared.DateTime.{DateTime}
 use Rattle.value.specs.declared.Kind.{Kind}
 use Rattle.value.specs.declared.Kind.the-variants as KV
 use Rattle.value.specs.declared.Value.the-variants as VV
-use Rattle.library_lines.specs.Given.{short, byte, word, withSign, noSigned, afterSign, signedOf, offsetOf, zoneBy, zoneGiven, dayGiven, dayAt, recordParts, momentGiven, momentAt, recordOfKind, givenMoment, givenDayTime, givenYearMonth, unlessMore, recordBy, recordNamed, recordAt}
+use Rattle.library_lines.specs.Given.{twoBytes, oneByte, fourBytes, withSign, noSigned, afterSign, signedOf, offsetOf, zoneBy, zoneGiven, dayGiven, dayAt, recordParts, momentGiven, momentAt, recordOfKind, givenMoment, givenDayTime, givenYearMonth, unlessMore, recordBy, recordNamed, recordAt}
 use Rattle.library_lines.specs.declared.given.Signed.{Signed}
 use Rattle.library_lines.specs.declared.given.Zoned.{Zoned}
 use Rattle.library_lines.specs.declared.given.Day.{Day}
@@ -79,23 +79,23 @@ zoned g z = record { good = g; zone = z }
 
 pub no-zone : (s : List ℕ) {t : Bool} → t ≡ same s (bytes "none") → t ≡ true → zoned true Absent ≡ zoneGiven s
 unfolding zoneGiven
-no-zone s et q = first-of (zoned true Absent) (zoneBy (signedOf short s)) (sym et ∙ q)
+no-zone s et q = first-of (zoned true Absent) (zoneBy (signedOf twoBytes s)) (sym et ∙ q)
 
-pub zone-at : (s : List ℕ) {t : Bool} {n : Signed} {o : Offset} → t ≡ same s (bytes "none") → t ≡ false → n ≡ signedOf short s → o ≡ offsetOf n → zoned (n .good) (At o) ≡ zoneGiven s
+pub zone-at : (s : List ℕ) {t : Bool} {n : Signed} {o : Offset} → t ≡ same s (bytes "none") → t ≡ false → n ≡ signedOf twoBytes s → o ≡ offsetOf n → zoned (n .good) (At o) ≡ zoneGiven s
 unfolding zoneGiven
 zone-at s {t} {n} {o} et q en eo =
-    ap (λ (x : Offset). zoned (n .good) (At x)) eo ∙ ap zoneBy en ∙ second-of (zoned true Absent) (zoneBy (signedOf short s)) (sym et ∙ q)
+    ap (λ (x : Offset). zoned (n .good) (At x)) eo ∙ ap zoneBy en ∙ second-of (zoned true Absent) (zoneBy (signedOf twoBytes s)) (sym et ∙ q)
 
 -- ---- days and moments
 abbrev dayWith : Bool → FieldNumber → FieldNumber → FieldNumber → Day
 dayWith g y m d = record { good = g; year = y .value; month = m .value; day = d .value }
 
 pub day-read : (line : List ℕ) (i : ℕ) {g : Bool} {y m d : FieldNumber} {fy fm fd : List ℕ} → g ≡ every (y .good ∷ m .good ∷ d .good ∷ [])
-    → fy ≡ fieldAt line i → y ≡ numberOf short fy → fm ≡ fieldAt line (i + 1) → m ≡ numberOf byte fm → fd ≡ fieldAt line (i + 2) → d ≡ numberOf byte fd → dayWith g y m d ≡ dayAt line i
+    → fy ≡ fieldAt line i → y ≡ numberOf twoBytes fy → fm ≡ fieldAt line (i + 1) → m ≡ numberOf oneByte fm → fd ≡ fieldAt line (i + 2) → d ≡ numberOf oneByte fd → dayWith g y m d ≡ dayAt line i
 unfolding dayAt
 day-read line i {g} {y} {m} {d} eg efy ey efm em efd ed =
     ap (λ (b : Bool). dayWith b y m d) eg
-    ∙ (λ j. dayGiven ((ey ∙ ap (numberOf short) efy) j) ((em ∙ ap (numberOf byte) efm) j) ((ed ∙ ap (numberOf byte) efd) j))
+    ∙ (λ j. dayGiven ((ey ∙ ap (numberOf twoBytes) efy) j) ((em ∙ ap (numberOf oneByte) efm) j) ((ed ∙ ap (numberOf oneByte) efd) j))
 
 abbrev momentWith : Bool → DateTime → Moment
 momentWith g p = record { good = g; parts = p }
@@ -131,9 +131,9 @@ module _ (line : List ℕ) (i : ℕ) {k : Kind} {r g : GivenRecord} {h : Bool} (
     unfolding recordBy
     by-day-time ek en eg = er ∙ (λ j. unlessMore (eh j) ((eg ∙ ap givenDayTime (en ∙ ap (signedOf greatest) ef)) j)) ∙ ap (λ (x : Kind). recordBy x line i) (sym ek)
 
-    pub by-year-month : k ≡ KV.YearMonthDuration → n ≡ signedOf word f → g ≡ givenYearMonth n → r ≡ recordBy k line i
+    pub by-year-month : k ≡ KV.YearMonthDuration → n ≡ signedOf fourBytes f → g ≡ givenYearMonth n → r ≡ recordBy k line i
     unfolding recordBy
-    by-year-month ek en eg = er ∙ (λ j. unlessMore (eh j) ((eg ∙ ap givenYearMonth (en ∙ ap (signedOf word) ef)) j)) ∙ ap (λ (x : Kind). recordBy x line i) (sym ek)
+    by-year-month ek en eg = er ∙ (λ j. unlessMore (eh j) ((eg ∙ ap givenYearMonth (en ∙ ap (signedOf fourBytes) ef)) j)) ∙ ap (λ (x : Kind). recordBy x line i) (sym ek)
 
   module _ {m : Moment} (eh : h ≡ hasField line (i + 5)) (em : m ≡ momentAt line i) where
     pub by-date : k ≡ KV.Date → g ≡ givenMoment KV.Date m → r ≡ recordBy k line i

@@ -9,7 +9,7 @@ use Rattle.timetable.specs.Fields.{fieldAt, hasField}
 use Rattle.condition_words.specs.Words.{between, same}
 use Rattle.line_fields.specs.Fields.{afterTab}
 use Rattle.line_fields.specs.Numbers.{numberOf}
-use Rattle.library_lines.specs.Given.{word}
+use Rattle.library_lines.specs.Given.{fourBytes}
 
 -- the line that starts at an offset
 abbrev pub lineFrom : List ℕ → ℕ → List ℕ
@@ -17,7 +17,7 @@ lineFrom input i = between input i (lineEnd input i)
 
 -- the calls by number: 1 is `turn`, 2 `open`, 3 `close`, and 0 none of them
 unfoldable pub closeBy : List ℕ → ℕ
-closeBy line = pick (numberOf word (fieldAt line 2) .good) (pick (hasField line 3) 0 3) 0
+closeBy line = pick (numberOf fourBytes (fieldAt line 2) .good) (pick (hasField line 3) 0 3) 0
 
 unfoldable pub callBy : List ℕ → List ℕ → ℕ
 callBy line w =
@@ -37,7 +37,7 @@ conditionAt input i = afterTab (lineFrom input i)
 
 -- N of `close`
 abbrev pub ticketIn : List ℕ → ℕ
-ticketIn line = numberOf word (fieldAt line 2) .value
+ticketIn line = numberOf fourBytes (fieldAt line 2) .value
 
 abbrev pub ticketAt : List ℕ → ℕ → ℕ
 ticketAt input i = ticketIn (lineFrom input i)

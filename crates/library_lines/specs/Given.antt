@@ -31,14 +31,14 @@ use Rattle.library_lines.specs.declared.given.GivenRecord.{GivenRecord}
 use Rattle.library_lines.specs.declared.given.GivenRecord.the-variants as G
 
 -- the greatest numbers of one, two and four bytes
-abbrev pub byte : ℕ
-byte = 255
+abbrev pub oneByte : ℕ
+oneByte = 255
 
-abbrev pub short : ℕ
-short = 65_535
+abbrev pub twoBytes : ℕ
+twoBytes = 65_535
 
-abbrev pub word : ℕ
-word = 4_294_967_295
+abbrev pub fourBytes : ℕ
+fourBytes = 4_294_967_295
 
 -- "S is `+` or `-` and directly after it one to twenty digits", at most a bound
 abbrev pub withSign : Bool → FieldNumber → Signed
@@ -64,7 +64,7 @@ abbrev pub zoneBy : Signed → Zoned
 zoneBy n = record { good = n .good; zone = At (offsetOf n) }
 
 unfoldable pub zoneGiven : List ℕ → Zoned
-zoneGiven s = pick (same s (bytes "none")) (record { good = true; zone = Absent }) (zoneBy (signedOf short s))
+zoneGiven s = pick (same s (bytes "none")) (record { good = true; zone = Absent }) (zoneBy (signedOf twoBytes s))
 
 -- Y, M and D in three fields
 abbrev pub dayGiven : FieldNumber → FieldNumber → FieldNumber → Day
@@ -72,7 +72,7 @@ dayGiven y m d =
     record { good = every (y .good ∷ m .good ∷ d .good ∷ []); year = y .value; month = m .value; day = d .value }
 
 unfoldable pub dayAt : List ℕ → ℕ → Day
-dayAt line i = dayGiven (numberOf short (fieldAt line i)) (numberOf byte (fieldAt line (i + 1))) (numberOf byte (fieldAt line (i + 2)))
+dayAt line i = dayGiven (numberOf twoBytes (fieldAt line i)) (numberOf oneByte (fieldAt line (i + 1))) (numberOf oneByte (fieldAt line (i + 2)))
 
 abbrev pub recordParts : Day → ℕ → Zone → DateTime
 recordParts d micros zone = record { year = d .year; month = d .month; day = d .day; micros = micros; zone = zone }
@@ -110,7 +110,7 @@ recordBy KV.Date line i = unlessMore (hasField line (i + 5)) (givenMoment KV.Dat
 recordBy KV.Time line i = unlessMore (hasField line (i + 5)) (givenMoment KV.Time (momentAt line i))
 recordBy KV.DateTime line i = unlessMore (hasField line (i + 5)) (givenMoment KV.DateTime (momentAt line i))
 recordBy KV.DayTimeDuration line i = unlessMore (hasField line (i + 1)) (givenDayTime (signedOf greatest (fieldAt line i)))
-recordBy KV.YearMonthDuration line i = unlessMore (hasField line (i + 1)) (givenYearMonth (signedOf word (fieldAt line i)))
+recordBy KV.YearMonthDuration line i = unlessMore (hasField line (i + 1)) (givenYearMonth (signedOf fourBytes (fieldAt line i)))
 
 abbrev pub recordNamed : Named → List ℕ → ℕ → GivenRecord
 recordNamed N.No line i = G.No

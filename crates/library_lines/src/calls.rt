@@ -1,5 +1,5 @@
 // Which call of the desk a line is, and what it holds. The line is the one that starts at an offset of the input.
-use crate::given::WORD;
+use crate::given::FOUR_BYTES;
 use condition_words::cut;
 use condition_words::same;
 use line_fields::fields::after_tab;
@@ -38,7 +38,7 @@ fn unless(bad: bool, call: usize) -> usize
 fn close_by(line: &[u8]) -> usize
     ensures { λ r. ⌜ r ≡ the.closeBy (now (line .entry)) ⌝ }
 {
-    let n = read(field(line, 2), WORD);
+    let n = read(field(line, 2), FOUR_BYTES);
     if !n.good {
         return 0;
     }
@@ -84,7 +84,7 @@ pub fn condition_at(input: &[u8], at: usize) -> &[u8]
 fn ticket_in(line: &[u8]) -> u32
     ensures { λ r. ⌜ r ≡ the.ticketIn (now (line .entry)) ⌝ }
 {
-    let n = read(field(line, 2), WORD);
+    let n = read(field(line, 2), FOUR_BYTES);
     n.value as u32
 }
 

@@ -24,11 +24,11 @@ ghost use Rattle.basis.specs.Choice.{every};
 ghost use Rattle.library_lines.specs.Given as the;
 
 // The greatest numbers of one, two and four bytes.
-const BYTE: usize = 255;
+const ONE_BYTE: usize = 255;
 
-const SHORT: usize = 65_535;
+const TWO_BYTES: usize = 65_535;
 
-pub const WORD: usize = 4_294_967_295;
+pub const FOUR_BYTES: usize = 4_294_967_295;
 
 // A number with a sign. Where the text is none, it is not good, and 0.
 pub struct Signed {
@@ -93,7 +93,7 @@ pub fn signed_number(s: &[u8], most: usize) -> Signed
 }
 
 fn offset(n: Signed) -> Offset
-    requires { ⌜ n .value ≤ the.short ⌝ }
+    requires { ⌜ n .value ≤ the.twoBytes ⌝ }
     ensures { λ r. ⌜ r ≡ the.offsetOf n ⌝ }
 {
     let minutes = n.value as u16;
@@ -113,7 +113,7 @@ pub fn zone(s: &[u8]) -> Zoned
             zone: Zone::Absent,
         };
     }
-    let n = signed_number(s, SHORT);
+    let n = signed_number(s, TWO_BYTES);
     let zone = Zone::At(offset(n));
     Zoned { good: n.good, zone }
 }
@@ -135,9 +135,9 @@ pub fn day_at(line: &[u8], at: usize) -> Day
     requires { ⌜ at ≤ 5 ⌝ }
     ensures { λ r. ⌜ r ≡ the.dayAt (now (line .entry)) at ⌝ }
 {
-    let y = read(field(line, at), SHORT);
-    let m = read(field(line, at + 1), BYTE);
-    let d = read(field(line, at + 2), BYTE);
+    let y = read(field(line, at), TWO_BYTES);
+    let m = read(field(line, at + 1), ONE_BYTE);
+    let d = read(field(line, at + 2), ONE_BYTE);
     let good = all_three(y.good, m.good, d.good);
     Day {
         good,
@@ -202,7 +202,7 @@ fn given_day_time(n: Signed) -> GivenRecord
 }
 
 fn given_year_month(n: Signed) -> GivenRecord
-    requires { ⌜ n .value ≤ the.word ⌝ }
+    requires { ⌜ n .value ≤ the.fourBytes ⌝ }
     ensures { λ r. ⌜ r ≡ the.givenYearMonth n ⌝ }
 {
     if !n.good {
@@ -234,7 +234,7 @@ fn record_by(kind: Kind, line: &[u8], at: usize) -> GivenRecord
             unless_more(has_field(line, at + 1), given_day_time(n))
         }
         Kind::YearMonthDuration => {
-            let n = signed_number(field(line, at), WORD);
+            let n = signed_number(field(line, at), FOUR_BYTES);
             unless_more(has_field(line, at + 1), given_year_month(n))
         }
         Kind::Date => unless_more(

@@ -4,7 +4,7 @@ use crate::told::tell_end;
 use crate::told::tell_no_call;
 use crate::told::tell_refused;
 use condition_words::cut;
-use library_lines::given::WORD;
+use library_lines::given::FOUR_BYTES;
 use library_lines::given::day_at;
 use library_lines::given::moment_at;
 use library_lines::given::signed_number;
@@ -95,7 +95,7 @@ pub fn make_day_time(line: &[u8]) {
 
 // `yearMonth→S`
 pub fn make_year_month(line: &[u8]) {
-    let n = signed_number(field(line, 2), WORD);
+    let n = signed_number(field(line, 2), FOUR_BYTES);
     let good = n.good & !has_field(line, 3);
     if !good {
         tell_no_call();

@@ -1,4 +1,4 @@
-// The numbers of a script: one to twenty digits, within a bound.
+// Numbers as fields of a line: one to twenty digits, within a bound.
 use numerals::digit;
 ghost use mathlib.Core.Path.{_≡_};
 ghost use Prim.Native.Nat.{_+_, _*_, _≤_};

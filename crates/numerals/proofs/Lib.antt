@@ -1,4 +1,4 @@
-pub mod Shares
+pub mod Positions
 pub mod Powers
 pub mod Stretches
 pub mod Passing

@@ -12,7 +12,7 @@ use borrow.Author.Tests.{le-leb, leb-true}
 use Rattle.basis.specs.Choice.{both, pick}
 use Rattle.basis.proofs.Tests.{both-left, both-right}
 use Rattle.numerals.specs.Reading.{isDigit, number, numeralAt, at}
-use Rattle.numerals.proofs.Shares.{within}
+use Rattle.numerals.proofs.Positions.{within}
 
 pub record Digit (b : ℕ) : Type 0 where
   pub from : code "0" ≤ b

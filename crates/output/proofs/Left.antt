@@ -63,7 +63,7 @@ unfolding seatsLeft
 left-bounded f [] l = omega arith
 left-bounded f (s ∷ ss) l = omega (arith, seat-bounded f s l, left-bounded f ss l)
 
--- a desk whose seats are those of another but for one offset, where a held seat was served, has less left
+-- a desk whose seats are those of another but for one, a held seat that was served, has less left
 pub serving-less : (f : Files) (d h : Desk) (i : ℕ) → i < length (d .seats) → seatAt d i .held ≡ true → h .seats ≡ set (d .seats) i (serveOf f (seatAt d i) .seat)
     → deskLeft f h < deskLeft f d
 unfolding deskLeft

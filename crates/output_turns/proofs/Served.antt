@@ -31,9 +31,9 @@ use Rattle.desk.proofs.Lengths.{lengths-same}
 use Rattle.desk_laws.proofs.Sound.{Sound, replaced}
 use Rattle.output_turns.specs.Turns.{isIdle}
 
--- ---- the offset
+-- ---- which seat
 
--- where the offsets to look at end
+-- where the numbers of the seats to look at end
 abbrev pub endOf : Desk → ℕ
 endOf d = d .«last_served» + 1 + seatCount
 

@@ -22,7 +22,7 @@ use Rattle.value.specs.declared.Kind.the-variants as KV
 use Rattle.value.specs.declared.Value.{Value}
 use Rattle.value.proofs.Numbers.{among, only, only-either, only-refused}
 use Rattle.text_scan.specs.declared.Scan.{Scan}
-use Rattle.text_scan.specs.Scanning.{uncapped, partsOf}
+use Rattle.text_scan.specs.Scanning.{uncapped, scannedParts}
 use Rattle.text_checks.specs.Reading as judging
 use Rattle.text_layouts.specs.Reading.{readLayout}
 use Rattle.text_durations.specs.Walks.{counted, readBy, shape, asValue}
@@ -98,9 +98,9 @@ duration-numbers f s = counted-numbers (f .unit) (f .most) (shape (f .before) (f
 
 read-numbers : (k : Kind) (s : List ℕ) → Reads (readAs k s)
 unfolding readAs readLayout
-read-numbers KV.Date s = judge-numbers KV.Date (length s) (partsOf uncapped KV.Date s)
-read-numbers KV.Time s = judge-numbers KV.Time (length s) (partsOf uncapped KV.Time s)
-read-numbers KV.DateTime s = judge-numbers KV.DateTime (length s) (partsOf uncapped KV.DateTime s)
+read-numbers KV.Date s = judge-numbers KV.Date (length s) (scannedParts uncapped KV.Date s)
+read-numbers KV.Time s = judge-numbers KV.Time (length s) (scannedParts uncapped KV.Time s)
+read-numbers KV.DateTime s = judge-numbers KV.DateTime (length s) (scannedParts uncapped KV.DateTime s)
 read-numbers KV.DayTimeDuration s = value-numbers _ (readBy dayTime s) (duration-numbers dayTime s)
 read-numbers KV.YearMonthDuration s = value-numbers _ (readBy yearMonth s) (duration-numbers yearMonth s)
 

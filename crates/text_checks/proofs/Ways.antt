@@ -22,7 +22,7 @@ use Rattle.value.specs.declared.Kind.{Kind}
 use Rattle.value.specs.declared.Value.{Value}
 use Rattle.value.proofs.Good.{good-day, numbered}
 use Rattle.text_scan.specs.declared.Scan.{Scan}
-use Rattle.text_scan.specs.Scanning.{uncapped, partsOf}
+use Rattle.text_scan.specs.Scanning.{uncapped, scannedParts}
 use Rattle.text_scan.specs.Carried.{capped}
 use Rattle.text_scan.proofs.Caps.{cut, parts-cut}
 use Rattle.text_checks.specs.Reading.{valueGiven, placedOn, nextDay, okClock, isDayEnd, clockTicks, clocked, onCalendar, bounded, judge}
@@ -102,5 +102,5 @@ judged-cut k n t = λ i. pick (t .good) (pick (eqb (t .at) n) (bounded-cut (t .l
     bounded-cut : (long negative : Bool) (y : ℕ) → bounded long negative (capped y) (on (capped y)) ≡ bounded long negative y (on y)
     bounded-cut long negative y = years-cut long negative y on
 
-pub way : (k : Kind) (s : List ℕ) {t : Scan} → t ≡ partsOf capped k s → judge k (length s) t ≡ judge k (length s) (partsOf uncapped k s)
-way k s e = ap (judge k (length s)) (e ∙ parts-cut k s) ∙ judged-cut k (length s) (partsOf uncapped k s)
+pub way : (k : Kind) (s : List ℕ) {t : Scan} → t ≡ scannedParts capped k s → judge k (length s) t ≡ judge k (length s) (scannedParts uncapped k s)
+way k s e = ap (judge k (length s)) (e ∙ parts-cut k s) ∙ judged-cut k (length s) (scannedParts uncapped k s)

@@ -14,7 +14,7 @@ use borrow.Author.Tests.{eq-eqb, ne-eqb, eqb-true, eqb-false}
 use Rattle.basis.specs.Choice.{pick, both}
 use Rattle.numerals.specs.Reading.{isDigit, number, Number, numeralAt, at, fractionDigits, fractionAt}
 use Rattle.numerals.specs.Writing.{decimal}
-use Rattle.numerals.proofs.Shares.{cell, head, beyond}
+use Rattle.numerals.proofs.Positions.{cell, head, beyond}
 use Rattle.numerals.proofs.Stretches.{stop}
 use Rattle.numerals.proofs.Decimals.{decimal-stretch, decimal-some}
 use Rattle.numerals.proofs.Fractions.{kept, kept-length, no-fraction, a-fraction, fraction-back}

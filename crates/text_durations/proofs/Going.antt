@@ -13,7 +13,7 @@ use Rattle.basis.specs.Choice.{both}
 use Rattle.basis.proofs.Tests.{both-left, both-right}
 use Rattle.numerals.specs.Reading.{at}
 use Rattle.numerals.specs.Carried.{withoutZero}
-use Rattle.numerals.proofs.Shares.{nonzero, within}
+use Rattle.numerals.proofs.Positions.{nonzero, within}
 use Rattle.text_durations.specs.declared.Walk.{Walk}
 use Rattle.text_durations.specs.declared.Shape.{Shape}
 use Rattle.text_durations.specs.Forms.{timeMark, startMark, minusSign}

@@ -20,7 +20,7 @@ use Rattle.value.specs.declared.Value.{Value}
 use Rattle.value.specs.declared.Value.the-variants as VV
 use Rattle.value.proofs.Signs.{signed-within}
 use Rattle.numerals.specs.Reading.{isDigit, number, at, fractionDigits, fractionAt}
-use Rattle.numerals.proofs.Shares.{head, beyond}
+use Rattle.numerals.proofs.Positions.{head, beyond}
 use Rattle.text_durations.specs.declared.Walk.{Walk}
 use Rattle.text_durations.specs.declared.Shape.{Shape}
 use Rattle.text_durations.specs.declared.Amount.{Amount}

@@ -10,7 +10,7 @@ use lib.ListN.{length, getD, drop, length-append}
 use borrow.Author.Tests.{ne-eqb, eqb-true, eqb-false}
 use Rattle.basis.specs.Choice.{pick}
 use Rattle.numerals.specs.Reading.{isDigit, at, fractionDigits}
-use Rattle.numerals.proofs.Shares.{beyond}
+use Rattle.numerals.proofs.Positions.{beyond}
 use Rattle.text_durations.specs.declared.Walk.{Walk}
 use Rattle.text_durations.specs.Forms.{weight, seconds}
 use Rattle.text_durations.specs.Walks.{component, components}

@@ -12,7 +12,7 @@ use Rattle.numerals.specs.declared.DigitsRead.{DigitsRead}
 use Rattle.numerals.specs.declared.Fraction.{Fraction}
 use Rattle.numerals.specs.Reading.{Number, numeralAt, at, fractionAt}
 use Rattle.numerals.specs.Carried.{Found}
-use Rattle.numerals.proofs.Shares.{within}
+use Rattle.numerals.proofs.Positions.{within}
 use Rattle.text_durations.specs.declared.Walk.{Walk}
 use Rattle.text_durations.specs.Forms.{weight, seconds, point}
 use Rattle.text_durations.specs.Walks.{component, componentOf, pointed, walkTaken, tried, takenWith}

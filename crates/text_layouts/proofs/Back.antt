@@ -20,7 +20,7 @@ use Rattle.value.specs.declared.Zone.the-variants.{Absent, At}
 use Rattle.value_instants.proofs.Within.{east-to, west-to}
 use Rattle.numerals.specs.Reading.{isDigit, number, numeralAt, at, fractionDigits, fractionAt}
 use Rattle.numerals.specs.Writing.{digits}
-use Rattle.numerals.proofs.Shares.{cell, head, beyond, none-left, some-left}
+use Rattle.numerals.proofs.Positions.{cell, head, beyond, none-left, some-left}
 use Rattle.numerals.proofs.Stretches.{is-digit}
 use Rattle.numerals.proofs.Decimals.{length-digits, two-cells, four-pairs, digits-stretch}
 use Rattle.numerals.proofs.Stripping.{stripped-some}

@@ -13,7 +13,7 @@ use Rattle.value.specs.declared.Kind.the-variants as KV
 use Rattle.value.specs.declared.Value.the-variants as VV
 use Rattle.numerals.specs.Reading.{isDigit, number, fractionAt}
 use Rattle.numerals.specs.Writing.{digits, stripped, fractionText}
-use Rattle.text_scan.specs.Scanning.{uncapped, pairAt, fourZeros, yearAt, yearPart, fractionPart, zonePart, zoneSigned, isPair, withPair, partAt, scanned, partsOf}
+use Rattle.text_scan.specs.Scanning.{uncapped, pairAt, fourZeros, yearAt, yearPart, fractionPart, zonePart, zoneSigned, isPair, withPair, partAt, scanned, scannedParts}
 use Rattle.text_checks.specs.Reading.{judge, bounded, onCalendar, okParts, zoneIs, clocked, okClock, isDayEnd, clockTicks, nextDay}
 use Rattle.text_layouts.specs.Reading.{readLayout}
 use Rattle.text_layouts.specs.Writing.{kindText, layoutText, partText, pairOf}
@@ -92,14 +92,14 @@ unfolding layoutText partText pairOf isPair digits stripped fractionText
 written-west = refl
 
 -- A reader stops at the first byte that no good text could have there.
-stops-at-fourth : partsOf uncapped KV.Date (bytes "0000-01-01") .at ≡ 3
+stops-at-fourth : scannedParts uncapped KV.Date (bytes "0000-01-01") .at ≡ 3
 unfolding isDigit number pairAt fourZeros yearAt yearPart zonePart isPair withPair partAt scanned both every
 stops-at-fourth = refl
 
-stops-at-fifth : partsOf uncapped KV.Date (bytes "02000-01-01") .at ≡ 4
+stops-at-fifth : scannedParts uncapped KV.Date (bytes "02000-01-01") .at ≡ 4
 unfolding isDigit number pairAt fourZeros yearAt yearPart zonePart isPair withPair partAt scanned both every
 stops-at-fifth = refl
 
-stops-at-month : partsOf uncapped KV.Date (bytes "2000-1-01") .at ≡ 6
+stops-at-month : scannedParts uncapped KV.Date (bytes "2000-1-01") .at ≡ 6
 unfolding isDigit number pairAt fourZeros yearAt yearPart zonePart isPair withPair partAt scanned both every
 stops-at-month = refl

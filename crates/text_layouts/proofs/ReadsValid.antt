@@ -17,7 +17,7 @@ use Rattle.value.specs.declared.Value.{Value}
 use Rattle.numerals.proofs.Fractions.{fraction-lt}
 use Rattle.text_scan.specs.declared.Scan.{Scan}
 use Rattle.text_scan.specs.declared.Pair.{Pair}
-use Rattle.text_scan.specs.Scanning.{uncapped, isPair, withPair, layout, startOf, partsOf}
+use Rattle.text_scan.specs.Scanning.{uncapped, isPair, withPair, layout, startOf, scannedParts}
 use Rattle.text_scan.proofs.Lasting.{Leaves, Everywhere, ended, letter, lasts}
 use Rattle.text_checks.specs.Reading.{clockTicks, bounded, judge}
 use Rattle.text_layouts.specs.Reading.{readLayout}
@@ -56,7 +56,7 @@ short-everywhere [] = ended
 short-everywhere (p ∷ ps) =
     letter (record { year = λ q t n y a. a; fraction = λ q t s i a. fraction-lt s i; pair = λ q t g a. placed-short p t g a }) (short-everywhere ps)
 
-short : (k : Kind) (s : List ℕ) → Short (partsOf uncapped k s)
+short : (k : Kind) (s : List ℕ) → Short (scannedParts uncapped k s)
 short k s = lasts Short (record { offset = λ t i g a. a; zone = λ t z h m i a. a }) uncapped (short-everywhere (layout k)) s (startOf (template k)) (omega arith)
 
 -- a date's clock is the template's
@@ -94,7 +94,7 @@ time-letters =
     odd : _≡_ {A = ℕ} (code "f") (code "Y") → ⊥
     odd q = omega arith
 
-suits : (k : Kind) (s : List ℕ) → (t : Scan) → t ≡ partsOf uncapped k s → Suits k (record { year = t .year; month = t .month; day = t .day }) (clockTicks (t .hour) (t .minute) (t .second) (t .part))
+suits : (k : Kind) (s : List ℕ) → (t : Scan) → t ≡ scannedParts uncapped k s → Suits k (record { year = t .year; month = t .month; day = t .day }) (clockTicks (t .hour) (t .minute) (t .second) (t .part))
 unfolding clockTicks
 suits KV.Date s t e =
     let a : AtMidnight t = rw e (lasts AtMidnight (record { offset = λ t i g a. a; zone = λ t z h m i a. a }) uncapped date-letters s (startOf (template KV.Date)) (refl, refl, refl, refl)) in
@@ -132,4 +132,4 @@ fine-judge k n t l e =
 -- WHAT READS IS VALID
 pub reads-valid : (k : Kind) (s : List ℕ) (v : Value) → readLayout k s ≡ gives v → Valid k v
 unfolding readLayout
-reads-valid k s = fine-judge k (length s) (partsOf uncapped k s) (short k s) (suits k s (partsOf uncapped k s) refl)
+reads-valid k s = fine-judge k (length s) (scannedParts uncapped k s) (short k s) (suits k s (scannedParts uncapped k s) refl)

@@ -18,10 +18,10 @@ use Rattle.value.specs.declared.Zone.the-variants.{Absent, At}
 use Rattle.value.specs.declared.DateTime.{DateTime}
 use Rattle.numerals.specs.Reading.{isDigit, at}
 use Rattle.numerals.specs.Writing.{digits, fractionText}
-use Rattle.numerals.proofs.Shares.{head, beyond}
+use Rattle.numerals.proofs.Positions.{head, beyond}
 use Rattle.numerals.proofs.Fractions.{kept, no-fraction, a-fraction}
 use Rattle.text_scan.specs.declared.Scan.{Scan}
-use Rattle.text_scan.specs.Scanning.{uncapped, isPair, withPair, partOf, scanned, withYear, withFraction, reached}
+use Rattle.text_scan.specs.Scanning.{uncapped, isPair, withPair, scannedPart, scanned, withYear, withFraction, reached}
 use Rattle.text_scan.proofs.Ways.{the-year, the-fraction, the-zone, a-pair, a-mark}
 use Rattle.text_layouts.specs.Writing.{zoneText, pairOf, partText, layoutText}
 use Rattle.text_layouts.proofs.Pieces.{text-year, text-fraction, text-zone, text-pair, text-mark}
@@ -51,7 +51,7 @@ module _ (p : ℕ) (v : DateTime) (m : Small v) (s : List ℕ) (t : Scan) (g : t
     here : {w : List ℕ} → partText p v ≡ w → drop (t .at) s ≡ w ++ rest
     here {w} q = e ∙ ap (λ (x : List ℕ). x ++ rest) q
 
-    back-year : p ≡ code "Y" → partOf uncapped p s t ≡ partKept p v t
+    back-year : p ≡ code "Y" → scannedPart uncapped p s t ≡ partKept p v t
     unfolding partKept digits
     back-year q =
         let x : partText p v ≡ digits 4 (v .year) = text-year p v q .0 in
@@ -59,14 +59,14 @@ module _ (p : ℕ) (v : DateTime) (m : Small v) (s : List ℕ) (t : Scan) (g : t
         sym (the-year uncapped p s t g q) ∙ year-back s t rest (v .year) (m .year-from) (m .year) (a .year q .no-digit) (here x) ∙ sym k
 
     module _ (n1 : p ≡ code "Y" → ⊥) where
-      back-fraction : p ≡ code "f" → partOf uncapped p s t ≡ partKept p v t
+      back-fraction : p ≡ code "f" → scannedPart uncapped p s t ≡ partKept p v t
       unfolding partKept
       back-fraction q = go (eqb (v .micros % secondTicks) 0) refl
         where
           x : partText p v ≡ fractionText (v .micros % secondTicks)
           x = text-fraction p v n1 q .0
 
-          go : (b : Bool) → eqb (v .micros % secondTicks) 0 ≡ b → partOf uncapped p s t ≡ partKept p v t
+          go : (b : Bool) → eqb (v .micros % secondTicks) 0 ≡ b → scannedPart uncapped p s t ≡ partKept p v t
           go true z =
               let y : fractionText (v .micros % secondTicks) ≡ [] = no-fraction (v .micros % secondTicks) (eqb-true (v .micros % secondTicks) 0 z) in
               let k : partKept p v t ≡ t = rw (ne-eqb p (code "Y") n1, eq-eqb p (code "f") q, z) in
@@ -81,7 +81,7 @@ module _ (p : ℕ) (v : DateTime) (m : Small v) (s : List ℕ) (t : Scan) (g : t
               sym (the-fraction uncapped p s t g n1 q) ∙ a-fraction-back s t rest u nz (omega arith) (a .fraction q .no-digit) (here (x ∙ y)) ∙ sym k
 
       module _ (n2 : p ≡ code "f" → ⊥) where
-        back-zone : p ≡ code "z" → partOf uncapped p s t ≡ partKept p v t
+        back-zone : p ≡ code "z" → scannedPart uncapped p s t ≡ partKept p v t
         unfolding partKept
         back-zone q =
             let x : partText p v ≡ zoneText (v .zone) = text-zone p v n1 n2 q .0 in
@@ -90,14 +90,14 @@ module _ (p : ℕ) (v : DateTime) (m : Small v) (s : List ℕ) (t : Scan) (g : t
             sym (the-zone uncapped p s t g n1 n2 q) ∙ zone-back s t le (v .zone) (m .zone) f ∙ sym k
 
         module _ (n3 : p ≡ code "z" → ⊥) where
-          back-pair : isPair p ≡ true → partOf uncapped p s t ≡ partKept p v t
+          back-pair : isPair p ≡ true → scannedPart uncapped p s t ≡ partKept p v t
           unfolding partKept digits
           back-pair q =
               let x : partText p v ≡ digits 2 (pairOf p v) = text-pair p v n1 n2 n3 refl q .0 in
               let k : partKept p v t ≡ withPair p t (record { value = pairOf p v; at = t .at + 2; good = true }) = rw (ne-eqb p (code "Y") n1, ne-eqb p (code "f") n2, ne-eqb p (code "z") n3, q, x) in
               sym (a-pair uncapped p s t g n1 n2 n3 refl q) ∙ ap (withPair p t) (pair-back s (t .at) (pairOf p v) rest (pair-lt p v m) (here x)) ∙ sym k
 
-          back-mark : isPair p ≡ false → partOf uncapped p s t ≡ partKept p v t
+          back-mark : isPair p ≡ false → scannedPart uncapped p s t ≡ partKept p v t
           unfolding partKept
           back-mark q =
               let x : partText p v ≡ p ∷ [] = text-mark p v n1 n2 n3 refl q .0 in
@@ -105,10 +105,10 @@ module _ (p : ℕ) (v : DateTime) (m : Small v) (s : List ℕ) (t : Scan) (g : t
               let h : eqb (at s (t .at)) p ≡ true = eq-eqb (at s (t .at)) p (head s (t .at) (here x)) in
               sym (a-mark uncapped p s t g n1 n2 n3 refl q) ∙ (λ i. pick (h i) (reached t (t .at + 1) true) (reached t (t .at) false)) ∙ sym k
 
-    pub back : partOf uncapped p s t ≡ partKept p v t
+    pub back : scannedPart uncapped p s t ≡ partKept p v t
     back = go (eqb p (code "Y")) (eqb p (code "f")) (eqb p (code "z")) (isPair p) refl refl refl refl
       where
-        go : (b c d f : Bool) → eqb p (code "Y") ≡ b → eqb p (code "f") ≡ c → eqb p (code "z") ≡ d → isPair p ≡ f → partOf uncapped p s t ≡ partKept p v t
+        go : (b c d f : Bool) → eqb p (code "Y") ≡ b → eqb p (code "f") ≡ c → eqb p (code "z") ≡ d → isPair p ≡ f → scannedPart uncapped p s t ≡ partKept p v t
         go true c d f x y z w = back-year (eqb-true p (code "Y") x)
         go false true d f x y z w = back-fraction (eqb-false p (code "Y") x) (eqb-true p (code "f") y)
         go false false true f x y z w = back-zone (eqb-false p (code "Y") x) (eqb-false p (code "f") y) (eqb-true p (code "z") z)
@@ -236,7 +236,7 @@ pub through : (ps : List ℕ) (v : DateTime) → Small v → (s : List ℕ) (t :
 unfolding scanned allKept layoutText sane
 through [] v m s t g le h e = record { same = refl; good = g; end = omega arith }
 through (p ∷ ps) v m s t g le h e =
-    let b : partOf uncapped p s t ≡ partKept p v t = back p v m s t g le (layoutText ps v) (after v p ps h) e in
+    let b : scannedPart uncapped p s t ≡ partKept p v t = back p v m s t g le (layoutText ps v) (after v p ps h) e in
     let n = next p v t g in
     let l : length (partText p v ++ layoutText ps v) ≡ length (partText p v) + length (layoutText ps v) = length-append (partText p v) (layoutText ps v) in
     let d : drop (partKept p v t .at) s ≡ layoutText ps v = ap (λ (i : ℕ). drop i s) (n .1) ∙ beyond s (t .at) (partText p v) (layoutText ps v) e in

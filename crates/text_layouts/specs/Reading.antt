@@ -6,8 +6,8 @@ use lib.ListN.{length}
 use Rattle.basis.specs.Answer.{Answer}
 use Rattle.value.specs.declared.Kind.{Kind}
 use Rattle.value.specs.declared.Value.{Value}
-use Rattle.text_scan.specs.Scanning.{uncapped, partsOf}
+use Rattle.text_scan.specs.Scanning.{uncapped, scannedParts}
 use Rattle.text_checks.specs.Reading.{judge}
 
 unfoldable pub readLayout : Kind → List ℕ → Answer Value
-readLayout k s = judge k (length s) (partsOf uncapped k s)
+readLayout k s = judge k (length s) (scannedParts uncapped k s)

@@ -12,9 +12,9 @@ use Rattle.value.specs.Kinds.{template}
 use Rattle.value.specs.declared.Kind.{Kind}
 use Rattle.value.specs.declared.Kind.the-variants as KV
 use Rattle.numerals.specs.Carried.{withoutZero}
-use Rattle.numerals.proofs.Shares.{nonzero}
+use Rattle.numerals.proofs.Positions.{nonzero}
 use Rattle.text_scan.specs.declared.Scan.{Scan}
-use Rattle.text_scan.specs.Scanning.{partOf, scanned, layout, startOf, partsOf}
+use Rattle.text_scan.specs.Scanning.{scannedPart, scanned, layout, startOf, scannedParts}
 use Rattle.text_scan.specs.Carried.{capped}
 use Rattle.text_scan.proofs.Ends.{part-le}
 
@@ -23,7 +23,7 @@ pub record Going (layout s : List ℕ) (t₀ t : Scan) (k : ℕ) : Type 0 where
   pub within : t .at ≤ length s
   pub rest : scanned capped (drop k layout) s t ≡ scanned capped layout s t₀
 
-pub step : (layout s : List ℕ) (t₀ t : Scan) (k : ℕ) → withoutZero layout ≡ true → Going layout s t₀ t k → k < length layout → {r : Scan} → r ≡ partOf capped (getD layout k 0) s t → Going layout s t₀ r (k + 1)
+pub step : (layout s : List ℕ) (t₀ t : Scan) (k : ℕ) → withoutZero layout ≡ true → Going layout s t₀ t k → k < length layout → {r : Scan} → r ≡ scannedPart capped (getD layout k 0) s t → Going layout s t₀ r (k + 1)
 unfolding scanned
 step layout s t₀ t k m g h {r} e =
     record {
@@ -49,5 +49,5 @@ marks x k s e = (omega (arith, ap (λ (q : Scan). q .at) e), all x)
     all KV.YearMonthDuration = refl
 
 -- a kind's way through the reader
-pub way : {k x : Kind} (s : List ℕ) {t r : Scan} → k ≡ x → t ≡ startOf (template k) → r ≡ scanned capped (layout x) s t → r ≡ partsOf capped k s
+pub way : {k x : Kind} (s : List ℕ) {t r : Scan} → k ≡ x → t ≡ startOf (template k) → r ≡ scanned capped (layout x) s t → r ≡ scannedParts capped k s
 way {k} {x} s ek et er = er ∙ ap (scanned capped (layout x) s) et ∙ ap (λ (y : Kind). scanned capped (layout y) s (startOf (template k))) (sym ek)

@@ -14,7 +14,7 @@ use Rattle.numerals.specs.Reading.{at, numeralAt, fractionAt}
 use Rattle.text_scan.specs.declared.Scan.{Scan}
 use Rattle.text_scan.specs.declared.Pair.{Pair}
 use Rattle.text_scan.specs.declared.Year.{Year}
-use Rattle.text_scan.specs.Scanning.{found, uncapped, fourZeros, pairAt, yearAt, yearPart, fractionPart, zonePart, zoneSigned, zoneHours, zoneMinutes, withPair, partAt, partOf, isPair, scanned, layout, startOf, partsOf, withYear}
+use Rattle.text_scan.specs.Scanning.{found, uncapped, fourZeros, pairAt, yearAt, yearPart, fractionPart, zonePart, zoneSigned, zoneHours, zoneMinutes, withPair, partAt, scannedPart, isPair, scanned, layout, startOf, scannedParts, withYear}
 use Rattle.text_scan.specs.Carried.{capped}
 
 abbrev pub cut : Scan → Scan
@@ -106,7 +106,7 @@ module _ (s : List ℕ) (t : Scan) where
       go false false false false true e f i j k = rw (e, f, i, j, k)
       go false false false false false e f i j k = rw (e, f, i, j, k)
 
-  part-cut : (p : ℕ) → partOf capped p s (cut t) ≡ cut (partOf uncapped p s t)
+  part-cut : (p : ℕ) → scannedPart capped p s (cut t) ≡ cut (scannedPart uncapped p s t)
   part-cut p = go (t .good) (part-at-cut p)
     where
       go : (b : Bool) → partAt capped p s (cut t) ≡ cut (partAt uncapped p s t) → pick b (partAt capped p s (cut t)) (cut t) ≡ cut (pick b (partAt uncapped p s t) t)
@@ -116,8 +116,8 @@ module _ (s : List ℕ) (t : Scan) where
 scanned-cut : (ps s : List ℕ) (t : Scan) → scanned capped ps s (cut t) ≡ cut (scanned uncapped ps s t)
 unfolding scanned
 scanned-cut [] s t = refl
-scanned-cut (p ∷ ps) s t = ap (scanned capped ps s) (part-cut s t p) ∙ scanned-cut ps s (partOf uncapped p s t)
+scanned-cut (p ∷ ps) s t = ap (scanned capped ps s) (part-cut s t p) ∙ scanned-cut ps s (scannedPart uncapped p s t)
 
 -- the template's year is not cut
-pub parts-cut : (k : Kind) (s : List ℕ) → partsOf capped k s ≡ cut (partsOf uncapped k s)
+pub parts-cut : (k : Kind) (s : List ℕ) → scannedParts capped k s ≡ cut (scannedParts uncapped k s)
 parts-cut k s = scanned-cut (layout k) s (startOf (template k))

@@ -11,12 +11,12 @@ use borrow.Author.Tests.{ltb-false, eqb-true}
 use Rattle.basis.specs.Choice.{both}
 use Rattle.numerals.specs.Reading.{isDigit, Number, numeralAt, at, fractionAt}
 use Rattle.numerals.specs.declared.Fraction.{Fraction}
-use Rattle.numerals.proofs.Shares.{within}
+use Rattle.numerals.proofs.Positions.{within}
 use Rattle.numerals.proofs.Stretches.{digit-within, stretch-le}
 use Rattle.numerals.proofs.Fractions.{fraction-le}
 use Rattle.text_scan.specs.declared.Scan.{Scan}
 use Rattle.text_scan.specs.declared.Pair.{Pair}
-use Rattle.text_scan.specs.Scanning.{fourZeros, pairAt, yearAt, yearIs, yearPart, fractionPart, fractionIs, zonePart, zoneSigned, zoneHours, zoneMinutes, withPair, partAt, partOf, isPair}
+use Rattle.text_scan.specs.Scanning.{fourZeros, pairAt, yearAt, yearIs, yearPart, fractionPart, fractionIs, zonePart, zoneSigned, zoneHours, zoneMinutes, withPair, partAt, scannedPart, isPair}
 use Rattle.text_scan.proofs.Ways.{on, off}
 
 module _ (s : List ℕ) (i : ℕ) where
@@ -114,7 +114,7 @@ module _ (keep : ℕ → ℕ) (s : List ℕ) (t : Scan) (h : t .at ≤ length s)
       go false e = rw e (year-le keep s (t .at) h)
 
   -- a byte that stands for itself is no 0, or it would be found past the end
-  pub part-le : (p : ℕ) → 1 ≤ p → partOf keep p s t .at ≤ length s
+  pub part-le : (p : ℕ) → 1 ≤ p → scannedPart keep p s t .at ≤ length s
   unfolding partAt
   part-le p hp = good (t .good) refl
     where
@@ -126,6 +126,6 @@ module _ (keep : ℕ → ℕ) (s : List ℕ) (t : Scan) (h : t .at ≤ length s)
       go false false false false true e f i j k = rw (e, f, i, j, k) (omega (arith, within s (t .at) p (eqb-true _ _ k) hp))
       go false false false false false e f i j k = rw (e, f, i, j, k) h
 
-      good : (b : Bool) → t .good ≡ b → partOf keep p s t .at ≤ length s
+      good : (b : Bool) → t .good ≡ b → scannedPart keep p s t .at ≤ length s
       good true e = rw (on keep p s t e) (go (eqb p (code "Y")) (eqb p (code "f")) (eqb p (code "z")) (isPair p) (eqb (at s (t .at)) p) refl refl refl refl refl)
       good false e = rw (off keep p s t e) h

@@ -14,7 +14,7 @@ use Rattle.numerals.specs.Reading.{at, fractionAt}
 use Rattle.text_scan.specs.declared.Scan.{Scan}
 use Rattle.text_scan.specs.declared.Pair.{Pair}
 use Rattle.text_scan.specs.declared.Year.{Year}
-use Rattle.text_scan.specs.Scanning.{pairAt, yearAt, yearPart, fractionPart, zonePart, zoneSigned, zoneHours, zoneMinutes, withPair, partAt, partOf, isPair, reached, scanned, withYear, withFraction, withZoneParts}
+use Rattle.text_scan.specs.Scanning.{pairAt, yearAt, yearPart, fractionPart, zonePart, zoneSigned, zoneHours, zoneMinutes, withPair, partAt, scannedPart, isPair, reached, scanned, withYear, withFraction, withZoneParts}
 
 -- the offset and the zone do not matter to a fact
 pub record Steady (P : Scan → Type 0) : Type 0 where
@@ -80,7 +80,7 @@ module _ (P : Scan → Type 0) (w : Steady P) (s : List ℕ) (t : Scan) (a : P t
         go true = f t true (yearAt keep s (t .at + 1)) a
         go false = f t false (yearAt keep s (t .at)) a
 
-    part-leaves : (p : ℕ) → Leaves P p → P (partOf keep p s t)
+    part-leaves : (p : ℕ) → Leaves P p → P (scannedPart keep p s t)
     unfolding partAt
     part-leaves p l = good (t .good)
       where
@@ -101,4 +101,4 @@ module _ (P : Scan → Type 0) (w : Steady P) (s : List ℕ) (t : Scan) (a : P t
 pub lasts : (P : Scan → Type 0) → Steady P → (keep : ℕ → ℕ) {ps : List ℕ} → Everywhere P ps → (s : List ℕ) (t : Scan) → P t → P (scanned keep ps s t)
 unfolding scanned
 lasts P w keep ended s t a = a
-lasts P w keep (letter {p} l ls) s t a = lasts P w keep ls s (partOf keep p s t) (part-leaves P w s t a keep p l)
+lasts P w keep (letter {p} l ls) s t a = lasts P w keep ls s (scannedPart keep p s t) (part-leaves P w s t a keep p l)

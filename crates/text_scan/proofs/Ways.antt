@@ -10,36 +10,36 @@ use Rattle.basis.specs.Choice.{pick}
 use Rattle.numerals.specs.Reading.{at}
 use Rattle.text_scan.specs.declared.Scan.{Scan}
 use Rattle.text_scan.specs.declared.Pair.{Pair}
-use Rattle.text_scan.specs.Scanning.{isPair, withPair, yearPart, fractionPart, zonePart, pairAt, partAt, partOf, zoneSigned, zoneHours, zoneMinutes, withZoneParts, reached}
+use Rattle.text_scan.specs.Scanning.{isPair, withPair, yearPart, fractionPart, zonePart, pairAt, partAt, scannedPart, zoneSigned, zoneHours, zoneMinutes, withZoneParts, reached}
 
 module _ (keep : ℕ → ℕ) (p : ℕ) (s : List ℕ) (t : Scan) where
-  pub on : t .good ≡ true → partOf keep p s t ≡ partAt keep p s t
+  pub on : t .good ≡ true → scannedPart keep p s t ≡ partAt keep p s t
   on e = λ i. pick (e i) (partAt keep p s t) t
 
-  pub off : t .good ≡ false → partOf keep p s t ≡ t
+  pub off : t .good ≡ false → scannedPart keep p s t ≡ t
   off e = λ i. pick (e i) (partAt keep p s t) t
 
 module _ (keep : ℕ → ℕ) (p : ℕ) (s : List ℕ) (t : Scan) (g : t .good ≡ true) where
-  pub the-year : p ≡ code "Y" → yearPart keep s t ≡ partOf keep p s t
+  pub the-year : p ≡ code "Y" → yearPart keep s t ≡ scannedPart keep p s t
   unfolding partAt
   the-year a = sym (on keep p s t g ∙ rw (eq-eqb p (code "Y") a))
 
   module _ (a : p ≡ code "Y" → ⊥) where
-    pub the-fraction : p ≡ code "f" → fractionPart s t ≡ partOf keep p s t
+    pub the-fraction : p ≡ code "f" → fractionPart s t ≡ scannedPart keep p s t
     unfolding partAt
     the-fraction b = sym (on keep p s t g ∙ rw (ne-eqb p (code "Y") a, eq-eqb p (code "f") b))
 
     module _ (b : p ≡ code "f" → ⊥) where
-      pub the-zone : p ≡ code "z" → zonePart s t ≡ partOf keep p s t
+      pub the-zone : p ≡ code "z" → zonePart s t ≡ scannedPart keep p s t
       unfolding partAt
       the-zone d = sym (on keep p s t g ∙ rw (ne-eqb p (code "Y") a, ne-eqb p (code "f") b, eq-eqb p (code "z") d))
 
       module _ (d : p ≡ code "z" → ⊥) {r : Bool} (er : r ≡ isPair p) where
-        pub a-pair : r ≡ true → withPair p t (pairAt s (t .at)) ≡ partOf keep p s t
+        pub a-pair : r ≡ true → withPair p t (pairAt s (t .at)) ≡ scannedPart keep p s t
         unfolding partAt
         a-pair e = sym (on keep p s t g ∙ rw (ne-eqb p (code "Y") a, ne-eqb p (code "f") b, ne-eqb p (code "z") d, sym er ∙ e))
 
-        pub a-mark : r ≡ false → pick (eqb (at s (t .at)) p) (reached t (t .at + 1) true) (reached t (t .at) false) ≡ partOf keep p s t
+        pub a-mark : r ≡ false → pick (eqb (at s (t .at)) p) (reached t (t .at + 1) true) (reached t (t .at) false) ≡ scannedPart keep p s t
         unfolding partAt
         a-mark e = sym (on keep p s t g ∙ rw (ne-eqb p (code "Y") a, ne-eqb p (code "f") b, ne-eqb p (code "z") d, sym er ∙ e))
 

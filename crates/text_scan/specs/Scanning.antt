@@ -143,14 +143,14 @@ module _ (keep : ℕ → ℕ) where
       (pick (isPair p) (withPair p t (pairAt s (t .at))) (pick (eqb (at s (t .at)) p) (reached t (t .at + 1) true) (reached t (t .at) false)))))
 
   -- after a part that is not there nothing more is looked for
-  abbrev pub partOf : ℕ → List ℕ → Scan → Scan
-  partOf p s t = pick (t .good) (partAt p s t) t
+  abbrev pub scannedPart : ℕ → List ℕ → Scan → Scan
+  scannedPart p s t = pick (t .good) (partAt p s t) t
 
   -- the parts of a layout, one after the other
   unfoldable pub scanned : List ℕ → List ℕ → Scan → Scan
   scanned [] s t = t
-  scanned (p ∷ ps) s t = scanned ps s (partOf p s t)
+  scanned (p ∷ ps) s t = scanned ps s (scannedPart p s t)
 
   -- the parts of a text of a kind
-  abbrev pub partsOf : Kind → List ℕ → Scan
-  partsOf k s = scanned (layout k) s (startOf (template k))
+  abbrev pub scannedParts : Kind → List ℕ → Scan
+  scannedParts k s = scanned (layout k) s (startOf (template k))

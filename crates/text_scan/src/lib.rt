@@ -14,7 +14,7 @@ ghost use lib.ListN.{length, getD};
 ghost use Rattle.basis.specs.Choice.{pick};
 ghost use Rattle.value.specs.Kinds.{template};
 ghost use Rattle.numerals.specs.Carried.{withoutZero};
-ghost use Rattle.text_scan.specs.Scanning.{fourZeros, leadingZero, pairAt, yearAt, yearPart, fractionPart, zonePart, zoneSigned, isPair, withPair, partOf, scanned, reached, startOf, partsOf};
+ghost use Rattle.text_scan.specs.Scanning.{fourZeros, leadingZero, pairAt, yearAt, yearPart, fractionPart, zonePart, zoneSigned, isPair, withPair, scannedPart, scanned, reached, startOf, scannedParts};
 ghost use Rattle.text_scan.specs.Carried.{capped};
 
 // A year has so many digits, or more.
@@ -322,7 +322,7 @@ fn mark(p: u8, s: &[u8], mut t: Scan) -> Scan
 // One letter of a layout. After a part that is not there nothing more is looked for.
 fn part(p: u8, s: &[u8], t: Scan) -> Scan
     requires { ⌜ t .at ≤ length (now s) ⌝ }
-    ensures { λ r. ⌜ r ≡ partOf capped p (now (s .entry)) t ⌝ }
+    ensures { λ r. ⌜ r ≡ scannedPart capped p (now (s .entry)) t ⌝ }
 {
     if !t.good {
         return t;
@@ -383,7 +383,7 @@ fn start(kind: Kind) -> Scan
 
 // The parts of a text of a kind. The durations have no layout.
 pub fn parts_of(kind: Kind, s: &[u8]) -> Scan
-    ensures { λ r. ⌜ r ≡ partsOf capped kind (now (s .entry)) ⌝ }
+    ensures { λ r. ⌜ r ≡ scannedParts capped kind (now (s .entry)) ⌝ }
 {
     let t = start(kind);
     match kind {

@@ -4,7 +4,7 @@ use native.Mathlib.Omega.{arith}
 use lib.ListN.{length}
 use borrow.Author.Needs.{needs}
 use Rattle.basis.proofs.Tests.{no, yes}
-use Rattle.condition_words.specs.Words.{stretchOf, stretchEnd}
+use Rattle.condition_words.specs.Words.{stretchEndIn, stretchEnd}
 use Rattle.condition_words.proofs.Stretching.{stretch-on, stretch-stops, stretch-ends}
 use Rattle.condition_words.proofs.stretch_end.Statement.{statement}
 use Rattle.condition_words.proofs.stretch_end.Tie as tie
@@ -13,7 +13,7 @@ use Rattle.condition_words.proofs.stretch_end.Lts as lts
 use Rattle.condition_words.proofs.belongs.Reads as belongs-reads
 
 abbrev Inv-loop : tie.InvT-loop
-Inv-loop class s at p₀ p = stretchEnd class s at ≡ stretchOf (length s - p) class s p
+Inv-loop class s at p₀ p = stretchEnd class s at ≡ stretchEndIn (length s - p) class s p
 
 abbrev μ-loop : tie.MeasureT-loop
 μ-loop class s at p₀ p = length s - p

@@ -2,7 +2,7 @@ use mathlib.Core.Path.{sym, _∙_}
 use Prim.Native.Char.{code}
 use native.Mathlib.Omega.{arith}
 use borrow.Author.Tests.{eq-eqb, ne-eqb}
-use Rattle.numerals.proofs.Shares.{within}
+use Rattle.numerals.proofs.Positions.{within}
 use Rattle.text_scan.specs.Scanning.{fractionPart}
 use borrow.Author.Needs.{needs}
 use Rattle.text_scan.proofs.fraction_part.Statement.{statement}

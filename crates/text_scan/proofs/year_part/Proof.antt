@@ -1,6 +1,6 @@
 use mathlib.Core.Path.{sym, _∙_}
 use Prim.Native.Char.{code}
-use Rattle.numerals.proofs.Shares.{within}
+use Rattle.numerals.proofs.Positions.{within}
 use borrow.Author.Tests.{ne-eqb, eq-eqb}
 use native.Mathlib.Omega.{arith}
 use Rattle.text_scan.specs.Scanning.{yearPart}

@@ -1,7 +1,7 @@
 use Rattle.basis.proofs.Tests.{no, yes as good}
 use mathlib.Core.Path.{refl}
 use Rattle.text_scan.proofs.Ways.{no-hours, no-colon, no-minutes, a-zone}
-use Rattle.numerals.proofs.Shares.{within}
+use Rattle.numerals.proofs.Positions.{within}
 use mathlib.Core.Path.{sym, _∙_}
 use Prim.Native.Char.{code}
 use native.Mathlib.Omega.{arith}

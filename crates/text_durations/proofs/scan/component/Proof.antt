@@ -1,7 +1,7 @@
 use Rattle.text_durations.specs.Forms.{point}
 use Rattle.text_durations.proofs.Ways.{absent, no-letter, no-point, no-seconds, a-part, with-point}
 use Rattle.text_durations.proofs.Weights.{day-weight, weight-between, roomy-digit}
-use Rattle.numerals.proofs.Shares.{within}
+use Rattle.numerals.proofs.Positions.{within}
 use native.Mathlib.Omega.{arith}
 use mathlib.Core.Path.{sym, _∙_}
 use borrow.Author.Needs.{needs}

@@ -1,5 +1,5 @@
 use Rattle.text_durations.proofs.Going.{Going, start, step, finish}
-use Rattle.numerals.proofs.Shares.{nonzero}
+use Rattle.numerals.proofs.Positions.{nonzero}
 use native.Mathlib.Omega.{arith}
 use lib.ListN.{length}
 use Prim.Native.Nat.{_-_}

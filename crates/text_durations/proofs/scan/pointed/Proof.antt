@@ -1,5 +1,5 @@
 use Rattle.text_durations.proofs.Ways.{no-digit, not-closed, closed}
-use Rattle.numerals.proofs.Shares.{within}
+use Rattle.numerals.proofs.Positions.{within}
 use native.Mathlib.Omega.{arith}
 use mathlib.Core.Path.{sym, _∙_}
 use borrow.Author.Needs.{needs}

@@ -1,7 +1,7 @@
 use Rattle.text_durations.specs.declared.Walk.{Walk}
 use Rattle.text_durations.specs.Forms.{startMark}
 use Rattle.text_durations.proofs.Going.{no-start, a-start, after-le}
-use Rattle.numerals.proofs.Shares.{within}
+use Rattle.numerals.proofs.Positions.{within}
 use native.Mathlib.Omega.{arith}
 use mathlib.Core.Path.{ap, sym, _∙_}
 use borrow.Author.Needs.{needs}

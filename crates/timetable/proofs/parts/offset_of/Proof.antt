@@ -1,4 +1,4 @@
--- `parts::place_of` meets its contract: what is left to pass, from each offset that the loop reaches, ends where the first
+-- `parts::offset_of` meets its contract: what is left to pass, from each offset that the loop reaches, ends where the first
 -- byte does.
 use Prim.Native.Nat.{_+_, _-_}
 use mathlib.Core.Path.{_≡_, refl}
