@@ -1,4 +1,3 @@
-pub mod Lent
 pub mod Room
 pub mod Due
 pub mod Sending

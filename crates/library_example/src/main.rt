@@ -3,8 +3,8 @@
 use desk::Desk;
 use desk::FreshAnswer;
 use libc::STDIN_FILENO;
-use library_values::told::tell_no_call;
-use library_values::told::tell_refused;
+use library_told::tell_no_call;
+use library_told::tell_refused;
 
 mod seats; // seats.rt: the desk's calls, and which call a line is
 mod told; // told.rt: what the desk's calls answered

@@ -4,10 +4,10 @@ use desk::OpenAnswer;
 use desk_seat::At;
 use desk_seat::Totals;
 use desk_seat::TurnAnswer;
-use library_values::told::tell;
-use library_values::told::tell_end;
-use library_values::told::tell_number;
-use library_values::told::tell_refused;
+use library_told::tell;
+use library_told::tell_end;
+use library_told::tell_number;
+use library_told::tell_refused;
 
 pub fn tell_open(answer: OpenAnswer) {
     match answer {

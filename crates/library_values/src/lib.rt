@@ -1,21 +1,19 @@
 // The calls of the library example that are about values (docs/LINES.md, "Library example"): each reads the fields of a line, makes
 // the library's call, and writes what it answered.
 use condition_words::same;
-use makers::make_date;
-use makers::make_date_time;
-use makers::make_day_time;
-use makers::make_time;
-use makers::make_year_month;
+use library_makers::make_date;
+use library_makers::make_date_time;
+use library_makers::make_day_time;
+use library_makers::make_time;
+use library_makers::make_year_month;
+use library_told::tell_no_call;
 use texts::compare;
 use texts::compare_delay;
 use texts::write_record;
 use texts::write_text;
 use timetable::fields::field;
-use told::tell_no_call;
 
-mod makers; // makers.rt: values made of numbers
 mod texts; // texts.rt: values read from text, written, compared and computed with
-pub mod told; // told.rt: the lines that are written
 
 // The calls that read or write a text, and a line that is no call.
 fn answer_text(line: &[u8], word: &[u8]) {

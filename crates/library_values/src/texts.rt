@@ -1,16 +1,16 @@
 // Values that are read from text, written into a room, compared and computed with.
-use crate::told::tell;
-use crate::told::tell_end;
-use crate::told::tell_late;
-use crate::told::tell_no_call;
-use crate::told::tell_number;
-use crate::told::tell_order;
-use crate::told::tell_refused;
 use condition_symbols::Named;
 use condition_symbols::kind_named;
 use library_lines::given::GivenRecord;
 use library_lines::given::record_at;
 use library_lines::late::late;
+use library_told::tell;
+use library_told::tell_end;
+use library_told::tell_late;
+use library_told::tell_no_call;
+use library_told::tell_number;
+use library_told::tell_order;
+use library_told::tell_refused;
 use line_fields::fields::after_tab;
 use line_fields::numbers::read;
 use text::Written;

@@ -1,3 +1,2 @@
 pub mod Starting
 pub mod Leaving
-pub mod Again

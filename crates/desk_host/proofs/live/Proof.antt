@@ -43,7 +43,7 @@ use Rattle.desk.proofs.Desk as T
 use Rattle.desk.proofs.Desk.Laws as T′
 use Rattle.output_pieces.specs.Pieces.{servedAll}
 use Rattle.output_pieces.specs.Carried.{servedTold}
-use Rattle.output_pieces.proofs.Again.{sv, Own, Tok, twice}
+use Rattle.desk_in_place.proofs.Again.{sv, Own, Tok, twice}
 use Rattle.desk_host.specs.declared.Sent.{Sent}
 use Rattle.desk_host.specs.declared.Progress.{Progress}
 use Rattle.desk_host.proofs.Sent as S
@@ -51,7 +51,7 @@ use Rattle.desk_host.proofs.Sent.Laws as S′
 use Rattle.desk_host.proofs.Progress as X
 use Rattle.desk_host.proofs.Progress.Laws as X′
 use Rattle.desk_host.proofs.SentValue.{IsSent, is-zv}
-use Rattle.desk_host.proofs.Lent.{dv, Good, lent, lends, back}
+use Rattle.desk_in_place.proofs.Lent.{dv, Good, lent, lends, back}
 use Rattle.desk_host.proofs.serve_in as serves
 use Rattle.desk_host.proofs.serve_in.Symbol as serves-def
 use Rattle.desk_host.proofs.serve_in.Symbol.{name as #serve-in}

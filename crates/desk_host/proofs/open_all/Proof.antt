@@ -71,13 +71,13 @@ use Rattle.desk.specs.declared.Desk.{Desk}
 use Rattle.desk.proofs.Desk as T
 use Rattle.output_pieces.specs.Pieces.{openPiece, openedAll}
 use Rattle.output_pieces.specs.Carried.{openedTold}
-use Rattle.output_pieces.proofs.Again.{sv, Own, at, Ref, Tok, twice, lends, back}
+use Rattle.desk_in_place.proofs.Again.{sv, Own, at, Ref, Tok, twice, lends, back}
 use Rattle.desk_host.specs.declared.Sent.{Sent}
 use Rattle.desk_host.proofs.Sent as S
 use Rattle.desk_host.proofs.Sent.Laws as S′
 use Rattle.desk_host.proofs.Opening.{toTell, one-told, next-opened, next-amount, all-opened, all-told, from-start, told-from-start, open-failed, nearer}
 use Rattle.desk_host.proofs.SentValue.{zv, IsSent, is-zv, told-fits, due, is-due}
-use Rattle.desk_host.proofs.Lent.{rest}
+use Rattle.desk_in_place.proofs.Lent.{rest}
 use Rattle.desk_host.proofs.open_at_in as opens
 use Rattle.desk_host.proofs.open_at_in.Symbol as opens-def
 use Rattle.desk_host.proofs.open_at_in.Symbol.{name as #open-at-in}

@@ -55,7 +55,7 @@ use Rattle.output_pieces.specs.Pieces.{openPiece, Leaves}
 use Rattle.output_pieces.specs.declared.PieceEnd.{PieceEnd}
 use Rattle.output_pieces.proofs.PieceEnd as P
 use Rattle.output_pieces.proofs.PieceEnd.Laws as P′
-use Rattle.output_pieces.proofs.Again.{sv, Own, at, Ref, Tok, twice}
+use Rattle.desk_in_place.proofs.Again.{sv, Own, at, Ref, Tok, twice}
 use Rattle.output_pieces.proofs.open_piece_in as opens
 use Rattle.output_pieces.proofs.open_piece_in.Symbol as opens-def
 use Rattle.output_pieces.proofs.open_piece_in.Symbol.{name as #open-piece-in}

@@ -44,7 +44,7 @@ use Rattle.desk.specs.declared.Desk.{Desk}
 use Rattle.desk.proofs.Desk as T
 use Rattle.output_pieces.specs.Pieces.{openedAll, untilIdle, mostTurns, servedAll}
 use Rattle.output_pieces.specs.Carried.{openedTold, untilIdleTold, servedTold}
-use Rattle.output_pieces.proofs.Again.{sv, Own, at, Ref, Tok, twice, lends, back}
+use Rattle.desk_in_place.proofs.Again.{sv, Own, at, Ref, Tok, twice, lends, back}
 use Rattle.desk_host.specs.declared.Sent.{Sent}
 use Rattle.desk_host.proofs.Sent as S
 use Rattle.desk_host.proofs.Sent.Laws as S′

@@ -52,8 +52,8 @@ use Rattle.output_pieces.proofs.PieceEnd.Laws as P′
 use Rattle.desk_host.proofs.Sent as S
 use Rattle.desk_host.proofs.Sent.Laws as S′
 use Rattle.desk_host.proofs.Sending.{some-goes, some-sent}
-use Rattle.desk_host.proofs.Lent.{big}
-use Rattle.output_pieces.proofs.Again.{sv, Own, at, Ref, Tok, twice}
+use Rattle.desk_in_place.proofs.Lent.{big}
+use Rattle.desk_in_place.proofs.Again.{sv, Own, at, Ref, Tok, twice}
 use Rattle.desk_host.proofs.Room.{bytes, Bytes, slice, zeros, zeros-typed, made, emptied, lends-mut, mut-back, lends-shr, shr-back}
 use Rattle.output_pieces.proofs.turns_piece_in as turns
 use Rattle.output_pieces.proofs.turns_piece_in.Symbol as turns-def

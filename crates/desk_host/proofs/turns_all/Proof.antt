@@ -55,8 +55,8 @@ use Rattle.desk_host.proofs.Sent as S
 use Rattle.desk_host.proofs.Sent.Laws as S′
 use Rattle.desk_host.proofs.Turning.{N, small, less, toTell, one-told, all-made, all-told, more-due, none-due}
 use Rattle.desk_host.proofs.SentValue.{zv, IsSent, is-zv, told-fits, due, is-due}
-use Rattle.desk_host.proofs.Lent.{big, rest}
-use Rattle.output_pieces.proofs.Again.{sv, Own, at, Ref, Tok, twice, lends, back}
+use Rattle.desk_in_place.proofs.Lent.{big, rest}
+use Rattle.desk_in_place.proofs.Again.{sv, Own, at, Ref, Tok, twice, lends, back}
 use Rattle.desk_host.proofs.take_some_in as takes
 use Rattle.desk_host.proofs.take_some_in.Symbol as takes-def
 use Rattle.desk_host.proofs.take_some_in.Symbol.{name as #take-some-in}

@@ -43,7 +43,7 @@ use Rattle.desk.proofs.Desk as T
 use Rattle.output_pieces.specs.declared.PieceEnd.{PieceEnd}
 use Rattle.output_pieces.proofs.PieceEnd as P
 use Rattle.output_pieces.proofs.PieceEnd.Laws as P′
-use Rattle.output_pieces.proofs.Again.{sv, Own, at, Ref, Tok, twice}
+use Rattle.desk_in_place.proofs.Again.{sv, Own, at, Ref, Tok, twice}
 use Rattle.desk.specs.Answers.{openMeaning}
 use Rattle.desk.specs.Desk.{openOf}
 use Rattle.desk.specs.declared.OpenAnswer.{OpenAnswer}

@@ -42,7 +42,7 @@ use Rattle.desk.proofs.Desk as T
 use Rattle.output_pieces.specs.declared.PieceEnd.{PieceEnd}
 use Rattle.output_pieces.proofs.PieceEnd as P
 use Rattle.output_pieces.proofs.PieceEnd.Laws as P′
-use Rattle.output_pieces.proofs.Again.{sv, Own, at, Ref, twice}
+use Rattle.desk_in_place.proofs.Again.{sv, Own, at, Ref, twice}
 use Rattle.output_turns.specs.Turns.{turnsOf, roomAfter, turnsMeaning}
 use Rattle.output_turns.specs.declared.TurnsAnswer.{TurnsAnswer}
 use Rattle.output_turns.proofs.TurnsAnswer as E

@@ -61,8 +61,8 @@ use Rattle.desk.proofs.OpenAnswer as O
 use Rattle.desk.proofs.OpenAnswer.Laws as O′
 use Rattle.desk.proofs.CloseAnswer as Z
 use Rattle.desk.proofs.CloseAnswer.Laws as Z′
-use Rattle.output_pieces.proofs.Again.{sv, Own, at, Ref, Tok, twice, lends, back}
-use Rattle.desk_host.proofs.Lent.{rest}
+use Rattle.desk_in_place.proofs.Again.{sv, Own, at, Ref, Tok, twice, lends, back}
+use Rattle.desk_in_place.proofs.Lent.{rest}
 use Rattle.library_lines.specs.Calls.{callAt, conditionAt, ticketAt}
 use Rattle.library_example.specs.After.{afterCalls}
 use Rattle.library_example.proofs.Calling.{Goes, by-turn, by-open, by-close, by-none, goes-on, all-gone, from-start}

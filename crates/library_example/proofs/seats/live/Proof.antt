@@ -41,8 +41,8 @@ use Rattle.desk.specs.declared.Desk.{Desk}
 use Rattle.library_example.specs.After.{afterCalls}
 use Rattle.desk.proofs.Desk as T
 use Rattle.desk.proofs.Desk.Laws as T′
-use Rattle.output_pieces.proofs.Again.{sv, Own, Tok, twice}
-use Rattle.desk_host.proofs.Lent.{dv, Good, lent, lends, back}
+use Rattle.desk_in_place.proofs.Again.{sv, Own, Tok, twice}
+use Rattle.desk_in_place.proofs.Lent.{dv, Good, lent, lends, back}
 use Rattle.library_example.proofs.seats.answer_all as all
 use Rattle.library_example.proofs.seats.answer_all.Symbol as all-def
 use Rattle.library_example.proofs.seats.answer_all.Symbol.{name as #answer-all}

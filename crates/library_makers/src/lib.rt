@@ -1,14 +1,14 @@
 // Values that are made of numbers. A maker answers the value, or 16 where a number is outside the bounds of its kind.
-use crate::told::tell;
-use crate::told::tell_end;
-use crate::told::tell_no_call;
-use crate::told::tell_refused;
 use condition_words::cut;
 use library_lines::given::FOUR_BYTES;
 use library_lines::given::day_at;
 use library_lines::given::moment_at;
 use library_lines::given::signed_number;
 use library_lines::given::zone;
+use library_told::tell;
+use library_told::tell_end;
+use library_told::tell_no_call;
+use library_told::tell_refused;
 use line_fields::numbers::GREATEST;
 use line_fields::numbers::read;
 use text::Written;
