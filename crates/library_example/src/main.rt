@@ -7,7 +7,6 @@ use library_told::tell_no_call;
 use library_told::tell_refused;
 
 mod seats; // seats.rt: the desk's calls, and which call a line is
-mod told; // told.rt: what the desk's calls answered
 
 // The most bytes of calls.
 const MAX_INPUT: usize = line_fields::MAX_INPUT;

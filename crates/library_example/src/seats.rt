@@ -1,12 +1,12 @@
 // The loop over the lines, which makes the calls of the desk on one desk. The desk stands in one variable of the program, in
 // `live`, and is updated where it stands: `answer_all` is lent it.
-use crate::told::tell_close;
-use crate::told::tell_open;
-use crate::told::tell_turn;
 use desk::Desk;
 use desk_in_place::close_in;
 use desk_in_place::open_in;
 use desk_in_place::turn_in;
+use library_answers::tell_close;
+use library_answers::tell_open;
+use library_answers::tell_turn;
 use library_lines::calls::CLOSE;
 use library_lines::calls::OPEN;
 use library_lines::calls::TURN;

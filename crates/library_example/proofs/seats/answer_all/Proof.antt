@@ -99,18 +99,18 @@ use Rattle.library_example.proofs.seats.answer_value as values
 use Rattle.library_example.proofs.seats.answer_value.Symbol as values-def
 use Rattle.library_example.proofs.seats.answer_value.Symbol.{name as #answer-value}
 use Rattle.library_example.proofs.seats.answer_value.Met as values-thm
-use Rattle.library_example.proofs.told.tell_turn as told-turn
-use Rattle.library_example.proofs.told.tell_turn.Symbol as told-turn-def
-use Rattle.library_example.proofs.told.tell_turn.Symbol.{name as #tell-turn}
-use Rattle.library_example.proofs.told.tell_turn.Met as told-turn-thm
-use Rattle.library_example.proofs.told.tell_open as told-open
-use Rattle.library_example.proofs.told.tell_open.Symbol as told-open-def
-use Rattle.library_example.proofs.told.tell_open.Symbol.{name as #tell-open}
-use Rattle.library_example.proofs.told.tell_open.Met as told-open-thm
-use Rattle.library_example.proofs.told.tell_close as told-close
-use Rattle.library_example.proofs.told.tell_close.Symbol as told-close-def
-use Rattle.library_example.proofs.told.tell_close.Symbol.{name as #tell-close}
-use Rattle.library_example.proofs.told.tell_close.Met as told-close-thm
+use Rattle.library_answers.proofs.tell_turn as told-turn
+use Rattle.library_answers.proofs.tell_turn.Symbol as told-turn-def
+use Rattle.library_answers.proofs.tell_turn.Symbol.{name as #tell-turn}
+use Rattle.library_answers.proofs.tell_turn.Met as told-turn-thm
+use Rattle.library_answers.proofs.tell_open as told-open
+use Rattle.library_answers.proofs.tell_open.Symbol as told-open-def
+use Rattle.library_answers.proofs.tell_open.Symbol.{name as #tell-open}
+use Rattle.library_answers.proofs.tell_open.Met as told-open-thm
+use Rattle.library_answers.proofs.tell_close as told-close
+use Rattle.library_answers.proofs.tell_close.Symbol as told-close-def
+use Rattle.library_answers.proofs.tell_close.Symbol.{name as #tell-close}
+use Rattle.library_answers.proofs.tell_close.Met as told-close-thm
 use Rattle.library_example.proofs.seats.answer_all.Key.{name as #answer-all}
 use Rattle.library_example.proofs.seats.answer_all as f
 use Rattle.library_example.proofs.seats.answer_all.Statement as stated
@@ -556,6 +556,6 @@ answer-all-spec 𝓤 H 𝓜 𝓖 𝓡 =
     (cited 𝓤 H (Condition 𝓤 H (𝓖 .A) (𝓜 .mem) (𝓡 .run)) 𝓜 𝓡 code.env #condition-at conditions-def.routine code.calls-library-lines·calls·condition-at (conditions-thm.met 𝓤 H 𝓜 𝓖 𝓡))
     (cited 𝓤 H (Ticket 𝓤 H (𝓖 .A) (𝓜 .mem) (𝓡 .run)) 𝓜 𝓡 code.env #ticket-at tickets-def.routine code.calls-library-lines·calls·ticket-at (tickets-thm.met 𝓤 H 𝓜 𝓖 𝓡))
     (cited 𝓤 H (Value 𝓤 H (𝓖 .A) (𝓜 .mem) (𝓡 .run)) 𝓜 𝓡 code.env #answer-value values-def.routine code.calls-library-example·seats·answer-value (values-thm.met 𝓤 H 𝓜 𝓖 𝓡))
-    (cited 𝓤 H (ToldTurn 𝓤 H (𝓖 .A) (𝓜 .mem) (𝓡 .run)) 𝓜 𝓡 code.env #tell-turn told-turn-def.routine code.calls-library-example·told·tell-turn (told-turn-thm.met 𝓤 H 𝓜 𝓖 𝓡))
-    (cited 𝓤 H (ToldOpen 𝓤 H (𝓖 .A) (𝓜 .mem) (𝓡 .run)) 𝓜 𝓡 code.env #tell-open told-open-def.routine code.calls-library-example·told·tell-open (told-open-thm.met 𝓤 H 𝓜 𝓖 𝓡))
-    (cited 𝓤 H (ToldClose 𝓤 H (𝓖 .A) (𝓜 .mem) (𝓡 .run)) 𝓜 𝓡 code.env #tell-close told-close-def.routine code.calls-library-example·told·tell-close (told-close-thm.met 𝓤 H 𝓜 𝓖 𝓡)))
+    (cited 𝓤 H (ToldTurn 𝓤 H (𝓖 .A) (𝓜 .mem) (𝓡 .run)) 𝓜 𝓡 code.env #tell-turn told-turn-def.routine code.calls-library-answers·tell-turn (told-turn-thm.met 𝓤 H 𝓜 𝓖 𝓡))
+    (cited 𝓤 H (ToldOpen 𝓤 H (𝓖 .A) (𝓜 .mem) (𝓡 .run)) 𝓜 𝓡 code.env #tell-open told-open-def.routine code.calls-library-answers·tell-open (told-open-thm.met 𝓤 H 𝓜 𝓖 𝓡))
+    (cited 𝓤 H (ToldClose 𝓤 H (𝓖 .A) (𝓜 .mem) (𝓡 .run)) 𝓜 𝓡 code.env #tell-close told-close-def.routine code.calls-library-answers·tell-close (told-close-thm.met 𝓤 H 𝓜 𝓖 𝓡)))
