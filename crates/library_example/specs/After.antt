@@ -10,14 +10,14 @@ use Rattle.desk_seat.specs.Files.{Files}
 use Rattle.desk_seat.specs.Request.{asking}
 use Rattle.desk.specs.Desk.{openOf, closeOf, turnOf}
 use Rattle.desk.specs.declared.Desk.{Desk}
-use Rattle.library_lines.specs.Calls.{callIn, ticketIn}
+use Rattle.library_lines.specs.Calls.{turnCall, openCall, closeCall, callIn, ticketIn}
 
--- by the number of the call: 1 is `turn`, 2 `open`, 3 `close`
+-- by the number of the call
 unfoldable pub afterCall : Files → ℕ → List ℕ → Desk → Desk
 afterCall f k line d =
-    pick (eqb k 1) (turnOf f d .desk)
-    (pick (eqb k 2) (openOf (asking (afterTab line)) d .desk)
-    (pick (eqb k 3) (closeOf (ticketIn line) d .desk) d))
+    pick (eqb k turnCall) (turnOf f d .desk)
+    (pick (eqb k openCall) (openOf (asking (afterTab line)) d .desk)
+    (pick (eqb k closeCall) (closeOf (ticketIn line) d .desk) d))
 
 unfoldable pub afterCalls : Files → List Line → Desk → Desk
 afterCalls f [] d = d

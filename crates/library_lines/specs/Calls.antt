@@ -15,15 +15,28 @@ use Rattle.library_lines.specs.Given.{fourBytes}
 abbrev pub lineFrom : List ℕ → ℕ → List ℕ
 lineFrom input i = between input i (lineEnd input i)
 
--- the calls by number: 1 is `turn`, 2 `open`, 3 `close`, and 0 none of them
+-- the calls by number
+abbrev pub noDeskCall : ℕ
+noDeskCall = 0
+
+abbrev pub turnCall : ℕ
+turnCall = 1
+
+abbrev pub openCall : ℕ
+openCall = 2
+
+abbrev pub closeCall : ℕ
+closeCall = 3
+
+-- which call a line is by its word: `turn` has no further field, `open` one at least, `close` a number alone
 unfoldable pub closeBy : List ℕ → ℕ
-closeBy line = pick (numberOf fourBytes (fieldAt line 2) .good) (pick (hasField line 3) 0 3) 0
+closeBy line = pick (numberOf fourBytes (fieldAt line 2) .good) (pick (hasField line 3) noDeskCall closeCall) noDeskCall
 
 unfoldable pub callBy : List ℕ → List ℕ → ℕ
 callBy line w =
-    pick (same w (bytes "turn")) (pick (hasField line 2) 0 1)
-    (pick (same w (bytes "open")) (pick (not (hasField line 2)) 0 2)
-    (pick (same w (bytes "close")) (closeBy line) 0))
+    pick (same w (bytes "turn")) (pick (hasField line 2) noDeskCall turnCall)
+    (pick (same w (bytes "open")) (pick (not (hasField line 2)) noDeskCall openCall)
+    (pick (same w (bytes "close")) (closeBy line) noDeskCall))
 
 abbrev pub callIn : List ℕ → ℕ
 callIn line = callBy line (fieldAt line 1)

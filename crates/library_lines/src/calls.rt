@@ -67,7 +67,7 @@ fn call_in(line: &[u8]) -> usize
     call_by(line, field(line, 1))
 }
 
-// Which of the desk's calls a line is: 1 for `turn`, 2 for `open→TEXT`, 3 for `close→N`, 0 for a line that is none of them.
+// Which of the desk's calls a line is, `turn`, `open→TEXT` or `close→N`; 0 for a line that is none of them.
 pub fn call_at(input: &[u8], at: usize) -> usize
     ensures { λ r. ⌜ r ≡ the.callAt (now (input .entry)) at ⌝ }
 {
