@@ -4,3 +4,8 @@ use Prim.Native.Nat.{ℕ}
 pub data Answer (A : Type 0) : Type 0 where
   gives : A → Answer A
   refuses : ℕ → Answer A
+
+-- what is answered after another answer: a refusal comes first
+unfoldable pub andThen : {A B : Type 0} → Answer A → (A → Answer B) → Answer B
+andThen (gives x) f = f x
+andThen (refuses n) f = refuses n

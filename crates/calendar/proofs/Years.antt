@@ -57,3 +57,7 @@ days-up-to n last h =
     let q : Found yearDays 0 n p = year-found n in
     let g : total yearDays (p .number + 1) ≤ total yearDays (last + 1) = years-grow (p .number + 1) (last + 1) (omega arith) in
     omega (arith, q .same, q .within, total-zero yearDays, years-next (p .number))
+
+-- a later day's year is not an earlier one
+pub years-in-order : (m n : ℕ) → m ≤ n → dateOf m .year ≤ dateOf n .year
+years-in-order m n h = year-up-to m (dateOf n .year) (omega (arith, days-up-to n (dateOf n .year) (omega arith)))

@@ -36,7 +36,7 @@ use Rattle.condition_symbols.specs.Symbols.{named}
 use Rattle.calls.specs.Answers.{refusedText, oneText, twoText, answerBy, answerOf}
 use Rattle.calls_asked.specs.Asked.{exactly, oneForm, twoForm, pairBy, formBy, formOf}
 use Rattle.calls_replies.specs.Replies.{numberText}
-use Rattle.calls_cases.specs.Table.{Row, noRow, table, rowHolds, tests, allHold}
+use Rattle.calls_cases.specs.Table.{TableRow, noRow, table, rowHolds, tests, allHold}
 
 pub all-hold : allHold ≡ true
 unfolding both every total periodOf dateOf datedOf fieldsOf hasField fieldAt onto parted ofKind okValue localOf instantOf inYears placedAt okDate okOffset okZone okDateTime okSigned isDigit number fractionAt digits shortest decimal stripped fractionText pairAt isPair withPair fractionPart zoneSigned zonePart fourZeros yearAt yearPart partAt scanned nextDay okClock isDayEnd clockTicks clocked okParts zoneIs onCalendar bounded judge readLayout pairOf partText layoutText weight shown shownAll left body durationText component components shapeFrom shape counted readBy readAs textOf inTicks inMonths atTicks movedTo moved shifted isZone adjustedFrom momentTo operandTo adjustOf up down orderIn sumOf plusOf lessMoment differenceIn minusIn same named oneText twoText answerBy answerOf exactly oneForm twoForm pairBy formBy formOf numberText refusedText table rowHolds tests allHold
@@ -49,7 +49,7 @@ alike [] (y ∷ ys) e = cc
 alike (x ∷ xs) [] e = cc
 alike (x ∷ xs) (y ∷ ys) e = λ i. eqb-true x y (both-left (eqb x y) (same xs ys) e) i ∷ alike xs ys (both-right (eqb x y) (same xs ys) e) i
 
-rows-hold : (rows : List Row) → every (tests rows) ≡ true → (i : ℕ) → i < length rows → answerOf (getD rows i noRow .line) ≡ getD rows i noRow .answer
+rows-hold : (rows : List TableRow) → every (tests rows) ≡ true → (i : ℕ) → i < length rows → answerOf (getD rows i noRow .line) ≡ getD rows i noRow .answer
 unfolding every tests rowHolds
 rows-hold [] e i h = absurd (never i h)
   where

@@ -9,13 +9,14 @@ use Rattle.value.specs.Bounds.{minuteTicks, hourTicks}
 use Rattle.value.specs.Values.{okDate, okOffset, okZone, okDateTime, okSigned}
 use Rattle.value.specs.Kinds.{ofKind, okValue}
 use Rattle.value_instants.specs.Ticks.{utc, localOf, inYears, placedAt}
-use Rattle.value.specs.declared.Offset.the-variants.{East}
+use Rattle.value.specs.declared.Offset.the-variants.{East, West}
 use Rattle.value.specs.declared.Zone.{Zone}
 use Rattle.value.specs.declared.Zone.the-variants.{Absent, At}
 use Rattle.value.specs.declared.Value.{Value}
 use Rattle.value.specs.declared.Value.the-variants.{Date, Time, DateTime, DayTime}
 use Rattle.operation_quantities.specs.Results.{atTicks}
-use Rattle.operation_ordering.specs.Order.{orderIn}
+use Rattle.operation_ordering.specs.Order.{orderIn, orderFor}
+use Rattle.operation_arithmetic.specs.Sums.{minusFor}
 use Rattle.operation_arithmetic.specs.Products.{productOf, timesOf}
 use Rattle.operation_adjusting.specs.Adjustment.{isZone, adjustedFrom, momentTo, operandTo, adjustOf}
 
@@ -42,6 +43,15 @@ lasts n t = DayTime (record { negative = n; micros = t })
 bounds-before-kinds : (orderIn utc (timed 2000 1 1 1) (time 0 0 Absent) ≡ refuses 16) × (orderIn utc (date 2000 1 1) (time 0 0 Absent) ≡ refuses 9)
 unfolding orderIn okValue okDateTime okDate okZone ofKind both every
 bounds-before-kinds = (refl, refl)
+
+-- so is a zone of over 14 hours for values without one; 14 hours are good
+zone-beyond :
+    (orderFor (East 841) (date 2000 1 1) (time 0 0 Absent) ≡ refuses 16)
+    × (orderFor (East 840) (date 2000 1 1) (time 0 0 Absent) ≡ refuses 9)
+    × (minusFor (West 841) (date 2000 1 1) (time 0 0 Absent) ≡ refuses 16)
+    × (orderFor (West 840) (date 2000 1 1) (time 0 0 Absent) ≡ refuses 9)
+unfolding orderFor minusFor orderIn okOffset okValue okDateTime okDate okZone ofKind both every
+zone-beyond = (refl, refl, refl, refl)
 
 -- kinds that do not fit before a bad zone, and a bad zone before a result beyond the years
 zone-last :

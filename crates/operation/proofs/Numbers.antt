@@ -7,6 +7,7 @@ use Prim.Native.Nat.{ℕ}
 use Rattle.basis.specs.Choice.{pick, both}
 use Rattle.basis.specs.Answer.{Answer, gives, refuses}
 use Rattle.value.specs.Refusals.{outside, wrongKind, badZone, beyondResult}
+use Rattle.value.specs.Values.{okOffset}
 use Rattle.value.specs.Kinds.{kindOf, okValue}
 use Rattle.value_instants.specs.Ticks.{localOf, instantAt}
 use Rattle.value.specs.declared.Offset.{Offset}
@@ -20,7 +21,7 @@ use Rattle.operation_quantities.specs.Operands.{operandOf, sameKind}
 use Rattle.operation_quantities.specs.declared.Operand.{Operand}
 use Rattle.operation_quantities.specs.declared.Operand.the-variants.{Moment, DayTime, YearMonth}
 use Rattle.operation_quantities.proofs.Numbers.{placed-numbers}
-use Rattle.operation_ordering.specs.Order.{operandOrder, orderIn}
+use Rattle.operation_ordering.specs.Order.{operandOrder, orderIn, orderFor}
 use Rattle.operation_casting.specs.Casts.{castsTo, castTo, castOf}
 use Rattle.operation_adjusting.specs.Adjustment.{isZone, zoneOf, localAt, adjustedFrom, momentTo, operandTo, adjustOf, withoutZone, unzoneOf}
 
@@ -30,13 +31,21 @@ kindNumbers = outside ∷ wrongKind ∷ []
 abbrev pub adjustNumbers : List ℕ
 adjustNumbers = outside ∷ wrongKind ∷ badZone ∷ beyondResult ∷ []
 
-pub compare-refuses : (o : Offset) (a b : Value) (n : ℕ) → orderIn o a b ≡ refuses n → among kindNumbers n ≡ true
+order-numbers : (o : Offset) (a b : Value) → only kindNumbers (orderIn o a b) ≡ true
 unfolding orderIn
-compare-refuses o a b n e =
-    only-refused kindNumbers (orderIn o a b) n
-    (only-either kindNumbers (both (okValue a) (okValue b))
+order-numbers o a b =
+    only-either kindNumbers (both (okValue a) (okValue b))
     (pick (sameKind (kindOf a) (kindOf b)) (gives (operandOrder o (operandOf a) (operandOf b))) (refuses wrongKind)) (refuses outside)
-    (only-either kindNumbers (sameKind (kindOf a) (kindOf b)) (gives (operandOrder o (operandOf a) (operandOf b))) (refuses wrongKind) refl refl) refl)
+    (only-either kindNumbers (sameKind (kindOf a) (kindOf b)) (gives (operandOrder o (operandOf a) (operandOf b))) (refuses wrongKind) refl refl) refl
+
+pub compare-refuses : (o : Offset) (a b : Value) (n : ℕ) → orderIn o a b ≡ refuses n → among kindNumbers n ≡ true
+compare-refuses o a b n e = only-refused kindNumbers (orderIn o a b) n (order-numbers o a b) e
+
+pub compare-for-refuses : (zone : Offset) (a b : Value) (n : ℕ) → orderFor zone a b ≡ refuses n → among kindNumbers n ≡ true
+unfolding orderFor
+compare-for-refuses zone a b n e =
+    only-refused kindNumbers (orderFor zone a b) n
+    (only-either kindNumbers (okOffset zone) (orderIn zone a b) (refuses outside) (order-numbers zone a b) refl)
     e
 
 pub cast-refuses : (a : Value) (k : Kind) (n : ℕ) → castOf a k ≡ refuses n → among kindNumbers n ≡ true

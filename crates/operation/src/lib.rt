@@ -10,6 +10,7 @@ use value::Outcome;
 use value::Refusal;
 use value::Value;
 use value::valid;
+use value_instants::ticks;
 ghost use mathlib.Core.Path.{_≡_};
 ghost use Rattle.value.specs.Kinds.{meaning};
 ghost use Rattle.value_instants.specs.Ticks.{utc};
@@ -19,17 +20,22 @@ ghost use Rattle.operation_arithmetic.specs.Products as products;
 ghost use Rattle.operation_casting.specs.Casts as casts;
 ghost use Rattle.operation_adjusting.specs.Adjustment as adjustment;
 
-// The zone that values without one count in.
-fn zone_for_none() -> Offset
-    ensures { λ r. ⌜ r ≡ utc ⌝ }
-{
-    Offset::East(0)
-}
-
 pub fn compare(a: Value, b: Value) -> Compared
     ensures { λ r. ⌜ order.comparedMeaning r ≡ order.orderIn utc a b ⌝ }
 {
-    operation_ordering::compare_in(a, b, zone_for_none())
+    operation_ordering::compare_in(a, b, ticks::utc())
+}
+
+// The same in any zone; one beyond its bounds is 16.
+pub fn compare_for(a: Value, b: Value, zone: Offset) -> Compared
+    ensures { λ r. ⌜ order.comparedMeaning r ≡ order.orderFor zone a b ⌝ }
+{
+    if !valid::offset_ok(zone) {
+        return Compared::Refused(Refusal {
+            number: Refusal::OUTSIDE,
+        });
+    }
+    operation_ordering::compare_in(a, b, zone)
 }
 
 pub fn plus(a: Value, b: Value) -> Outcome
@@ -47,7 +53,17 @@ pub fn plus(a: Value, b: Value) -> Outcome
 pub fn minus(a: Value, b: Value) -> Outcome
     ensures { λ r. ⌜ meaning r ≡ sums.minusIn utc a b ⌝ }
 {
-    sums::minus_in(a, b, zone_for_none())
+    sums::minus_in(a, b, ticks::utc())
+}
+
+// The same in any zone; one beyond its bounds is 16.
+pub fn minus_for(a: Value, b: Value, zone: Offset) -> Outcome
+    ensures { λ r. ⌜ meaning r ≡ sums.minusFor zone a b ⌝ }
+{
+    if !valid::offset_ok(zone) {
+        return results::refused(Refusal::OUTSIDE);
+    }
+    sums::minus_in(a, b, zone)
 }
 
 // The whole number is a sign and a magnitude.

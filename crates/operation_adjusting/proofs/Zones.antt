@@ -29,10 +29,6 @@ use Rattle.operation_adjusting.specs.Adjustment.{isZone, zoneOf, localAt
 use Rattle.operation_quantities.proofs.Spanned.{ticks-of, part-of, seconds-of}
 use Rattle.operation_shifting.proofs.Reach.{local-from}
 
-pub utc-good : okOffset utc ≡ true
-unfolding okOffset
-utc-good = refl
-
 pub zone-minutes : (z : D.DayTime) → isZone z ≡ true → z .micros / minuteTicks ≤ maxZone
 unfolding isZone
 zone-minutes z e = leb-true _ _ (both-right _ _ e)

@@ -1,4 +1,4 @@
--- The difference of two dates, times or dateTimes: as the code takes it, and that it is never refused.
+-- The difference of two dates, times or dateTimes: as the code takes it, in which zone, and that it is never refused.
 use mathlib.Core.Path.{_≡_, refl, ap, sym, _∙_}
 use mathlib.Core.Bool.{true}
 use native.Mathlib.Omega.{arith}
@@ -23,8 +23,13 @@ use Rattle.operation_quantities.specs.Results.{inTicks}
 use Rattle.operation_quantities.specs.declared.Operand.{Operand}
 use Rattle.operation_quantities.specs.declared.Operand.the-variants.{Moment}
 use Rattle.operation_quantities.proofs.Shapes.{moment-good}
-use Rattle.operation_arithmetic.specs.Sums.{lessMoment, differenceIn, minusIn}
+use Rattle.operation_arithmetic.specs.Sums.{lessMoment, differenceIn, minusIn, minusFor}
 use Rattle.operation_shifting.proofs.Reach.{instant-to}
+
+-- a zone within the bounds is the one that values without zone count in
+pub minus-in-zone : (zone : Offset) (a b : Value) → okOffset zone ≡ true → minusFor zone a b ≡ minusIn zone a b
+unfolding minusFor
+minus-in-zone zone a b h = rw h
 
 pub moments-less : (o : Offset) (j k : Kind) (d e : DateTime) (x : Operand) → sameKind j k ≡ true → x ≡ Moment j d
     → inTicks (instantOf o d) (instantOf o e) ≡ lessMoment o x k e

@@ -10,7 +10,7 @@ use Rattle.calendar.specs.Calendar.{monthCount}
 use Rattle.value.specs.Bounds.{minYear, maxYear}
 use Rattle.value.specs.Refusals.{outside, wrongKind, beyondResult}
 use Rattle.value.specs.Durations.{plusHalf, minusHalf, lessTicks, lessMonths}
-use Rattle.value.specs.Values.{okDayTime, okYearMonth}
+use Rattle.value.specs.Values.{okOffset, okDayTime, okYearMonth}
 use Rattle.value.specs.Kinds.{hasDate, okValue}
 use Rattle.value_instants.specs.Ticks.{localOf, instantOf}
 use Rattle.value.specs.declared.Offset.{Offset}
@@ -24,7 +24,7 @@ use Rattle.operation_shifting.specs.Shifts.{monthOf, inMonth, movedTo, moved, s
 use Rattle.operation_quantities.specs.declared.Operand.{Operand}
 use Rattle.operation_quantities.specs.declared.Operand.the-variants.{Moment, DayTime, YearMonth}
 use Rattle.operation_quantities.proofs.Numbers.{placed-numbers}
-use Rattle.operation_arithmetic.specs.Sums.{opposite, oppositeMonths, sumOf, plusOf, lessMoment, differenceIn, minusIn}
+use Rattle.operation_arithmetic.specs.Sums.{opposite, oppositeMonths, sumOf, plusOf, lessMoment, differenceIn, minusIn, minusFor}
 use Rattle.operation_arithmetic.specs.Products.{maxFactor, signedTimes, productOf, timesOf}
 
 abbrev pub resultNumbers : List ℕ
@@ -92,10 +92,17 @@ unfolding plusOf
 plus-refuses a b n e =
     only-refused resultNumbers (plusOf a b) n (either (both (okValue a) (okValue b)) _ _ (sum-numbers (operandOf a) (operandOf b)) refl) e
 
-pub minus-refuses : (o : Offset) (a b : Value) (n : ℕ) → minusIn o a b ≡ refuses n → among resultNumbers n ≡ true
+minus-numbers : (o : Offset) (a b : Value) → Fits (minusIn o a b)
 unfolding minusIn
-minus-refuses o a b n e =
-    only-refused resultNumbers (minusIn o a b) n (either (both (okValue a) (okValue b)) _ _ (difference-numbers o (operandOf a) (operandOf b)) refl) e
+minus-numbers o a b = either (both (okValue a) (okValue b)) _ _ (difference-numbers o (operandOf a) (operandOf b)) refl
+
+pub minus-refuses : (o : Offset) (a b : Value) (n : ℕ) → minusIn o a b ≡ refuses n → among resultNumbers n ≡ true
+minus-refuses o a b n e = only-refused resultNumbers (minusIn o a b) n (minus-numbers o a b) e
+
+pub minus-for-refuses : (zone : Offset) (a b : Value) (n : ℕ) → minusFor zone a b ≡ refuses n → among resultNumbers n ≡ true
+unfolding minusFor
+minus-for-refuses zone a b n e =
+    only-refused resultNumbers (minusFor zone a b) n (either (okOffset zone) (minusIn zone a b) (refuses outside) (minus-numbers zone a b) refl) e
 
 pub times-refuses : (a : Value) (negative : Bool) (m n : ℕ) → timesOf a negative m ≡ refuses n → among resultNumbers n ≡ true
 unfolding timesOf

@@ -8,6 +8,7 @@ use Rattle.basis.specs.Answer.{gives, refuses}
 use Rattle.basis.proofs.Tests.{both-left, both-right}
 use Rattle.value.specs.Refusals.{outside, wrongKind}
 use Rattle.value.specs.Durations.{plusHalf, minusHalf}
+use Rattle.value.specs.Values.{okOffset}
 use Rattle.value.specs.Kinds.{okValue}
 use Rattle.value_instants.specs.Ticks.{instantOf}
 use Rattle.value.specs.declared.Offset.{Offset}
@@ -21,7 +22,7 @@ use Rattle.operation_quantities.specs.declared.Operand.the-variants.{Moment, Da
 use Rattle.operation_quantities.proofs.Shapes.{valueBack, operand-back}
 use Rattle.operation_quantities.proofs.Given.{valid, valid-given, valid-pick}
 use Rattle.operation_shifting.proofs.Valid.{ticks-valid, months-valid, moved-valid, shifted-valid}
-use Rattle.operation_arithmetic.specs.Sums.{sumOf, plusOf, opposite, oppositeMonths, lessMoment, differenceIn, minusIn}
+use Rattle.operation_arithmetic.specs.Sums.{sumOf, plusOf, opposite, oppositeMonths, lessMoment, differenceIn, minusIn, minusFor}
 use Rattle.operation_arithmetic.specs.Products.{maxFactor, productOf, timesOf}
 use Rattle.operation_arithmetic.proofs.Opposites.{opposite-ok, opposite-months-ok}
 
@@ -73,6 +74,10 @@ minus-valid o a b =
     valid-pick (both (okValue a) (okValue b)) (differenceIn o (operandOf a) (operandOf b)) (refuses outside)
     (λ e. difference-valid o (operandOf a) (operandOf b) (left-ok a b e) (right-ok a b e)) refl
 
+pub minus-for-valid : (zone : Offset) (a b : Value) → valid (minusFor zone a b) ≡ true
+unfolding minusFor
+minus-for-valid zone a b = valid-pick (okOffset zone) (minusIn zone a b) (refuses outside) (λ e. minus-valid zone a b) refl
+
 -- products
 product-valid : (x : Operand) (negative : Bool) (n : ℕ) → valid (productOf x negative n) ≡ true
 unfolding productOf
@@ -94,6 +99,9 @@ plus-within a b v e = valid-given (plusOf a b) v (plus-valid a b) e
 
 pub minus-within : (o : Offset) (a b v : Value) → minusIn o a b ≡ gives v → okValue v ≡ true
 minus-within o a b v e = valid-given (minusIn o a b) v (minus-valid o a b) e
+
+pub minus-for-within : (zone : Offset) (a b v : Value) → minusFor zone a b ≡ gives v → okValue v ≡ true
+minus-for-within zone a b v e = valid-given (minusFor zone a b) v (minus-for-valid zone a b) e
 
 pub times-within : (a : Value) (negative : Bool) (n : ℕ) (v : Value) → timesOf a negative n ≡ gives v → okValue v ≡ true
 times-within a negative n v e = valid-given (timesOf a negative n) v (times-valid a negative n) e

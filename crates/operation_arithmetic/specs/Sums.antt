@@ -5,6 +5,7 @@ use Rattle.basis.specs.Choice.{pick, both}
 use Rattle.basis.specs.Answer.{Answer, refuses}
 use Rattle.value.specs.Refusals.{wrongKind, outside}
 use Rattle.value.specs.Durations.{plusHalf, minusHalf, lessTicks, lessMonths}
+use Rattle.value.specs.Values.{okOffset}
 use Rattle.value.specs.Kinds.{okValue}
 use Rattle.value_instants.specs.Ticks.{instantOf}
 use Rattle.value.specs.declared.Offset.{Offset}
@@ -61,3 +62,7 @@ differenceIn o x (YearMonth m) = sumOf x (YearMonth (oppositeMonths m))
 
 unfoldable pub minusIn : Offset → Value → Value → Answer Value
 minusIn o a b = pick (both (okValue a) (okValue b)) (differenceIn o (operandOf a) (operandOf b)) (refuses outside)
+
+-- in any zone: one beyond its bounds is 16
+unfoldable pub minusFor : Offset → Value → Value → Answer Value
+minusFor zone a b = pick (okOffset zone) (minusIn zone a b) (refuses outside)

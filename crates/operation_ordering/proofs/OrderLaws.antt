@@ -12,7 +12,7 @@ use Rattle.basis.proofs.Tests.{both-left, both-right, both-true}
 use Rattle.value.specs.Bounds.{maxDayTime, maxYearMonth}
 use Rattle.value.specs.Refusals.{outside, wrongKind}
 use Rattle.value.specs.Durations.{plusHalf, minusHalf}
-use Rattle.value.specs.Values.{okSigned}
+use Rattle.value.specs.Values.{okSigned, okOffset}
 use Rattle.value.specs.Kinds.{kindOf, okValue}
 use Rattle.value_instants.specs.Ticks.{instantOf}
 use Rattle.value.specs.declared.Offset.{Offset}
@@ -26,7 +26,12 @@ use Rattle.value.proofs.Signs.{same-difference, signed-back}
 use Rattle.operation_quantities.specs.Operands.{operandOf, kindNumber, sameKind}
 use Rattle.operation_quantities.specs.declared.Operand.the-variants.{Moment}
 use Rattle.operation_quantities.proofs.Given.{given-test, given-rest, gives-same}
-use Rattle.operation_ordering.specs.Order.{Order, less, equal, greater, up, down, order, operandOrder, orderIn}
+use Rattle.operation_ordering.specs.Order.{Order, less, equal, greater, up, down, order, operandOrder, orderIn, orderFor}
+
+-- a zone within the bounds is the one that values without zone count in
+pub order-in-zone : (zone : Offset) (a b : Value) → okOffset zone ≡ true → orderFor zone a b ≡ orderIn zone a b
+unfolding orderFor
+order-in-zone zone a b h = rw h
 
 -- the order of two numbers, both ways
 less-order : (p q : ℕ) → p < q → order p q ≡ less

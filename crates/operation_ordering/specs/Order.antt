@@ -7,6 +7,7 @@ use Rattle.basis.specs.Choice.{pick, both}
 use Rattle.basis.specs.Answer.{Answer, gives, refuses}
 use Rattle.value.specs.Refusals.{outside, wrongKind}
 use Rattle.value.specs.Durations.{plusHalf, minusHalf}
+use Rattle.value.specs.Values.{okOffset}
 use Rattle.value.specs.Kinds.{kindOf, okValue}
 use Rattle.value_instants.specs.Ticks.{instantOf}
 use Rattle.value.specs.declared.Offset.{Offset}
@@ -54,3 +55,7 @@ orderIn o a b =
     (both (okValue a) (okValue b))
     (pick (sameKind (kindOf a) (kindOf b)) (gives (operandOrder o (operandOf a) (operandOf b))) (refuses wrongKind))
     (refuses outside)
+
+-- in any zone: one beyond its bounds is 16
+unfoldable pub orderFor : Offset → Value → Value → Answer Order
+orderFor zone a b = pick (okOffset zone) (orderIn zone a b) (refuses outside)

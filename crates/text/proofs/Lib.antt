@@ -4,3 +4,4 @@ pub mod Rooms
 pub mod Texts
 pub mod RoundTrip
 pub mod Cases
+pub mod NotEmpty

@@ -14,13 +14,13 @@ use Rattle.value.specs.Bounds.{maxDayTime, maxYearMonth}
 use Rattle.value.specs.Durations.{plusHalf, minusHalf, apart}
 use Rattle.value.specs.Kinds.{kindOf, okValue, template}
 use Rattle.value_instants.specs.Ticks.{utc, instantOf}
-use Rattle.value.specs.Values.{okDate, okOffset, okZone, okDateTime, okSigned}
+use Rattle.value.specs.Values.{okDate, okZone, okDateTime, okSigned}
 use Rattle.value.specs.declared.DateTime.{DateTime}
 use Rattle.value.specs.declared.Kind.{Kind}
 use Rattle.value.specs.declared.Kind.the-variants as KV
 use Rattle.value.specs.declared.Value.{Value}
 use Rattle.value.specs.declared.Value.the-variants as VV
-use Rattle.value_instants.proofs.Instants.{same-instant}
+use Rattle.value_instants.proofs.Instants.{utc-good, same-instant}
 use Rattle.value.proofs.KindParts.{kept-of-kind}
 use Rattle.value.proofs.Signs.{signed-back, same-difference}
 use Rattle.numerals.specs.Writing.{longest}
@@ -88,7 +88,8 @@ rebuilt-is (VV.DateTime d) = refl
 rebuilt-is (VV.DayTime d) = refl
 rebuilt-is (VV.YearMonth d) = refl
 
-moment-ok : (v : Value) → okValue v ≡ true → okDateTime (momentOf v) ≡ true
+-- the record of a valid value is valid
+pub moment-ok : (v : Value) → okValue v ≡ true → okDateTime (momentOf v) ≡ true
 unfolding okValue okDateTime okDate okZone every both
 moment-ok (VV.Date d) g = both-left _ _ g
 moment-ok (VV.Time d) g = both-left _ _ g
@@ -109,15 +110,11 @@ signed-is (VV.DateTime d) g = (refl, refl)
 signed-is (VV.DayTime d) g = signed-back maxDayTime (d .micros) (d .negative) g
 signed-is (VV.YearMonth d) g = signed-back maxYearMonth (d .months) (d .negative) g
 
-utc-ok : okOffset utc ≡ true
-unfolding okOffset
-utc-ok = refl
-
 -- valid values of one kind that are alike are one value
 pub alike-is-same : (v w : Value) → okValue v ≡ true → okValue w ≡ true → kindOf v ≡ kindOf w → Alike v w → v ≡ w
 unfolding Signed
 alike-is-same v w gv gw k a =
-    let m : momentOf v ≡ momentOf w = same-instant utc (momentOf v) (momentOf w) utc-ok (moment-ok v gv) (moment-ok w gw) (a .zone) (a .instant) in
+    let m : momentOf v ≡ momentOf w = same-instant utc (momentOf v) (momentOf w) utc-good (moment-ok v gv) (moment-ok w gw) (a .zone) (a .instant) in
     let d = same-difference (plusHalf (signOf v) (magnitudeOf v)) (minusHalf (signOf v) (magnitudeOf v)) (plusHalf (signOf w) (magnitudeOf w)) (minusHalf (signOf w) (magnitudeOf w)) (a .number) in
     let s : signOf v ≡ signOf w = sym (signed-is v gv .0) ∙ d .0 ∙ signed-is w gw .0 in
     let n : magnitudeOf v ≡ magnitudeOf w = sym (signed-is v gv .1) ∙ d .1 ∙ signed-is w gw .1 in

@@ -1,6 +1,8 @@
 pub mod Parting
 pub mod Counting
+pub mod Rows
 pub mod Tabs
+pub mod Words
 pub mod Offsets
 pub mod Walk
 pub mod Whole

@@ -9,11 +9,12 @@ use native.Mathlib.Omega.{arith}
 use lib.Dec.{leb}
 use lib.ListN.{length, getD, take, drop, length-drop, drop-of-length-le}
 use lib.Seq.{drop-cons, getD-drop}
-use borrow.Author.Tests.{le-leb, lt-leb, eq-eqb, ne-eqb}
+use borrow.Author.Tests.{le-leb, lt-leb, leb-true, leb-false, eq-eqb, ne-eqb}
 use Rattle.basis.specs.Choice.{pick}
 use Rattle.timetable.specs.Parted.{onto, parted, bytesBefore}
 use Rattle.timetable.specs.Fields.{tab, fieldsOf, hasField, fieldAt}
-use Rattle.timetable.proofs.Parting.{first-part, partsAfter}
+use Rattle.timetable.specs.Carried.{Stretches, upToTab}
+use Rattle.timetable.proofs.Parting.{first-part, partsAfter, offset-within}
 use Rattle.timetable.proofs.Counting.{has-field-when, no-field-beyond, no-field-empty}
 
 -- a byte put onto the first part leaves the others
@@ -77,6 +78,22 @@ module _ (line : List ℕ) (n at left : ℕ) (p : Passing line n at left) where
       let k : left ≡ 0 = omega arith in
       rw (le-leb at (length line) (p .within)) (rw k at (p .rest))
 
+-- past the end nothing stands before a tab
+pub up-to-end : (s : List ℕ) (p : ℕ) → length s ≤ p → upToTab (drop p s) ≡ []
+unfolding bytesBefore
+up-to-end s p l = rw (drop-of-length-le s l)
+
+-- cut out by its two offsets
+pub cut-field : (s f : List ℕ) (r end : ℕ) → end ≡ r + bytesBefore tab (drop r s) → f ≡ take (bytesBefore tab (drop r s)) (drop r s)
+    → take (end - r) (drop r s) ≡ f
+cut-field s f r end e q =
+    let k : end - r ≡ bytesBefore tab (drop r s) = omega arith in
+    rw k (sym q)
+
+-- a field that the line has not
+pub ends-none : (line : List ℕ) (n : ℕ) → hasField line n ≡ false → Stretches (record { there = false; start = 0; end = 0 }) line n
+ends-none line n e = record { there = sym e; from = omega arith; within = omega arith; text = sym (no-field-empty line n e) }
+
 module _ (line : List ℕ) (n r : ℕ) (some : 0 < n) (found : AfterTabs line (n - 1) r) where
   starts : leb r (length line) ≡ true → drop (n - 1) (fieldsOf line) ≡ fieldsOf (drop r line)
   starts e = rw e at found
@@ -119,9 +136,26 @@ module _ (line : List ℕ) (n r : ℕ) (some : 0 < n) (found : AfterTabs line (n
       let z : n - 1 + 0 ≡ n - 1 = omega arith in
       rw (there e, ← z, ← g, first-there e)
 
--- cut out by its two offsets
-pub cut-field : (s f : List ℕ) (r end : ℕ) → end ≡ r + bytesBefore tab (drop r s) → f ≡ take (bytesBefore tab (drop r s)) (drop r s)
-    → take (end - r) (drop r s) ≡ f
-cut-field s f r end e q =
-    let k : end - r ≡ bytesBefore tab (drop r s) = omega arith in
-    rw k (sym q)
+  pub not-there : length line < r → hasField line n ≡ false
+  not-there h = missing (lt-leb r (length line) h)
+
+  pub ends-found : {end : ℕ} → r ≤ length line → end ≡ r + bytesBefore tab (drop r line)
+      → Stretches (record { there = true; start = r; end = end }) line n
+  ends-found {end} h e =
+      record {
+        there = sym (there (le-leb r (length line) h));
+        from = omega arith;
+        within = offset-within tab line r h e;
+        text = cut-field line (fieldAt line n) r end e (field-found h);
+      }
+
+  -- in either case the field is what stands from that offset up to the next tab
+  pub field-from : fieldAt line n ≡ upToTab (drop r line)
+  field-from = go (leb r (length line)) refl
+    where
+      go : (b : Bool) → leb r (length line) ≡ b → fieldAt line n ≡ upToTab (drop r line)
+      go true e = field-found (leb-true r (length line) e)
+      go false e =
+          let h = leb-false r (length line) e in
+          let k : length line ≤ r = omega arith in
+          field-missing h ∙ sym (up-to-end line r k)

@@ -57,7 +57,7 @@ pub enum Value {
     YearMonth(YearMonth),
 }
 
-// A refusal has a number of document 01 and no value.
+// A refusal has a number of documents 01 and 02, and no value.
 pub struct Refusal {
     pub number: u8,
 }
@@ -106,6 +106,10 @@ impl Refusal {
     pub const NO_ROOM: u8 = 15;
 
     pub const OUTSIDE: u8 = 16;
+
+    pub const BAD_STEP: u8 = 17;
+
+    pub const TOO_MANY: u8 = 18;
 }
 
 impl Span {

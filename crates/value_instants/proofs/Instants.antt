@@ -6,7 +6,7 @@ use Prim.Native.Nat.{ℕ, _+_, _-_, _*_, _≤_, _<_}
 use native.Mathlib.Omega.{arith}
 use Rattle.value.specs.Bounds.{maxYear, minuteTicks, dayTicks}
 use Rattle.value.specs.Values.{okOffset, okZone, okDateTime}
-use Rattle.value_instants.specs.Ticks.{localOf, instantAt, instantOf, offsetIn, east, west}
+use Rattle.value_instants.specs.Ticks.{localOf, utc, instantAt, instantOf, offsetIn, east, west}
 use Rattle.value.specs.declared.Offset.{Offset}
 use Rattle.value.specs.declared.Zone.{Zone}
 use Rattle.value.specs.declared.Zone.the-variants.{Absent, At}
@@ -14,6 +14,11 @@ use Rattle.value.specs.declared.DateTime.{DateTime}
 use Rattle.value.proofs.Good.{good}
 use Rattle.value_instants.proofs.Within.{timed, east-to, west-to}
 use Rattle.value_instants.proofs.Locals.{same-local}
+
+-- UTC is within the bounds
+pub utc-good : okOffset utc ≡ true
+unfolding okOffset
+utc-good = refl
 
 -- no offset reaches a day
 pub record Near (t i : ℕ) (o : Offset) : Type 0 where

@@ -3,3 +3,4 @@ pub mod Instants
 pub mod Locals
 pub mod TwoParts
 pub mod PlacedBy
+pub mod Years

@@ -38,6 +38,11 @@ placed-ok t z e h =
       zone = h;
     })
 
+-- a local time within the years has its record
+pub placed-there : (t : ℕ) (z : Zone) → inYears t ≡ true → placedAt t z ≡ PV.At (atLocal t z)
+unfolding placedAt
+placed-there t z e = λ i. pick (e i) (PV.At (atLocal t z)) PV.Beyond
+
 -- the day and the time of day of a local time
 day-of-local : (n u : ℕ) → u ≤ maxMicros → (n * dayTicks + u) / dayTicks ≡ n
 day-of-local n u h = omega arith

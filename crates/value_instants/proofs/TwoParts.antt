@@ -56,3 +56,13 @@ span-east s p m o h k e = span-is (s - m * 60) p (instantAt (s * secondTicks + p
 
 pub span-west : (s p m : ℕ) (o : Offset) → p < secondTicks → o ≡ West m → record { seconds = s + m * 60; part = p } ≡ spanOf (instantAt (s * secondTicks + p) o)
 span-west s p m o h e = span-is (s + m * 60) p (instantAt (s * secondTicks + p) (West m)) h (omega arith) ∙ (λ i. spanOf (instantAt (s * secondTicks + p) (sym e i)))
+
+-- what the span of a number of ticks has
+pub record HasTicks (s : Span) (t : ℕ) : Type 0 where
+  pub ticks : ticksOf s ≡ t
+  pub part : s .part < secondTicks
+
+pub has-ticks : (s : Span) (t : ℕ) → s ≡ spanOf t → HasTicks s t
+has-ticks s t e =
+    let p : s .part ≡ t % secondTicks = ap (λ (x : Span). x .part) e in
+    record { ticks = ap (λ (x : Span). ticksOf x) e ∙ span-ticks t; part = omega arith }

@@ -1,19 +1,24 @@
--- Offsets and local times of records within the bounds: an offset is at most the bound either way, a local time at least a day.
+-- Offsets and local times of records within the bounds, and steps: an offset is at most the bound either way, a local time at least a
+-- day, and no value leads further forward than the greatest duration.
 use mathlib.Core.Path.{_≡_}
-use mathlib.Core.Bool.{true}
+use mathlib.Core.Bool.{Bool, true, false}
 use Prim.Native.Nat.{ℕ, _+_, _*_, _≤_, _<_}
 use native.Mathlib.Omega.{arith}
 use borrow.Author.Tests.{leb-true}
-use Rattle.basis.specs.Choice.{every}
+use Rattle.basis.specs.Choice.{pick, every}
 use Rattle.basis.proofs.Tests.{both-left, both-right}
 use Rattle.calendar.specs.Calendar.{total, yearDays}
-use Rattle.value.specs.Bounds.{maxYear, maxZone, dayTicks}
+use Rattle.value.specs.Bounds.{maxYear, maxZone, maxDayTime, dayTicks}
+use Rattle.value.specs.Kinds.{okValue}
 use Rattle.value.specs.Values.{dateIn, okOffset, okDateTime}
-use Rattle.value_instants.specs.Ticks.{localOf, east, west}
+use Rattle.value_instants.specs.Ticks.{localOf, east, west, forwardOf}
 use Rattle.value.specs.declared.Offset.{Offset}
 use Rattle.value.specs.declared.Offset.the-variants.{East, West}
 use Rattle.value.specs.declared.DateTime.{DateTime}
+use Rattle.value.specs.declared.Value.{Value}
+use Rattle.value.specs.declared.Value.the-variants as VV
 use Rattle.value.proofs.Good.{good, numbered}
+use Rattle.value.proofs.Signs.{signed-within}
 
 -- an offset is at most the bound, either way
 pub east-to : (o : Offset) → okOffset o ≡ true → east o ≤ maxZone
@@ -42,3 +47,15 @@ timed d e =
       local-to = omega (arith, n .days-to, g .micros-to);
       local-few = omega (arith, n .days-few, g .micros-to);
     }
+
+pub forward-to : (v : Value) → okValue v ≡ true → forwardOf v ≤ maxDayTime
+unfolding okValue
+forward-to (VV.Date d) e = omega arith
+forward-to (VV.Time d) e = omega arith
+forward-to (VV.DateTime d) e = omega arith
+forward-to (VV.DayTime t) e = go (t .negative) (signed-within maxDayTime (t .micros) (t .negative) e)
+  where
+    go : (b : Bool) → t .micros ≤ maxDayTime → pick b 0 (t .micros) ≤ maxDayTime
+    go true h = omega arith
+    go false h = h
+forward-to (VV.YearMonth m) e = omega arith

@@ -2,7 +2,7 @@
 -- 0000-01-01T00:00:00, so that none is below zero; and the record at a local time.
 use mathlib.Core.Bool.{Bool}
 use Prim.Native.Nat.{ℕ, _+_, _-_, _*_, _/_, _%_}
-use lib.Dec.{leb}
+use lib.Dec.{leb, ltb}
 use Rattle.basis.specs.Choice.{pick, both}
 use Rattle.calendar.specs.Calendar.{dayNumber, dateOf}
 use Rattle.value.specs.Bounds.{minYear, maxYear, minuteTicks, dayTicks}
@@ -10,7 +10,10 @@ use Rattle.value.specs.declared.Offset.{Offset}
 use Rattle.value.specs.declared.Offset.the-variants.{East, West}
 use Rattle.value.specs.declared.Zone.{Zone}
 use Rattle.value.specs.declared.Zone.the-variants.{Absent, At}
+use Rattle.value.specs.Durations.{plusHalf}
 use Rattle.value.specs.declared.DateTime.{DateTime}
+use Rattle.value.specs.declared.Value.{Value}
+use Rattle.value.specs.declared.Value.the-variants as VV
 use Rattle.value_instants.specs.declared.Placed.{Placed}
 use Rattle.value_instants.specs.declared.Placed.the-variants as P
 
@@ -60,3 +63,16 @@ inYears t = both (leb minYear (dateOf (t / dayTicks) .year)) (leb (dateOf (t / d
 -- the record with a local time where that lies within the years, else none
 unfoldable pub placedAt : ℕ → Zone → Placed
 placedAt t z = pick (inYears t) (P.At (atLocal t z)) P.Beyond
+
+-- whether the year of a local time passes the last one
+unfoldable pub pastYears : ℕ → Bool
+pastYears t = ltb maxYear (dateOf (t / dayTicks) .year)
+
+-- the ticks by which a dayTimeDuration leads forward: its number where that is above zero, else 0; a value of another kind leads
+-- nowhere
+abbrev pub forwardOf : Value → ℕ
+forwardOf (VV.Date d) = 0
+forwardOf (VV.Time d) = 0
+forwardOf (VV.DateTime d) = 0
+forwardOf (VV.DayTime t) = plusHalf (t .negative) (t .micros)
+forwardOf (VV.YearMonth m) = 0

@@ -6,14 +6,16 @@ use calendar::Dated;
 use value::DateTime;
 use value::Offset;
 use value::Span;
+use value::Value;
 use value::Zone;
 ghost use mathlib.Core.Path.{_≡_};
 ghost use mathlib.Core.Bool.{true};
 ghost use Prim.Native.Nat.{_*_, _≤_, _<_, _^_};
 ghost use Rattle.value.specs.Bounds.{secondTicks, minuteSeconds, maxZone};
 ghost use Rattle.value.specs.Values.{okOffset, okDateTime};
-ghost use Rattle.value_instants.specs.Ticks.{localOf, offsetIn, instantAt, instantOf, placedAt};
+ghost use Rattle.value_instants.specs.Ticks.{localOf, offsetIn, instantAt, instantOf, placedAt, pastYears, forwardOf};
 ghost use Rattle.value_instants.specs.Carried.{ticksOf, spanOf};
+ghost use Rattle.value_instants.specs.Ticks as the;
 
 pub fn local(d: DateTime) -> Span
     requires { ⌜ okDateTime d ≡ true ⌝ }
@@ -29,6 +31,13 @@ pub fn local(d: DateTime) -> Span
         seconds: n * Span::DAY + t.seconds,
         part: t.part,
     }
+}
+
+// UTC: the zone that values without one count in where no other is given.
+pub fn utc() -> Offset
+    ensures { λ r. ⌜ r ≡ the.utc ⌝ }
+{
+    Offset::East(0)
 }
 
 // The offset of a zone. A value without zone counts in the given one.
@@ -90,6 +99,37 @@ pub fn placed(t: Span, zone: Zone) -> Placed
                 micros: seconds % Span::DAY * Span::TICKS as u64 + t.part as u64,
                 zone,
             })
+        }
+    }
+}
+
+// Whether the year of the local time t passes the last one.
+pub fn past_years(t: Span) -> bool
+    requires { ⌜ t .part < secondTicks ⌝ }
+    ensures { λ r. ⌜ r ≡ pastYears (ticksOf t) ⌝ }
+{
+    let seconds = t.seconds;
+    let found = calendar::date_of(seconds / Span::DAY, DateTime::MAX_YEAR);
+    match found {
+        Dated::Later => true,
+        Dated::On(_) => false,
+    }
+}
+
+// A dayTimeDuration as the span by which it leads forward, none where it is not above zero; a value of another kind leads nowhere.
+pub fn forward(v: Value) -> Span
+    ensures { λ r. ⌜ r ≡ spanOf (forwardOf v) ⌝ }
+{
+    match v {
+        Value::Date(_) => spans::from_micros(0),
+        Value::Time(_) => spans::from_micros(0),
+        Value::DateTime(_) => spans::from_micros(0),
+        Value::YearMonth(_) => spans::from_micros(0),
+        Value::DayTime(d) => {
+            if d.negative {
+                return spans::from_micros(0);
+            }
+            spans::from_micros(d.micros)
         }
     }
 }
