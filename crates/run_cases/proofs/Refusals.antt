@@ -1,0 +1,80 @@
+-- A refusal that stands at a place of a line is that of its run: no number above 18 is given there.
+use mathlib.Core.Path.{_≡_, refl, sym, ap, _∙_}
+use mathlib.Core.Bool.{Bool, true, false, true≢false}
+use mathlib.Core.List.{List}
+use mathlib.Core.Logic.{⊎-elim}
+use Prim.Native.Nat.{ℕ, zero, suc, _≤_, _<_}
+use native.Mathlib.Omega.{arith}
+use borrow.Author.Tests.{eqb-true}
+use lib.Dec.{eqb}
+use Rattle.basis.specs.Choice.{pick}
+use Rattle.basis.specs.Answer.{Answer, gives, refuses}
+use Rattle.value.specs.Refusals.{badText, beyondBounds, longFraction, beyondResult, noField, badStep, tooMany}
+use Rattle.value.specs.declared.Offset.{Offset}
+use Rattle.value.specs.declared.Value.the-variants as VV
+use Rattle.timetable.specs.Rows.{Row, rowOf, withSecond}
+use Rattle.text.specs.Writing.{textOf}
+use Rattle.run_times.specs.Occurrences.{countOf}
+use Rattle.run_times.proofs.Counts.{before-or-not}
+use Rattle.run_cases.specs.Cases.{Case, rowCase, missCase, refusalCase, caseAt}
+use Rattle.run_cases.specs.StandsFor.{isRun, RunFields, timesIn, runOf, occurrenceAt, standsFor}
+use Rattle.run_cases.specs.Laws.{ofRunLine, RefusalsAtLine}
+use Rattle.run_cases.proofs.Places.{row-first}
+use Rattle.run_cases.proofs.Lines.{plain-line, bad-run, good-run}
+use Rattle.run_cases.proofs.Numbers.{run-line-numbers}
+
+-- a row and a miss are no refusal
+no-row : {A : Type 0} (r : Row) (n : ℕ) → rowCase r ≡ refusalCase n → A
+no-row r n e = absurd (let z : _≡_ {A = ℕ} 0 1 = cc in omega arith)
+
+no-miss : {A : Type 0} (n : ℕ) → missCase ≡ refusalCase n → A
+no-miss n e = absurd (let z : _≡_ {A = ℕ} 0 1 = cc in omega arith)
+
+module _ (zone : Offset) (line : List ℕ) where
+  at-plain : (p n : ℕ) → isRun line ≡ false → caseAt (standsFor zone line) p ≡ refusalCase n → ofRunLine n ≡ true
+  at-plain zero n e h = no-row (rowOf line) n (sym (ap (λ (cs : List Case). caseAt cs 0) (plain-line zone line e .one) ∙ row-first (rowOf line)) ∙ h)
+  at-plain (suc p) n e h = no-miss n (sym (plain-line zone line e .further (suc p) (omega arith)) ∙ h)
+
+  at-good : (r : RunFields) (p n : ℕ) → isRun line ≡ true → runOf zone line ≡ gives r → caseAt (standsFor zone line) p ≡ refusalCase n → ofRunLine n ≡ true
+  at-good r p n e g h =
+      let q = good-run zone line r e g in
+      ⊎-elim (λ l. no-row (withSecond (textOf (VV.DateTime (occurrenceAt r p))) (rowOf line)) n (sym (q .there p l) ∙ h))
+      (λ l. no-miss n (sym (q .further p l) ∙ h))
+      (before-or-not p (countOf (timesIn zone r)))
+
+  at-bad : (m p n : ℕ) → isRun line ≡ true → runOf zone line ≡ refuses m → caseAt (standsFor zone line) p ≡ refusalCase n → ofRunLine n ≡ true
+  at-bad m p n e g h =
+      let q : refusalCase m ≡ refusalCase n = sym (bad-run zone line m e g .anywhere p) ∙ h in
+      let same : m ≡ n = cc in
+      ap ofRunLine (sym same) ∙ run-line-numbers zone line m g
+
+pub refusal-numbers : RefusalsAtLine
+refusal-numbers zone line p n h = by-word (isRun line) refl
+  where
+    by-run : (x : Answer RunFields) → isRun line ≡ true → runOf zone line ≡ x → ofRunLine n ≡ true
+    by-run (gives r) e g = at-good zone line r p n e g h
+    by-run (refuses m) e g = at-bad zone line m p n e g h
+
+    by-word : (x : Bool) → isRun line ≡ x → ofRunLine n ≡ true
+    by-word true e = by-run (runOf zone line) e refl
+    by-word false e = at-plain zone line p n e h
+
+-- such a number is at most 18
+small : (n : ℕ) → ofRunLine n ≡ true → n ≤ tooMany
+small n h =
+    go (eqb n badText) (eqb n beyondBounds) (eqb n longFraction) (eqb n noField) (eqb n badStep) (eqb n tooMany) (eqb n beyondResult)
+    refl refl refl refl refl refl refl h
+  where
+    go : (a b c d e f g : Bool) → eqb n 1 ≡ a → eqb n 2 ≡ b → eqb n 3 ≡ c → eqb n 6 ≡ d → eqb n 17 ≡ e → eqb n 18 ≡ f → eqb n 4 ≡ g
+        → pick a true (pick b true (pick c true (pick d true (pick e true (pick f true g))))) ≡ true → n ≤ tooMany
+    go true b c d e f g p q r s t u v k = let w = eqb-true n 1 p in omega arith
+    go false true c d e f g p q r s t u v k = let w = eqb-true n 2 q in omega arith
+    go false false true d e f g p q r s t u v k = let w = eqb-true n 3 r in omega arith
+    go false false false true e f g p q r s t u v k = let w = eqb-true n 6 s in omega arith
+    go false false false false true f g p q r s t u v k = let w = eqb-true n 17 t in omega arith
+    go false false false false false true g p q r s t u v k = let w = eqb-true n 18 u in omega arith
+    go false false false false false false true p q r s t u v k = let w = eqb-true n 4 v in omega arith
+    go false false false false false false false p q r s t u v k = absurd (true≢false (sym k))
+
+pub refusals-at-line : (zone : Offset) (line : List ℕ) (p n : ℕ) → caseAt (standsFor zone line) p ≡ refusalCase n → n ≤ tooMany
+refusals-at-line zone line p n h = small n (refusal-numbers zone line p n h)

@@ -1,0 +1,4 @@
+pub mod Cases
+pub mod StandsFor
+pub mod Laws
+pub mod Carried

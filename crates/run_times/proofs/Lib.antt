@@ -1,0 +1,5 @@
+pub mod Counts
+pub mod Passing
+pub mod Verdicts
+pub mod OnSpans
+pub mod Cases

@@ -1,0 +1,3 @@
+pub mod Occurrences
+pub mod Laws
+pub mod Carried
