@@ -1,4 +1,4 @@
--- The tree that the productions derive decides what Open says of a text, and what the result at a line is.
+-- The tree that the productions derive decides what Open says of a text, and what the result at a row is.
 use mathlib.Core.Path.{_≡_, refl, sym, ap, _∙_}
 use mathlib.Core.Bool.{true, false}
 use mathlib.Core.List.{List}
@@ -9,6 +9,8 @@ use borrow.Author.Tests.{le-leb}
 use Rattle.basis.specs.Choice.{both}
 use Rattle.basis.specs.Answer.{Answer, gives, refuses}
 use Rattle.value.specs.Refusals.{badCondition}
+use Rattle.value.specs.declared.Offset.{Offset}
+use Rattle.timetable.specs.Rows.{Row}
 use Rattle.condition_depth.specs.Depth.{deep}
 use Rattle.text.specs.Reading.{readAs}
 use Rattle.condition_words.specs.Words.{between}
@@ -63,9 +65,9 @@ no-seven (gives x) n e = let z : _≡_ {A = ℕ} 0 1 = cc in omega arith
 no-seven (refuses m) n e = n (cc e)
 
 module _ (s : List ℕ) (k : length s ≤ maxLength) where
-  result-of : (line : List ℕ) (t : Tree) (n : ℕ) → parse s ≡ got t n → resultAt s line ≡ asResult (eval s line t)
+  result-of : (zone : Offset) (row : Row) (t : Tree) (n : ℕ) → parse s ≡ got t n → resultAt zone s row ≡ asResult (eval zone s row t)
   unfolding resultAt ofTree
-  result-of line t n e = rw (good-length s k, e)
+  result-of zone row t n e = rw (good-length s k, e)
 
   module _ (h : minLength ≤ length s) (d : deep s ≡ false) where
     checked-of : (p : Parsed Tree) → parse s ≡ p → checkOf s ≡ byTree s p
@@ -91,7 +93,7 @@ grammar-decides s h k d =
     record {
       seven-without-tree = record { only = seven-no-tree s k h d; always = seven-by s k h d (parse s) refl };
       checked-by-tree = tree-checked s k h d;
-      result-by-tree = λ t x line. result-of s k line t (x .end) (stated-is-parsed s t x d);
+      result-by-tree = λ t x zone row. result-of s k zone row t (x .end) (stated-is-parsed s t x d);
     }
 
 pub accepted-by-tree : AcceptedByTree
@@ -102,5 +104,5 @@ accepted-by-tree s h =
       stated = parsed-is-stated s (x .tree) (x .end) (x .stated);
       is-truth = x .is-truth;
       reads = x .reads;
-      results = λ line. result-of s (accepted-length s h .1) line (x .tree) (x .end) (x .stated);
+      results = λ zone row. result-of s (accepted-length s h .1) zone row (x .tree) (x .end) (x .stated);
     }

@@ -1,36 +1,47 @@
--- The result depends on the line's fields alone: lines with the same fields have the same result.
-use mathlib.Core.Path.{_≡_, refl, ap}
+-- The result depends on the row's texts alone, at a plain line on its own fields.
+use mathlib.Core.Path.{_≡_, refl, sym, ap, _∙_}
 use mathlib.Core.List.{List}
 use Prim.Native.Nat.{ℕ}
-use Rattle.value.specs.declared.Kind.{Kind}
-use Rattle.timetable.specs.Fields.{fieldsOf, hasField, fieldAt}
-use Rattle.condition_givens.specs.Data.{valued, readField}
-use Rattle.condition_parts.specs.Evaluation.{chained, joined, castDatum, timesDatum}
+use Rattle.basis.specs.Answer.{andThen}
+use Rattle.value.specs.declared.Offset.{Offset}
+use Rattle.timetable.specs.Fields.{fieldsOf}
+use Rattle.timetable.specs.Rows.{Row, textsOf, rowOf}
+use Rattle.timetable.proofs.Rows.{row-texts}
+use Rattle.text_fields.proofs.Fields.{plain-field, same-field}
+use Rattle.condition_givens.specs.Data.{valued}
+use Rattle.condition_parts.specs.Evaluation.{joined, castDatum, timesDatum}
 use Rattle.condition_grammar.specs.Grammar.{Parsed, none, got}
 use Rattle.condition_grammar.specs.Trees.{Tree, leaf, one, two, literal, field, cast, times}
 use Rattle.condition_readers.specs.Lengths.{parseWithin}
 use Rattle.condition_readers.specs.Meaning.{eval}
 use Rattle.condition.specs.Condition.{asResult, ofTree, resultAt}
-use Rattle.condition.specs.Laws.{FieldsAlone}
+use Rattle.condition.specs.Laws.{FieldsAlone, PlainFields}
 
-module _ (s a b : List ℕ) (e : fieldsOf a ≡ fieldsOf b) where
-  field-same : (k : Kind) (n : ℕ) → readField k a n ≡ readField k b n
-  unfolding readField hasField fieldAt
-  field-same k n = rw e
-
-  eval-same : (t : Tree) → eval s a t ≡ eval s b t
+module _ (zone : Offset) (s : List ℕ) (a b : Row) (e : textsOf a ≡ textsOf b) where
+  eval-same : (t : Tree) → eval zone s a t ≡ eval zone s b t
   unfolding eval
   eval-same (leaf k w (literal from to)) = refl
-  eval-same (leaf k w (field n p)) = ap valued (field-same k n)
-  eval-same (one (cast k) p t) = ap (λ x. chained x (castDatum k)) (eval-same t)
-  eval-same (one (times c v) p t) = ap (λ x. chained x (timesDatum c v)) (eval-same t)
-  eval-same (two o c p l r) = λ i. joined o (eval-same l i) (eval-same r i)
+  eval-same (leaf k w (field n p)) = ap valued (same-field k a b n e)
+  eval-same (one (cast k) p t) = ap (λ x. andThen x (castDatum k)) (eval-same t)
+  eval-same (one (times c v) p t) = ap (λ x. andThen x (timesDatum c v)) (eval-same t)
+  eval-same (two o c p l r) = λ i. joined zone o (eval-same l i) (eval-same r i)
 
-  tree-same : (p : Parsed Tree) → ofTree s a p ≡ ofTree s b p
+  tree-same : (p : Parsed Tree) → ofTree zone s a p ≡ ofTree zone s b p
   unfolding ofTree
   tree-same none = refl
   tree-same (got t n) = ap asResult (eval-same t)
 
-pub fields-alone : FieldsAlone
+rows-alone : (zone : Offset) (s : List ℕ) (a b : Row) → textsOf a ≡ textsOf b → resultAt zone s a ≡ resultAt zone s b
 unfolding resultAt
-fields-alone s a b e = tree-same s a b e (parseWithin s)
+rows-alone zone s a b e = tree-same zone s a b e (parseWithin s)
+
+pub fields-alone : FieldsAlone
+fields-alone =
+    record {
+      of-rows = rows-alone;
+      of-lines = λ zone s a b e. rows-alone zone s (rowOf a) (rowOf b) (row-texts a ∙ e ∙ sym (row-texts b));
+    }
+
+pub plain-fields : PlainFields
+unfolding eval
+plain-fields zone s line k w n p = ap valued (plain-field k line n)

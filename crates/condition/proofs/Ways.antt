@@ -1,7 +1,7 @@
 -- The ways out of the checks, and of the result.
 use mathlib.Core.Path.{_≡_, refl, sym, ap, _∙_}
 use mathlib.Core.Bool.{Bool, true, false}
-use mathlib.Core.List.{List}
+use mathlib.Core.List.{List, []}
 use Prim.Native.Nat.{ℕ, _<_, _≤_}
 use lib.ListN.{length}
 use lib.Dec.{leb}
@@ -9,6 +9,9 @@ use borrow.Author.Tests.{le-leb, lt-leb}
 use Rattle.basis.specs.Choice.{pick, both}
 use Rattle.basis.specs.Answer.{Answer, gives, refuses}
 use Rattle.value.specs.Refusals.{badCondition, tooDeep, wrongKind}
+use Rattle.value.specs.declared.Offset.{Offset}
+use Rattle.value_instants.specs.Ticks.{utc}
+use Rattle.timetable.specs.Rows.{Row, rowWith}
 use Rattle.value.specs.declared.Refusal.{Refusal}
 use Rattle.condition_depth.specs.Depth.{deep}
 use Rattle.condition_givens.specs.Data.{Datum, value, truth}
@@ -65,19 +68,19 @@ module _ (s : List ℕ) (a : Answer (Unit {0})) where
       unfolding checkOf both
       by-tree f e = rw (le-leb minLength (length s) h, le-leb (length s) maxLength k, ← d, f) e
 
-      module _ (f : t ≡ false) (g : Read) (q : g ≡ readOf s s Check (parseWithin s)) where
-        of-parse : g ≡ readOf s s Check (parse s)
-        of-parse = q ∙ ap (readOf s s Check) (good-length s k)
+      module _ (f : t ≡ false) (zone : Offset) (row : Row) (g : Read) (q : g ≡ readOf zone s row Check (parseWithin s)) where
+        of-parse : g ≡ readOf zone s row Check (parse s)
+        of-parse = q ∙ ap (readOf zone s row Check) (good-length s k)
 
-        tree-bad : (p : Parsed Tree) → Bad ≡ readOf s s Check p → a ≡ refuses badCondition → a ≡ byTree s p
+        tree-bad : (p : Parsed Tree) → Bad ≡ readOf zone s row Check p → a ≡ refuses badCondition → a ≡ byTree s p
         unfolding byTree readOf
         tree-bad none i e = e
-        tree-bad (got u n) i e = no-part (partOf s s Check u) n i
+        tree-bad (got u n) i e = no-part (partOf zone s row Check u) n i
 
-        tree-got : (p : Parsed Tree) (v : Part) (n : ℕ) → Got v n ≡ readOf s s Check p → a ≡ first (byKinds (v .sort)) (literals (v .given)) → a ≡ byTree s p
+        tree-got : (p : Parsed Tree) (v : Part) (n : ℕ) → Got v n ≡ readOf zone s row Check p → a ≡ first (byKinds (v .sort)) (literals (v .given)) → a ≡ byTree s p
         unfolding byTree readOf givenIn
         tree-got none v n i e = no-part v n (sym i)
-        tree-got (got u j) v n i e = let w : v ≡ partOf s s Check u = cc in
+        tree-got (got u j) v n i e = let w : v ≡ partOf zone s row Check u = cc in
             e ∙ ap (λ x. first (byKinds (x .sort)) (literals (x .given))) w ∙ ap (first (byKinds (sortOf u))) (literals-bad (firstBad s u))
 
         pub check-bad : g ≡ Bad → a ≡ refuses badCondition → a ≡ checkOf s
@@ -86,22 +89,22 @@ module _ (s : List ℕ) (a : Answer (Unit {0})) where
         pub check-got : (v : Part) (n : ℕ) → g ≡ Got v n → a ≡ first (byKinds (v .sort)) (literals (v .given)) → a ≡ checkOf s
         check-got v n b e = by-tree f (tree-got (parse s) v n (sym b ∙ of-parse) e)
 
-module _ (s line : List ℕ) (g : Read) (q : g ≡ readOf s line Live (parseWithin s)) where
-  live-bad : (p : Parsed Tree) → Bad ≡ readOf s line Live p → unreadable badCondition ≡ ofTree s line p
+module _ (zone : Offset) (s : List ℕ) (row : Row) (g : Read) (q : g ≡ readOf zone s row Live (parseWithin s)) where
+  live-bad : (p : Parsed Tree) → Bad ≡ readOf zone s row Live p → unreadable badCondition ≡ ofTree zone s row p
   unfolding readOf ofTree
   live-bad none i = refl
-  live-bad (got u n) i = no-part (partOf s line Live u) n i
+  live-bad (got u n) i = no-part (partOf zone s row Live u) n i
 
-  live-got : (p : Parsed Tree) (v : Part) (n : ℕ) → Got v n ≡ readOf s line Live p → resulting (v .given) ≡ ofTree s line p
+  live-got : (p : Parsed Tree) (v : Part) (n : ℕ) → Got v n ≡ readOf zone s row Live p → resulting (v .given) ≡ ofTree zone s row p
   unfolding readOf ofTree givenIn
   live-got none v n i = no-part v n (sym i)
-  live-got (got u j) v n i = let w : v ≡ partOf s line Live u = cc in ap (λ x. resulting (x .given)) w ∙ shown-live (eval s line u)
+  live-got (got u j) v n i = let w : v ≡ partOf zone s row Live u = cc in ap (λ x. resulting (x .given)) w ∙ shown-live (eval zone s row u)
 
-  pub judge-bad : g ≡ Bad → gives (unreadable badCondition) ≡ gives (resultAt s line)
+  pub judge-bad : g ≡ Bad → gives (unreadable badCondition) ≡ gives (resultAt zone s row)
   unfolding resultAt
   judge-bad b = ap gives (live-bad (parseWithin s) (sym b ∙ q))
 
-  pub judge-got : (v : Part) (n : ℕ) (a : Answer Result) → g ≡ Got v n → a ≡ gives (resulting (v .given)) → a ≡ gives (resultAt s line)
+  pub judge-got : (v : Part) (n : ℕ) (a : Answer Result) → g ≡ Got v n → a ≡ gives (resulting (v .given)) → a ≡ gives (resultAt zone s row)
   unfolding resultAt
   judge-got v n a b e = e ∙ ap gives (live-got (parseWithin s) v n (sym b ∙ q))
 
@@ -110,9 +113,13 @@ module _ (s line : List ℕ) (x : Checked) (e : checked x ≡ checkOf s) where
   unfolding resultOf ifAccepted
   result-refused r b = let k : refuses (r .number) ≡ checkOf s = sym (ap checked b) ∙ e in rw (← k)
 
-  pub result-judged : (a : Answer Result) → x ≡ C.Accepted → a ≡ gives (resultAt s line) → a ≡ resultOf s line
-  unfolding resultOf ifAccepted
-  result-judged a b h = let k : gives tt ≡ checkOf s = sym (ap checked b) ∙ e in rw (← k) h
+  -- with no made text, and in UTC
+  pub result-judged : (zone : Offset) (made : List ℕ) (a : Answer Result) → x ≡ C.Accepted → zone ≡ utc → made ≡ [] → a ≡ gives (resultAt zone s (rowWith line made))
+      → a ≡ resultOf s line
+  unfolding resultOf ifAccepted rowWith
+  result-judged zone made a b z m h =
+      let k : gives tt ≡ checkOf s = sym (ap checked b) ∙ e in
+      rw (← k) (h ∙ (λ i. gives (resultAt (z i) s (rowWith line (m i)))))
 
 -- what the kinds say, what the literals say, and the first refusal of the two, case by case
 module _ (x : Sort) where

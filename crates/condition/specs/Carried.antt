@@ -1,4 +1,4 @@
--- Carried: what a part that was read says, in place of a tree: of its literals where it was checked, of the line where it
+-- Carried: what a part that was read says, in place of a tree: of its literals where it was checked, of the row where it
 -- was evaluated. No promise to a caller rests on it.
 use Rattle.basis.specs.Choice.{pick}
 use Rattle.basis.specs.Answer.{Answer, gives, refuses}

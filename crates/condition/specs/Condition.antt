@@ -1,6 +1,6 @@
 -- Document 01, "Conditions" and "Refusal numbers": which texts Open accepts, "7 by length, 8, 7 by grammar, 9, the leftmost
--- bad literal's own number", and the result of a condition at a line. `parse` gives the tree that the productions of crate condition_grammar
--- derive (Laws.antt).
+-- bad literal's own number", and the result of a condition at a row, in the zone that values without one count in. `parse` gives the
+-- tree that the productions of crate condition_grammar derive (Laws.antt).
 use Prim.Native.Nat.{ℕ}
 use mathlib.Core.Bool.{Bool, true, false}
 use mathlib.Core.List.{List}
@@ -9,6 +9,9 @@ use lib.Dec.{leb}
 use Rattle.basis.specs.Choice.{pick, both}
 use Rattle.basis.specs.Answer.{Answer, gives, refuses}
 use Rattle.value.specs.Refusals.{badCondition, tooDeep, wrongKind}
+use Rattle.value.specs.declared.Offset.{Offset}
+use Rattle.value_instants.specs.Ticks.{utc}
+use Rattle.timetable.specs.Rows.{Row, rowOf}
 use Rattle.condition_depth.specs.Depth.{deep}
 use Rattle.condition_givens.specs.Data.{Datum, value, truth}
 use Rattle.condition_sorts.specs.declared.Sort.{Sort}
@@ -52,7 +55,7 @@ checked (C.Refused r) = refuses (r .number)
 unfoldable pub accepted : List ℕ → Bool
 accepted s = passes (checkOf s)
 
--- a line's result: "Hit, Miss or Unreadable (with a number)"
+-- a result at a row: "Hit, Miss or Unreadable (with a number)"
 pub data Result : Type 0 where
   hit : Result
   miss : Result
@@ -64,24 +67,24 @@ asResult (gives (value v)) = unreadable wrongKind
 asResult (gives (truth x)) = pick x hit miss
 asResult (refuses n) = unreadable n
 
-unfoldable pub ofTree : List ℕ → List ℕ → Parsed Tree → Result
-ofTree s line none = unreadable badCondition
-ofTree s line (got t n) = asResult (eval s line t)
+unfoldable pub ofTree : Offset → List ℕ → Row → Parsed Tree → Result
+ofTree zone s row none = unreadable badCondition
+ofTree zone s row (got t n) = asResult (eval zone s row t)
 
--- the result of a condition at a line; Unreadable with 7 of a text that is none by its length, depth or grammar, which Open does not
+-- the result of a condition at a row, in a zone; Unreadable with 7 of a text that is none by its length, depth or grammar, which Open does not
 -- accept
-unfoldable pub resultAt : List ℕ → List ℕ → Result
-resultAt s line = ofTree s line (parseWithin s)
+unfoldable pub resultAt : Offset → List ℕ → Row → Result
+resultAt zone s row = ofTree zone s row (parseWithin s)
 
--- the result of any text at a line: Open's number where the text is not accepted
+-- the result of any text at a line as it stands, in UTC: Open's number where the text is not accepted
 unfoldable pub ifAccepted : Answer (Unit {0}) → Result → Answer Result
 ifAccepted (gives x) v = gives v
 ifAccepted (refuses n) v = refuses n
 
 unfoldable pub resultOf : List ℕ → List ℕ → Answer Result
-resultOf s line = ifAccepted (checkOf s) (resultAt s line)
+resultOf s line = ifAccepted (checkOf s) (resultAt utc s (rowOf line))
 
--- what an answer says: the line's result, or Open's number
+-- what an answer says: the result, or Open's number
 abbrev pub judged : Judged → Answer Result
 judged J.Hit = gives hit
 judged J.Miss = gives miss

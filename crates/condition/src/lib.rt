@@ -1,13 +1,16 @@
-// Conditions: which texts are accepted, and the result of a condition at a line (document 01, "Conditions").
+// Conditions: which texts are accepted, and the result of a condition at a row (document 01, "Conditions"; document 02, b).
 use condition_depth::too_deep;
 use condition_givens::Given;
 use condition_givens::Mode;
 use condition_parts::Part;
 use condition_readers::Read;
 use condition_sorts::Sort;
+use value::Offset;
 use value::Refusal;
+use value_instants::ticks;
 ghost use mathlib.Core.Path.{_≡_};
 ghost use Rattle.basis.specs.Answer.{gives, refuses};
+ghost use Rattle.timetable.specs.Rows.{rowWith};
 ghost use Rattle.condition_readers.specs.Meaning as meaning;
 ghost use Rattle.condition.specs.Condition.{checked, checkOf, resultAt, resultOf, judged, byKinds};
 ghost use Rattle.condition.specs.Carried as the;
@@ -18,7 +21,7 @@ pub enum Checked {
     Refused(Refusal),
 }
 
-// The result of a condition at a line; Refused where its text is not accepted.
+// The result of a condition at a row; Refused where its text is not accepted.
 pub enum Judged {
     Hit,
     Miss,
@@ -81,7 +84,7 @@ fn check_part(part: Part) -> Checked
     first(by_kinds, by_literals)
 }
 
-// Open's checks of a condition: 7 by length, 8, 7 by grammar, 9, the leftmost bad literal's own number.
+// Open's checks of a condition: 7 by length, 8, 7 by grammar, 9, the leftmost bad literal's own number. Neither row nor zone matters.
 pub fn check(text: &[u8]) -> Checked
     ensures { λ r. ⌜ checked r ≡ checkOf (now (text .entry)) ⌝ }
 {
@@ -94,13 +97,13 @@ pub fn check(text: &[u8]) -> Checked
     if too_deep(text) {
         return refused(Refusal::TOO_DEEP);
     }
-    match condition_readers::whole(text, text, Mode::Check) {
+    match condition_readers::whole(text, text, Mode::Check, text, ticks::utc()) {
         Read::Bad => refused(Refusal::BAD_CONDITION),
         Read::Got(part, _) => check_part(part),
     }
 }
 
-// What an evaluated condition says of its line.
+// What an evaluated condition says of its row.
 fn judged_of(given: Given) -> Judged
     ensures { λ r. ⌜ judged r ≡ gives (the.resulting given) ⌝ }
 {
@@ -121,12 +124,12 @@ fn judged_of(given: Given) -> Judged
     }
 }
 
-// The result at a line of a condition that was accepted before: none of Open's checks is made again. A text that is no condition by its
-// length, depth or grammar is Unreadable with 7.
-pub fn judge(text: &[u8], line: &[u8]) -> Judged
-    ensures { λ r. ⌜ judged r ≡ gives (resultAt (now (text .entry)) (now (line .entry))) ⌝ }
+// The result of a condition that was accepted before, at a row (a line with a made text beside it) and in a zone: none of Open's checks is
+// made again. A text that is no condition by its length, depth or grammar is Unreadable with 7.
+pub fn judge(text: &[u8], line: &[u8], made: &[u8], zone: Offset) -> Judged
+    ensures { λ r. ⌜ judged r ≡ gives (resultAt zone (now (text .entry)) (rowWith (now (line .entry)) (now (made .entry)))) ⌝ }
 {
-    match condition_readers::whole(text, line, Mode::Live) {
+    match condition_readers::whole(text, line, Mode::Live, made, zone) {
         Read::Bad => Judged::Unreadable(Refusal {
             number: Refusal::BAD_CONDITION,
         }),
@@ -137,12 +140,12 @@ pub fn judge(text: &[u8], line: &[u8]) -> Judged
     }
 }
 
-// The result of any text at any line; Open's number for a text that is not accepted.
+// The result of any text at any line as it stands, in UTC; Open's number for a text that is not accepted.
 pub fn result(text: &[u8], line: &[u8]) -> Judged
     ensures { λ r. ⌜ judged r ≡ resultOf (now (text .entry)) (now (line .entry)) ⌝ }
 {
     match check(text) {
         Checked::Refused(r) => Judged::Refused(r),
-        Checked::Accepted => judge(text, line),
+        Checked::Accepted => judge(text, line, &line[0..0], ticks::utc()),
     }
 }

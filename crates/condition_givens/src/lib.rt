@@ -1,4 +1,4 @@
-// What a part of a condition gives, and what a literal and a field of a line give, checked or evaluated (document 01, "Conditions").
+// What a part of a condition gives, and what a literal and a field of a row give, checked or evaluated (document 01, "Conditions").
 use condition_words::cut;
 use value::Kind;
 use value::Outcome;
@@ -9,6 +9,8 @@ ghost use Rattle.value.specs.Kinds.{meaning};
 ghost use Rattle.basis.specs.Answer.{refuses};
 ghost use Rattle.text.specs.Reading.{readAs};
 ghost use Rattle.condition_words.specs.Words.{between};
+ghost use Rattle.timetable.specs.Rows.{rowWith};
+ghost use Rattle.text_fields.specs.Fields.{readField};
 ghost use Rattle.condition_givens.specs.Data as its;
 ghost use Rattle.condition_givens.specs.Carried as the;
 
@@ -65,22 +67,13 @@ pub fn literal(mode: Mode, kind: Kind, s: &[u8], from: usize, to: usize) -> Give
     }
 }
 
-fn read_field(kind: Kind, line: &[u8], n: usize) -> Given
-    ensures { λ r. ⌜ r ≡ the.givenOf (its.valued (its.readField kind (now (line .entry)) n)) ⌝ }
-{
-    if !timetable::fields::has_field(line, n) {
-        return refused(Refusal::NO_FIELD);
-    }
-    valued(text::read(kind, timetable::fields::field(line, n)))
-}
-
-// The n-th field of the line.
-pub fn field(mode: Mode, kind: Kind, line: &[u8], n: usize) -> Given
-    ensures { λ r. ⌜ r ≡ the.fieldIn mode (its.readField kind (now (line .entry)) n) ⌝ }
+// The n-th field of the row: a line with a made text beside it.
+pub fn field(mode: Mode, kind: Kind, line: &[u8], n: usize, made: &[u8]) -> Given
+    ensures { λ r. ⌜ r ≡ the.fieldIn mode (readField kind (rowWith (now (line .entry)) (now (made .entry))) n) ⌝ }
 {
     match mode {
         Mode::Check => Given::Nothing,
-        Mode::Live => read_field(kind, line, n),
+        Mode::Live => valued(text_fields::read(kind, line, n, made)),
         Mode::Dead => Given::Nothing,
     }
 }

@@ -1,23 +1,26 @@
--- On valid values an operation is refused with 9 exactly where the kinds clash; and what `or` and `and` leave without evaluation.
+-- On valid values, in a zone within its bounds, an operation is refused with 9 exactly where the kinds clash; and what `or` and `and`
+-- leave without evaluation.
 use mathlib.Core.Path.{_≡_, refl}
 use mathlib.Core.Bool.{Bool, true, false}
 use Prim.Native.Nat.{ℕ}
 use native.Mathlib.Omega.{arith}
 use Rattle.basis.specs.Choice.{pick, both}
-use Rattle.basis.specs.Answer.{Answer, gives, refuses}
+use Rattle.basis.specs.Answer.{Answer, gives, refuses, andThen}
 use Rattle.basis.specs.Exactly.{Exactly}
 use Rattle.value.specs.Kinds.{kindOf, okValue}
 use Rattle.value.specs.Refusals.{wrongKind}
-use Rattle.value_instants.specs.Ticks.{utc}
+use Rattle.value.specs.Values.{okOffset}
+use Rattle.value.specs.declared.Offset.{Offset}
 use Rattle.value.specs.declared.Kind.{Kind}
 use Rattle.value.specs.declared.Value.{Value}
 use Rattle.operation_quantities.specs.Operands.{operandOf, sameKind}
-use Rattle.operation_ordering.specs.Order.{orderIn, operandOrder}
+use Rattle.operation_ordering.specs.Order.{orderIn, orderFor, operandOrder}
+use Rattle.operation_ordering.proofs.OrderLaws.{order-in-zone}
 use Rattle.operation_casting.specs.Casts.{castsTo, castTo, castOf}
-use Rattle.operation_arithmetic.specs.Sums.{plusOf, minusIn}
+use Rattle.operation_arithmetic.specs.Sums.{plusOf, minusFor}
 use Rattle.operation_arithmetic.specs.Products.{timesOf}
 use Rattle.condition_sorts.specs.Sorts.{comparedKinds, addedKinds, lessKinds, sortCast, sortTimes}
-use Rattle.condition_parts.specs.Evaluation.{joined, chained, ShortCircuit}
+use Rattle.condition_parts.specs.Evaluation.{joined, ShortCircuit}
 use Rattle.condition_parts.specs.Fitting.{ClashIs9}
 use Rattle.condition_sorts.specs.declared.Sort.{Sort}
 use Rattle.condition_sorts.specs.declared.Sort.the-variants as S
@@ -48,9 +51,11 @@ by-test true x v n = record { only = λ e. absurd (n e); always = λ e. absurd (
 by-test false x v n = record { only = λ e. refl; always = λ e. refl }
 
 module _ (a : Value) (p : okValue a ≡ true) where
-  order-clash : (b : Value) → okValue b ≡ true → Exactly (comparedKinds (kindOf a) (kindOf b) ≡ S.Clash) (orderIn utc a b ≡ refuses wrongKind)
+  order-clash : (zone : Offset) (b : Value) → okOffset zone ≡ true → okValue b ≡ true →
+      Exactly (comparedKinds (kindOf a) (kindOf b) ≡ S.Clash) (orderFor zone a b ≡ refuses wrongKind)
   unfolding orderIn comparedKinds both
-  order-clash b q = rw (p, q) (by-test (sameKind (kindOf a) (kindOf b)) S.Truth (operandOrder utc (operandOf a) (operandOf b)) truth-no-clash)
+  order-clash zone b h q =
+      rw (order-in-zone zone a b h, p, q) (by-test (sameKind (kindOf a) (kindOf b)) S.Truth (operandOrder zone (operandOf a) (operandOf b)) truth-no-clash)
 
   cast-clash : (k : Kind) → Exactly (sortCast k (S.Of (kindOf a)) ≡ S.Clash) (castOf a k ≡ refuses wrongKind)
   unfolding castOf
@@ -60,15 +65,15 @@ pub clash-is-9 : ClashIs9
 clash-is-9 =
     record {
       of-plus = λ a b p q. by-sort (addedKinds (kindOf a) (kindOf b)) (plusOf a b) (plus-settled a p b q);
-      of-minus = λ a b p q. by-sort (lessKinds (kindOf a) (kindOf b)) (minusIn utc a b) (minus-settled a p b q utc);
-      of-order = λ a b p q. order-clash a p b q;
+      of-minus = λ zone a b h p q. by-sort (lessKinds (kindOf a) (kindOf b)) (minusFor zone a b) (minus-settled a p b q zone h);
+      of-order = λ zone a b h p q. order-clash a p zone b h q;
       of-times = λ a c n p h. by-sort (sortTimes (S.Of (kindOf a))) (timesOf a c n) (times-settled a p c n h);
       of-cast = λ a k p. cast-clash a p k;
     }
 
-pub short-circuit : ShortCircuit
-unfolding joined chained
-short-circuit =
+pub short-circuit : (zone : Offset) → ShortCircuit zone
+unfolding joined andThen
+short-circuit zone =
     record {
       or-true = λ r. refl;
       and-false = λ r. refl;

@@ -1,4 +1,4 @@
--- Reading a value is refused with 1, 2 or 3, which are among the numbers that a line's result can have.
+-- Reading a value is refused with 1, 2 or 3, which are among the numbers that a result at a row can have.
 use mathlib.Core.Path.{_≡_, refl}
 use mathlib.Core.Bool.{Bool, true, false}
 use mathlib.Core.List.{List}
@@ -31,11 +31,11 @@ use Rattle.text_durations.specs.declared.Shape.{Shape}
 use Rattle.text_durations.specs.declared.Amount.{Amount}
 use Rattle.text.specs.Reading.{readAs}
 use Rattle.condition_parts.specs.Numbers.{ofText}
-pub use Rattle.condition_parts.specs.Numbers.{atLine}
+pub use Rattle.condition_parts.specs.Numbers.{atRow}
 
--- a number that a value's text can have is one that a line's result can have
-pub text-at-line : (n : ℕ) → ofText n ≡ true → atLine n ≡ true
-text-at-line n h = by (eqb n badText) (eqb n beyondBounds) (eqb n longFraction) h
+-- a number that a value's text can have is one that a result at a row can have
+pub text-at-row : (n : ℕ) → ofText n ≡ true → atRow n ≡ true
+text-at-row n h = by (eqb n badText) (eqb n beyondBounds) (eqb n longFraction) h
   where
     by : (a b c : Bool) → pick a true (pick b true c) ≡ true → pick a true (pick b true (pick c true (pick (eqb n beyondResult) true (eqb n noField)))) ≡ true
     by true b c h = refl

@@ -1,5 +1,5 @@
--- Where the kinds fit, each operation on valid values gives a valid value of the settled kind, or 4; a comparison gives a
--- truth value. So no 9 and no 16 can come of parts whose sorts fit. Where they clash, it is refused with 9.
+-- Where the kinds fit, each operation on valid values, in a zone within its bounds, gives a valid value of the settled kind, or 4; a
+-- comparison gives a truth value. So no 9 and no 16 can come of parts whose sorts fit. Where they clash, it is refused with 9.
 use mathlib.Core.Path.{_≡_, refl}
 use mathlib.Core.Bool.{Bool, true, false}
 use Prim.Native.Nat.{ℕ, _+_, _-_, _/_, _≤_}
@@ -11,7 +11,7 @@ use Rattle.basis.specs.Answer.{Answer, gives, refuses}
 use Rattle.calendar.specs.Calendar.{monthCount}
 use Rattle.value.specs.Bounds.{minYear, maxYear}
 use Rattle.value.specs.Refusals.{wrongKind}
-use Rattle.value.specs.Values.{okDayTime, okYearMonth}
+use Rattle.value.specs.Values.{okOffset, okDayTime, okYearMonth}
 use Rattle.value.specs.Durations.{lessTicks, lessMonths}
 use Rattle.value.specs.Kinds.{hasDate, kindOf, okValue, kept}
 use Rattle.value_instants.specs.Ticks.{placedAt, localOf}
@@ -26,8 +26,10 @@ use Rattle.value_instants.specs.declared.Placed.the-variants as P
 use Rattle.operation_quantities.specs.Operands.{operandOf, valueOf, sameKind}
 use Rattle.operation_quantities.specs.Results.{inTicks, inMonths, ofPlaced, atTicks}
 use Rattle.operation_shifting.specs.Shifts.{monthOf, inMonth, movedTo, moved, wrapped, shifted}
-use Rattle.operation_ordering.specs.Order.{orderIn, operandOrder}
-use Rattle.operation_arithmetic.specs.Sums.{sumOf, plusOf, lessMoment, differenceIn, minusIn}
+use Rattle.operation_ordering.specs.Order.{orderIn, orderFor, operandOrder}
+use Rattle.operation_arithmetic.specs.Sums.{sumOf, plusOf, lessMoment, differenceIn, minusIn, minusFor}
+use Rattle.operation_ordering.proofs.OrderLaws.{order-in-zone}
+use Rattle.operation_arithmetic.proofs.Differences.{minus-in-zone}
 use Rattle.operation_arithmetic.specs.Products.{productOf, timesOf, maxFactor}
 use Rattle.operation_casting.specs.Casts.{castsTo, castTo, castOf}
 use Rattle.condition_sorts.specs.Sorts.{addedKinds, lessKinds, sortTimes}
@@ -190,13 +192,14 @@ module _ (a : Value) (p : okValue a ≡ true) where
     unfolding plusOf both
     plus-settled = rw (p, q) (sum-fits a b)
 
-    pub minus-settled : (o : Offset) → FitsSort (lessKinds (kindOf a) (kindOf b)) (minusIn o a b)
+    pub minus-settled : (zone : Offset) → okOffset zone ≡ true → FitsSort (lessKinds (kindOf a) (kindOf b)) (minusFor zone a b)
     unfolding minusIn both
-    minus-settled o = rw (p, q) (difference-fits o a b)
+    minus-settled zone g = rw (minus-in-zone zone a b g, p, q) (difference-fits zone a b)
 
-    pub order-settled : (o : Offset) → sameKind (kindOf a) (kindOf b) ≡ true → orderIn o a b ≡ gives (operandOrder o (operandOf a) (operandOf b))
+    pub order-settled : (zone : Offset) → okOffset zone ≡ true → sameKind (kindOf a) (kindOf b) ≡ true
+        → orderFor zone a b ≡ gives (operandOrder zone (operandOf a) (operandOf b))
     unfolding orderIn both
-    order-settled o h = rw (p, q, h)
+    order-settled zone g h = rw (order-in-zone zone a b g, p, q, h)
 
   pub times-settled : (b : Bool) (n : ℕ) → n ≤ maxFactor → FitsSort (sortTimes (S.Of (kindOf a))) (timesOf a b n)
   unfolding timesOf both

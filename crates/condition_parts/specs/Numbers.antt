@@ -1,4 +1,5 @@
--- Document 01, "Refusal numbers": the numbers that a value's text can be refused with, and those that a line's result can have.
+-- Document 01, "Refusal numbers": the numbers that a value's text can be refused with, and those that a condition's result at
+-- a row can have.
 use mathlib.Core.Bool.{Bool, true}
 use Prim.Native.Nat.{ℕ}
 use lib.Dec.{eqb}
@@ -9,7 +10,7 @@ use Rattle.value.specs.Refusals.{badText, beyondBounds, longFraction, beyondRes
 abbrev pub ofText : ℕ → Bool
 ofText n = pick (eqb n badText) true (pick (eqb n beyondBounds) true (eqb n longFraction))
 
--- those of a field's text, 4 of arithmetic, and 6 where the line has too few fields
-abbrev pub atLine : ℕ → Bool
-atLine n =
+-- those of a field's text, 4 of arithmetic, and 6 where the row has too few fields
+abbrev pub atRow : ℕ → Bool
+atRow n =
     pick (eqb n badText) true (pick (eqb n beyondBounds) true (pick (eqb n longFraction) true (pick (eqb n beyondResult) true (eqb n noField))))

@@ -10,6 +10,7 @@ use condition_operators::settles;
 use condition_symbols::Op;
 use operation_ordering::Compared;
 use value::Kind;
+use value::Offset;
 use value::Refusal;
 use value::Value;
 ghost use mathlib.Core.Path.{_≡_};
@@ -53,9 +54,9 @@ fn tested(less: bool, equal: bool, greater: bool, order: Compared) -> Given
     }
 }
 
-// An operator between two values.
-fn of_values(role: Role, a: Value, b: Value) -> Given
-    ensures { λ r. ⌜ r ≡ givenOf (its.ofValues role a b) ⌝ }
+// An operator between two values; one without zone counts in the zone given.
+fn of_values(role: Role, a: Value, b: Value, zone: Offset) -> Given
+    ensures { λ r. ⌜ r ≡ givenOf (its.ofValues zone role a b) ⌝ }
 {
     match role {
         Role::Joins(_) => refused(Refusal::WRONG_KIND),
@@ -63,28 +64,28 @@ fn of_values(role: Role, a: Value, b: Value) -> Given
             less,
             equal,
             greater,
-            operation::compare(a, b),
+            operation::compare_for(a, b, zone),
         ),
         Role::Adds => valued(operation::plus(a, b)),
-        Role::Subtracts => valued(operation::minus(a, b)),
+        Role::Subtracts => valued(operation::minus_for(a, b, zone)),
     }
 }
 
 // The right side after a value.
-fn after_value(role: Role, a: Value, b: Given) -> Given
-    ensures { λ r. ⌜ r ≡ the.ontoGiven b (its.applied role (value a)) ⌝ }
+fn after_value(role: Role, a: Value, b: Given, zone: Offset) -> Given
+    ensures { λ r. ⌜ r ≡ the.ontoGiven b (its.applied zone role (value a)) ⌝ }
 {
     match b {
         Given::Nothing => Given::Nothing,
-        Given::Is(v) => of_values(role, a, v),
+        Given::Is(v) => of_values(role, a, v, zone),
         Given::Truth(_) => refused(Refusal::WRONG_KIND),
         Given::Refused(r) => Given::Refused(r),
     }
 }
 
 // The right side after a truth value.
-fn after_truth(role: Role, a: bool, b: Given) -> Given
-    ensures { λ r. ⌜ r ≡ the.ontoGiven b (its.applied role (truth a)) ⌝ }
+fn after_truth(role: Role, a: bool, b: Given, zone: Offset) -> Given
+    ensures { λ r. ⌜ r ≡ the.ontoGiven b (its.applied zone role (truth a)) ⌝ }
 {
     match b {
         Given::Nothing => Given::Nothing,
@@ -112,18 +113,18 @@ fn only_refused(a: Given) -> Given
 }
 
 // Two parts with an operator between: the left one's refusal first.
-pub fn two(op: Op, a: Given, b: Given) -> Given
-    ensures { λ r. ⌜ r ≡ the.twoGiven op a b ⌝ }
+pub fn two(op: Op, a: Given, b: Given, zone: Offset) -> Given
+    ensures { λ r. ⌜ r ≡ the.twoGiven zone op a b ⌝ }
 {
     let role = role_of(op);
     match a {
         Given::Nothing => only_refused(b),
-        Given::Is(v) => after_value(role, v, b),
+        Given::Is(v) => after_value(role, v, b, zone),
         Given::Truth(x) => {
             if settles(role, x) {
                 return Given::Truth(x);
             }
-            after_truth(role, x, b)
+            after_truth(role, x, b, zone)
         }
         Given::Refused(r) => Given::Refused(r),
     }

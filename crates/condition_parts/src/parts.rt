@@ -5,7 +5,9 @@ use condition_givens::Mode;
 use condition_sorts::Sort;
 use condition_symbols::Op;
 use value::Kind;
+use value::Offset;
 ghost use mathlib.Core.Path.{_≡_};
+ghost use Rattle.timetable.specs.Rows.{rowWith};
 ghost use Rattle.condition_parts.specs.Carried as the;
 
 // A literal: the bytes of a condition's text between two offsets.
@@ -19,11 +21,11 @@ pub fn literal(mode: Mode, kind: Kind, s: &[u8], from: usize, to: usize) -> Part
     }
 }
 
-// The n-th field of a line.
-pub fn field(mode: Mode, kind: Kind, line: &[u8], n: usize) -> Part
-    ensures { λ r. ⌜ r ≡ the.fieldPart mode kind (now (line .entry)) n ⌝ }
+// The n-th field of the row: a line with a made text beside it.
+pub fn field(mode: Mode, kind: Kind, line: &[u8], n: usize, made: &[u8]) -> Part
+    ensures { λ r. ⌜ r ≡ the.fieldPart mode kind (rowWith (now (line .entry)) (now (made .entry))) n ⌝ }
 {
-    let given = condition_givens::field(mode, kind, line, n);
+    let given = condition_givens::field(mode, kind, line, n, made);
     Part {
         sort: Sort::Of(kind),
         given,
@@ -52,8 +54,8 @@ pub fn times(negative: bool, n: u32, a: Part) -> Part
     }
 }
 
-pub fn two(op: Op, a: Part, b: Part) -> Part
-    ensures { λ r. ⌜ r ≡ the.twoPart op a b ⌝ }
+pub fn two(op: Op, a: Part, b: Part, zone: Offset) -> Part
+    ensures { λ r. ⌜ r ≡ the.twoPart zone op a b ⌝ }
 {
     let left = a.sort;
     let right = b.sort;
@@ -61,7 +63,7 @@ pub fn two(op: Op, a: Part, b: Part) -> Part
     let second = b.given;
     Part {
         sort: condition_sorts::two(op, left, right),
-        given: evaluation::two(op, first, second),
+        given: evaluation::two(op, first, second, zone),
     }
 }
 

@@ -6,6 +6,8 @@ use lib.ListN.{length}
 use Prim.Native.Nat.{ℕ, _+_, _-_, _*_, _<_, _≤_}
 use native.Mathlib.Omega.{arith}
 use Rattle.value.specs.declared.Kind.{Kind}
+use Rattle.value.specs.declared.Offset.{Offset}
+use Rattle.timetable.specs.Rows.{Row}
 use Rattle.condition_symbols.specs.Symbols.{comparisonAt, startAt, multiplierAt}
 use Rattle.condition_symbols.specs.declared.Op.{Op}
 use Rattle.condition_symbols.specs.declared.Joint.{Joint}
@@ -54,10 +56,10 @@ unfolding Good
 told-ends L at none g = tt
 told-ends L at (got v n) g = g
 
-joined-ends : (L at : ℕ) (o : Op) (v : Part) (g : Read) → Ends L at g → Ends L at (joinedRead o v g)
+joined-ends : (zone : Offset) (L at : ℕ) (o : Op) (v : Part) (g : Read) → Ends L at g → Ends L at (joinedRead zone o v g)
 unfolding joinedRead
-joined-ends L at o v Bad e = tt
-joined-ends L at o v (Got w n) e = e
+joined-ends zone L at o v Bad e = tt
+joined-ends zone L at o v (Got w n) e = e
 
 ends-left : (s : List ℕ) (at t : ℕ) (g : Read) → 0 < t → measure s at 0 ≤ t → Ends (length s) at g → left s g < t
 ends-left s at t Bad z h e = z
@@ -69,22 +71,22 @@ joint-past Condition s at = or-past s at
 joint-past Clause s at = and-past s at
 joint-past Sum s at = sign-past s at
 
-module _ (d : ℕ) (s line : List ℕ) (at : ℕ) (m : Mode) where
-  operand-ends : (x : Rule) → Ends (length s) at (operandRead d s line x at m)
+module _ (zone : Offset) (d : ℕ) (s : List ℕ) (row : Row) (at : ℕ) (m : Mode) where
+  operand-ends : (x : Rule) → Ends (length s) at (operandRead zone d s row x at m)
   unfolding operandRead
-  operand-ends Condition = told-ends (length s) at _ (clause-good Part Mode (parts s line) s (inside d s line) (inner-good Part Mode (parts s line) s d) at m)
-  operand-ends Clause = told-ends (length s) at _ (test-good Part Mode (parts s line) s (inside d s line) (inner-good Part Mode (parts s line) s d) at m)
-  operand-ends Sum = told-ends (length s) at _ (term-good Part Mode (parts s line) s (inside d s line) (inner-good Part Mode (parts s line) s d) at m)
+  operand-ends Condition = told-ends (length s) at _ (clause-good Part Mode (parts zone s row) s (inside zone d s row) (inner-good Part Mode (parts zone s row) s d) at m)
+  operand-ends Clause = told-ends (length s) at _ (test-good Part Mode (parts zone s row) s (inside zone d s row) (inner-good Part Mode (parts zone s row) s d) at m)
+  operand-ends Sum = told-ends (length s) at _ (term-good Part Mode (parts zone s row) s (inside zone d s row) (inner-good Part Mode (parts zone s row) s d) at m)
 
-  chain-ends : (x : Rule) → Ends (length s) at (chainRead d s line x at m)
+  chain-ends : (x : Rule) → Ends (length s) at (chainRead zone d s row x at m)
   unfolding chainRead
-  chain-ends Condition = told-ends (length s) at _ (condition-good Part Mode (parts s line) s (inside d s line) (inner-good Part Mode (parts s line) s d) at m)
-  chain-ends Clause = told-ends (length s) at _ (clause-good Part Mode (parts s line) s (inside d s line) (inner-good Part Mode (parts s line) s d) at m)
-  chain-ends Sum = told-ends (length s) at _ (sum-good Part Mode (parts s line) s (inside d s line) (inner-good Part Mode (parts s line) s d) at m)
+  chain-ends Condition = told-ends (length s) at _ (condition-good Part Mode (parts zone s row) s (inside zone d s row) (inner-good Part Mode (parts zone s row) s d) at m)
+  chain-ends Clause = told-ends (length s) at _ (clause-good Part Mode (parts zone s row) s (inside zone d s row) (inner-good Part Mode (parts zone s row) s d) at m)
+  chain-ends Sum = told-ends (length s) at _ (sum-good Part Mode (parts zone s row) s (inside zone d s row) (inner-good Part Mode (parts zone s row) s d) at m)
 
 -- what follows a first operand
-pub falls-first : (d : ℕ) (s line : List ℕ) (at t : ℕ) (m : Mode) (x : Rule) (g : Read) → measure s at (rank x + 1) ≡ t → g ≡ operandRead d s line x at m → left s g < t
-falls-first d s line at t m x g e h = ends-left s at t g (omega arith) (omega arith) (subst (Ends (length s) at) (sym h) (operand-ends d s line at m x))
+pub falls-first : (zone : Offset) (d : ℕ) (s : List ℕ) (row : Row) (at t : ℕ) (m : Mode) (x : Rule) (g : Read) → measure s at (rank x + 1) ≡ t → g ≡ operandRead zone d s row x at m → left s g < t
+falls-first zone d s row at t m x g e h = ends-left s at t g (omega arith) (omega arith) (subst (Ends (length s) at) (sym h) (operand-ends zone d s row at m x))
 
 -- an operand after an operator, and what follows both
 module _ (s : List ℕ) (t : ℕ) (x : Rule) (g : Read) (e : left s g ≡ t) (v : Part) (at : ℕ) (b : g ≡ Got v at) (y : Joint) (q : y ≡ jointAt x s at) (o : Op) (p n : ℕ) (h : y ≡ J.At o p n) where
@@ -97,9 +99,9 @@ module _ (s : List ℕ) (t : ℕ) (x : Rule) (g : Read) (e : left s g ≡ t) (v 
   pub falls-operand : measure s n (rank x) < t
   falls-operand = omega (arith, past, whole, rank-small x)
 
-  pub falls-more : (d : ℕ) (line : List ℕ) (c : Mode) (f j : Read) → f ≡ operandRead d s line x n c → j ≡ joinedRead o v f → left s j < t
-  falls-more d line c f j i k = ends-left s n t j (omega (arith, past, whole)) (omega (arith, past, whole))
-      (subst (Ends (length s) n) (sym k) (joined-ends (length s) n o v f (subst (Ends (length s) n) (sym i) (operand-ends d s line n c x))))
+  pub falls-more : (zone : Offset) (d : ℕ) (row : Row) (c : Mode) (f j : Read) → f ≡ operandRead zone d s row x n c → j ≡ joinedRead zone o v f → left s j < t
+  falls-more zone d row c f j i k = ends-left s n t j (omega (arith, past, whole)) (omega (arith, past, whole))
+      (subst (Ends (length s) n) (sym k) (joined-ends zone (length s) n o v f (subst (Ends (length s) n) (sym i) (operand-ends zone d s row n c x))))
 
 -- the operands
 module _ (s : List ℕ) (t at : ℕ) (x : Rule) (e : measure s at (rank x) ≡ t) where
@@ -116,11 +118,11 @@ module _ (s : List ℕ) (t at : ℕ) (x : Rule) (e : measure s at (rank x) ≡ t
   falls-factor h = omega (arith, ranked Sum h)
 
 -- the second sum of a test
-pub falls-second : (d : ℕ) (s line : List ℕ) (t at n k : ℕ) (m : Mode) (g : Read) (v : Part) (y : Joint) (o : Op) (p : ℕ) → measure s at 4 ≡ t →
-    g ≡ chainRead d s line Sum at m → g ≡ Got v n → y ≡ comparisonAt s n → y ≡ J.At o p k → measure s k 3 < t
-falls-second d s line t at n k m g v y o p e h b q i = omega (
+pub falls-second : (zone : Offset) (d : ℕ) (s : List ℕ) (row : Row) (t at n k : ℕ) (m : Mode) (g : Read) (v : Part) (y : Joint) (o : Op) (p : ℕ) → measure s at 4 ≡ t →
+    g ≡ chainRead zone d s row Sum at m → g ≡ Got v n → y ≡ comparisonAt s n → y ≡ J.At o p k → measure s k 3 < t
+falls-second zone d s row t at n k m g v y o p e h b q i = omega (
   arith,
-  subst (Ends (length s) at) (sym h ∙ b) (chain-ends d s line at m Sum),
+  subst (Ends (length s) at) (sym h ∙ b) (chain-ends zone d s row at m Sum),
   subst (PastJoint (length s) n) (sym q ∙ i) (comparison-past s n),
 )
 

@@ -1,13 +1,16 @@
 -- Document 01, "Conditions": what a tree means: the sort that the text alone settles, the leftmost bad literal, and what the tree gives
--- at a line.
+-- at a row, in the zone that values without one count in.
 use Prim.Native.Nat.{ℕ}
 use mathlib.Core.List.{List}
-use Rattle.basis.specs.Answer.{Answer, gives, refuses}
+use Rattle.basis.specs.Answer.{Answer, gives, refuses, andThen}
+use Rattle.value.specs.declared.Offset.{Offset}
+use Rattle.timetable.specs.Rows.{Row}
 use Rattle.text.specs.Reading.{readAs}
+use Rattle.text_fields.specs.Fields.{readField}
 use Rattle.condition_words.specs.Words.{between}
 use Rattle.condition_sorts.specs.Sorts.{sortTwo, sortCast, sortTimes}
-use Rattle.condition_givens.specs.Data.{Datum, valued, readField}
-use Rattle.condition_parts.specs.Evaluation.{chained, joined, castDatum, timesDatum}
+use Rattle.condition_givens.specs.Data.{Datum, valued}
+use Rattle.condition_parts.specs.Evaluation.{joined, castDatum, timesDatum}
 use Rattle.condition_sorts.specs.declared.Sort.{Sort}
 use Rattle.condition_sorts.specs.declared.Sort.the-variants as S
 use Rattle.condition_grammar.specs.Trees.{Tree, leaf, one, two, literal, field, cast, times}
@@ -34,10 +37,10 @@ firstBad s (leaf k w (field n p)) = gives tt
 firstBad s (one o p t) = firstBad s t
 firstBad s (two o b p l r) = first (firstBad s l) (firstBad s r)
 
--- what a tree gives at a line: "Evaluation goes left to right .. up to the first refusal."
-unfoldable pub eval : List ℕ → List ℕ → Tree → Answer Datum
-eval s line (leaf k w (literal from to)) = valued (readAs k (between s from to))
-eval s line (leaf k w (field n p)) = valued (readField k line n)
-eval s line (one (cast k) p t) = chained (eval s line t) (castDatum k)
-eval s line (one (times negative n) p t) = chained (eval s line t) (timesDatum negative n)
-eval s line (two o b p l r) = joined o (eval s line l) (eval s line r)
+-- what a tree gives at a row: "Evaluation goes left to right .. up to the first refusal."
+unfoldable pub eval : Offset → List ℕ → Row → Tree → Answer Datum
+eval zone s row (leaf k w (literal from to)) = valued (readAs k (between s from to))
+eval zone s row (leaf k w (field n p)) = valued (readField k row n)
+eval zone s row (one (cast k) p t) = andThen (eval zone s row t) (castDatum k)
+eval zone s row (one (times negative n) p t) = andThen (eval zone s row t) (timesDatum negative n)
+eval zone s row (two o b p l r) = joined zone o (eval zone s row l) (eval zone s row r)

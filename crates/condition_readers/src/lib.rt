@@ -19,7 +19,9 @@ use condition_symbols::Op;
 use condition_symbols::Start;
 use condition_words::skip;
 use value::Kind;
+use value::Offset;
 ghost use mathlib.Core.Path.{_≡_};
+ghost use Rattle.timetable.specs.Rows.{rowWith};
 ghost use Rattle.condition_readers.specs.Lengths.{parseWithin};
 ghost use Rattle.condition_readers.specs.Carried as the;
 
@@ -52,12 +54,12 @@ fn joint(rule: Rule, s: &[u8], at: usize) -> Joint
 }
 
 // What was read after an operator, joined to what is left of it.
-fn joined(op: Op, left: Part, read: Read) -> Read
-    ensures { λ r. ⌜ r ≡ the.joinedRead op left read ⌝ }
+fn joined(op: Op, left: Part, read: Read, zone: Offset) -> Read
+    ensures { λ r. ⌜ r ≡ the.joinedRead zone op left read ⌝ }
 {
     match read {
         Read::Bad => return Read::Bad,
-        Read::Got(right, n) => return Read::Got(two(op, left, right), n),
+        Read::Got(right, n) => return Read::Got(two(op, left, right, zone), n),
     }
 }
 
@@ -117,8 +119,17 @@ fn term_more(s: &[u8], at: usize, left: Part) -> Read
 }
 
 // Operands with operators between, taken from the left.
-fn chain(rule: Rule, s: &[u8], line: &[u8], at: usize, depth: usize, mode: Mode) -> Read
-    ensures { λ r. ⌜ r ≡ the.chainRead depth (now (s .entry)) (now (line .entry)) rule at mode ⌝ }
+fn chain(
+    rule: Rule,
+    s: &[u8],
+    line: &[u8],
+    at: usize,
+    depth: usize,
+    mode: Mode,
+    made: &[u8],
+    zone: Offset,
+) -> Read
+    ensures { λ r. ⌜ r ≡ the.chainRead zone depth (now (s .entry)) (rowWith (now (line .entry)) (now (made .entry))) rule at mode ⌝ }
 {
     more(
         rule,
@@ -126,57 +137,111 @@ fn chain(rule: Rule, s: &[u8], line: &[u8], at: usize, depth: usize, mode: Mode)
         line,
         depth,
         mode,
-        operand(rule, s, line, at, depth, mode),
+        operand(rule, s, line, at, depth, mode, made, zone),
+        made,
+        zone,
     )
 }
 
 // What was read, with the operators and operands that follow it.
-fn more(rule: Rule, s: &[u8], line: &[u8], depth: usize, mode: Mode, read: Read) -> Read
-    ensures { λ r. ⌜ r ≡ the.moreRead depth (now (s .entry)) (now (line .entry)) rule mode read ⌝ }
+fn more(
+    rule: Rule,
+    s: &[u8],
+    line: &[u8],
+    depth: usize,
+    mode: Mode,
+    read: Read,
+    made: &[u8],
+    zone: Offset,
+) -> Read
+    ensures { λ r. ⌜ r ≡ the.moreRead zone depth (now (s .entry)) (rowWith (now (line .entry)) (now (made .entry))) rule mode read ⌝ }
 {
     match read {
         Read::Bad => return Read::Bad,
         Read::Got(left, at) => match joint(rule, s, at) {
             Joint::No => return read,
             Joint::At(op, _, n) => {
-                let right = operand(rule, s, line, n, depth, after(op, mode, left));
-                return more(rule, s, line, depth, mode, joined(op, left, right));
+                let right = operand(rule, s, line, n, depth, after(op, mode, left), made, zone);
+                return more(
+                    rule,
+                    s,
+                    line,
+                    depth,
+                    mode,
+                    joined(op, left, right, zone),
+                    made,
+                    zone,
+                );
             }
         },
     }
 }
 
 // A clause, a test or a term.
-fn operand(rule: Rule, s: &[u8], line: &[u8], at: usize, depth: usize, mode: Mode) -> Read
-    ensures { λ r. ⌜ r ≡ the.operandRead depth (now (s .entry)) (now (line .entry)) rule at mode ⌝ }
+fn operand(
+    rule: Rule,
+    s: &[u8],
+    line: &[u8],
+    at: usize,
+    depth: usize,
+    mode: Mode,
+    made: &[u8],
+    zone: Offset,
+) -> Read
+    ensures { λ r. ⌜ r ≡ the.operandRead zone depth (now (s .entry)) (rowWith (now (line .entry)) (now (made .entry))) rule at mode ⌝ }
 {
     match rule {
-        Rule::Condition => return chain(Rule::Clause, s, line, at, depth, mode),
-        Rule::Clause => return test(s, line, at, depth, mode),
-        Rule::Sum => return term(s, factor(s, line, at, depth, mode)),
+        Rule::Condition => return chain(Rule::Clause, s, line, at, depth, mode, made, zone),
+        Rule::Clause => return test(s, line, at, depth, mode, made, zone),
+        Rule::Sum => return term(s, factor(s, line, at, depth, mode, made, zone)),
     }
 }
 
 // One sum, or two with a comparison between.
-fn test(s: &[u8], line: &[u8], at: usize, depth: usize, mode: Mode) -> Read
-    ensures { λ r. ⌜ r ≡ the.testRead depth (now (s .entry)) (now (line .entry)) at mode ⌝ }
+fn test(
+    s: &[u8],
+    line: &[u8],
+    at: usize,
+    depth: usize,
+    mode: Mode,
+    made: &[u8],
+    zone: Offset,
+) -> Read
+    ensures { λ r. ⌜ r ≡ the.testRead zone depth (now (s .entry)) (rowWith (now (line .entry)) (now (made .entry))) at mode ⌝ }
 {
-    let read = chain(Rule::Sum, s, line, at, depth, mode);
+    let read = chain(Rule::Sum, s, line, at, depth, mode, made, zone);
     match read {
         Read::Bad => return Read::Bad,
         Read::Got(left, n) => match condition_symbols::comparison(s, n) {
             Joint::No => return read,
             Joint::At(op, _, m) => {
-                let right = chain(Rule::Sum, s, line, m, depth, after(op, mode, left));
-                return joined(op, left, right);
+                let right = chain(
+                    Rule::Sum,
+                    s,
+                    line,
+                    m,
+                    depth,
+                    after(op, mode, left),
+                    made,
+                    zone,
+                );
+                return joined(op, left, right, zone);
             }
         },
     }
 }
 
 // A condition in parentheses, or a kind's word with what stands in the parentheses after it.
-fn factor(s: &[u8], line: &[u8], at: usize, depth: usize, mode: Mode) -> Read
-    ensures { λ r. ⌜ r ≡ the.factorRead depth (now (s .entry)) (now (line .entry)) at mode ⌝ }
+fn factor(
+    s: &[u8],
+    line: &[u8],
+    at: usize,
+    depth: usize,
+    mode: Mode,
+    made: &[u8],
+    zone: Offset,
+) -> Read
+    ensures { λ r. ⌜ r ≡ the.factorRead zone depth (now (s .entry)) (rowWith (now (line .entry)) (now (made .entry))) at mode ⌝ }
 {
     if depth == 0 {
         return Read::Bad;
@@ -189,36 +254,49 @@ fn factor(s: &[u8], line: &[u8], at: usize, depth: usize, mode: Mode) -> Read
             condition_symbols::factor_start(s, at),
             depth - 1,
             mode,
+            made,
+            zone,
         ),
     )
 }
 
 // What stands in the parentheses with which a factor starts: a condition; or after a kind's word a text, a field, or a sum to be
 // cast.
-fn inner(s: &[u8], line: &[u8], start: Start, depth: usize, mode: Mode) -> Read
-    ensures { λ r. ⌜ r ≡ the.innerRead depth (now (s .entry)) (now (line .entry)) start mode ⌝ }
+fn inner(
+    s: &[u8],
+    line: &[u8],
+    start: Start,
+    depth: usize,
+    mode: Mode,
+    made: &[u8],
+    zone: Offset,
+) -> Read
+    ensures { λ r. ⌜ r ≡ the.innerRead zone depth (now (s .entry)) (rowWith (now (line .entry)) (now (made .entry))) start mode ⌝ }
 {
     match start {
         Start::No => return Read::Bad,
-        Start::Open(at) => return chain(Rule::Condition, s, line, at, depth, mode),
+        Start::Open(at) => return chain(Rule::Condition, s, line, at, depth, mode, made, zone),
         Start::Make(kind, _, at) => match condition_symbols::contents(s, at) {
             Held::Text(from, to, n) => return Read::Got(literal(mode, kind, s, from, to), n),
-            Held::Field(number, _, n) => return Read::Got(field(mode, kind, line, number), n),
+            Held::Field(number, _, n) => return Read::Got(field(mode, kind, line, number, made), n),
             Held::Bad => return Read::Bad,
-            Held::Sum => return cast_to(kind, chain(Rule::Sum, s, line, at, depth, mode)),
+            Held::Sum => return cast_to(
+                kind,
+                chain(Rule::Sum, s, line, at, depth, mode, made, zone),
+            ),
         },
     }
 }
 
 // The whole text: only spaces may follow the condition. A text that is longer than a condition is not read, so that the readers
 // call one another no more deeply than a condition's text lets them.
-pub fn whole(s: &[u8], line: &[u8], mode: Mode) -> Read
-    ensures { λ r. ⌜ r ≡ the.readOf (now (s .entry)) (now (line .entry)) mode (parseWithin (now (s .entry))) ⌝ }
+pub fn whole(s: &[u8], line: &[u8], mode: Mode, made: &[u8], zone: Offset) -> Read
+    ensures { λ r. ⌜ r ≡ the.readOf zone (now (s .entry)) (rowWith (now (line .entry)) (now (made .entry))) mode (parseWithin (now (s .entry))) ⌝ }
 {
     if MAX_LENGTH < s.len() {
         return Read::Bad;
     }
-    let read = chain(Rule::Condition, s, line, 0, MAX_DEPTH, mode);
+    let read = chain(Rule::Condition, s, line, 0, MAX_DEPTH, mode, made, zone);
     match read {
         Read::Bad => return Read::Bad,
         Read::Got(_, n) => {

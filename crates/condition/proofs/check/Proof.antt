@@ -24,6 +24,9 @@ refused-requires-3 c κs = search needs
 returns-3 : tie.Need-returns-3
 returns-3 c = search (check-short, check-long, check-deep, check-bad, check-got)
 
+utc-requires : tie.Need-utc-requires
+utc-requires c κs = search needs
+
 whole-requires : tie.Need-whole-requires
 whole-requires c κs = search needs
 
@@ -56,6 +59,7 @@ check-spec =
     too-deep-requires
     refused-requires-3
     returns-3
+    utc-requires
     whole-requires
     enum-told
     refused-requires-4

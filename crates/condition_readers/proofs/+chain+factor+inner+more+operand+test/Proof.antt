@@ -36,65 +36,65 @@ use Rattle.condition_symbols.proofs.factor_start.Reads as factor-start-reads
 use Rattle.condition_readers.proofs.+chain+factor+inner+more+operand+test.{statement}
 use Rattle.condition_readers.proofs.+chain+factor+inner+more+operand+test.Tie.{close}
 
-abbrev μ-chain : Measures 2 chain-kinds.ps ℕ
+abbrev μ-chain : Measures 3 chain-kinds.ps ℕ
 μ-chain κs a = measure (a .1 .0 .now) (a .1 .1 .1 .0) (rank (a .0) + 1)
 
-abbrev μ-factor : Measures 2 factor-kinds.ps ℕ
+abbrev μ-factor : Measures 3 factor-kinds.ps ℕ
 μ-factor κs a = measure (a .0 .now) (a .1 .1 .0) 1
 
-abbrev μ-inner : Measures 2 inner-kinds.ps ℕ
+abbrev μ-inner : Measures 3 inner-kinds.ps ℕ
 μ-inner κs a = behind (a .0 .now) (a .1 .1 .0)
 
-abbrev μ-more : Measures 2 more-kinds.ps ℕ
+abbrev μ-more : Measures 3 more-kinds.ps ℕ
 μ-more κs a = left (a .1 .0 .now) (a .1 .1 .1 .1 .1 .0)
 
-abbrev μ-operand : Measures 2 operand-kinds.ps ℕ
+abbrev μ-operand : Measures 3 operand-kinds.ps ℕ
 μ-operand κs a = measure (a .1 .0 .now) (a .1 .1 .1 .0) (rank (a .0))
 
-abbrev μ-test : Measures 2 test-kinds.ps ℕ
+abbrev μ-test : Measures 3 test-kinds.ps ℕ
 μ-test κs a = measure (a .0 .now) (a .1 .1 .0) 4
 
-abbrev chain-at : ℕ → In 2 chain-kinds.ps
-chain-at t = and 2 chain-kinds.ps (is 2 chain-kinds.ps μ-chain t) chain.Pre
+abbrev chain-at : ℕ → In 3 chain-kinds.ps
+chain-at t = and 3 chain-kinds.ps (is 3 chain-kinds.ps μ-chain t) chain.Pre
 
-abbrev chain-below : ℕ → In 2 chain-kinds.ps
-chain-below t = and 2 chain-kinds.ps (falls 2 chain-kinds.ps _<_ μ-chain t) chain.Pre
+abbrev chain-below : ℕ → In 3 chain-kinds.ps
+chain-below t = and 3 chain-kinds.ps (falls 3 chain-kinds.ps _<_ μ-chain t) chain.Pre
 
-abbrev factor-at : ℕ → In 2 factor-kinds.ps
-factor-at t = and 2 factor-kinds.ps (is 2 factor-kinds.ps μ-factor t) factor.Pre
+abbrev factor-at : ℕ → In 3 factor-kinds.ps
+factor-at t = and 3 factor-kinds.ps (is 3 factor-kinds.ps μ-factor t) factor.Pre
 
-abbrev factor-below : ℕ → In 2 factor-kinds.ps
-factor-below t = and 2 factor-kinds.ps (falls 2 factor-kinds.ps _<_ μ-factor t) factor.Pre
+abbrev factor-below : ℕ → In 3 factor-kinds.ps
+factor-below t = and 3 factor-kinds.ps (falls 3 factor-kinds.ps _<_ μ-factor t) factor.Pre
 
-abbrev inner-at : ℕ → In 2 inner-kinds.ps
-inner-at t = and 2 inner-kinds.ps (is 2 inner-kinds.ps μ-inner t) inner.Pre
+abbrev inner-at : ℕ → In 3 inner-kinds.ps
+inner-at t = and 3 inner-kinds.ps (is 3 inner-kinds.ps μ-inner t) inner.Pre
 
-abbrev inner-below : ℕ → In 2 inner-kinds.ps
-inner-below t = and 2 inner-kinds.ps (falls 2 inner-kinds.ps _<_ μ-inner t) inner.Pre
+abbrev inner-below : ℕ → In 3 inner-kinds.ps
+inner-below t = and 3 inner-kinds.ps (falls 3 inner-kinds.ps _<_ μ-inner t) inner.Pre
 
-abbrev more-at : ℕ → In 2 more-kinds.ps
-more-at t = and 2 more-kinds.ps (is 2 more-kinds.ps μ-more t) more.Pre
+abbrev more-at : ℕ → In 3 more-kinds.ps
+more-at t = and 3 more-kinds.ps (is 3 more-kinds.ps μ-more t) more.Pre
 
-abbrev more-below : ℕ → In 2 more-kinds.ps
-more-below t = and 2 more-kinds.ps (falls 2 more-kinds.ps _<_ μ-more t) more.Pre
+abbrev more-below : ℕ → In 3 more-kinds.ps
+more-below t = and 3 more-kinds.ps (falls 3 more-kinds.ps _<_ μ-more t) more.Pre
 
-abbrev operand-at : ℕ → In 2 operand-kinds.ps
-operand-at t = and 2 operand-kinds.ps (is 2 operand-kinds.ps μ-operand t) operand.Pre
+abbrev operand-at : ℕ → In 3 operand-kinds.ps
+operand-at t = and 3 operand-kinds.ps (is 3 operand-kinds.ps μ-operand t) operand.Pre
 
-abbrev operand-below : ℕ → In 2 operand-kinds.ps
-operand-below t = and 2 operand-kinds.ps (falls 2 operand-kinds.ps _<_ μ-operand t) operand.Pre
+abbrev operand-below : ℕ → In 3 operand-kinds.ps
+operand-below t = and 3 operand-kinds.ps (falls 3 operand-kinds.ps _<_ μ-operand t) operand.Pre
 
-abbrev test-at : ℕ → In 2 test-kinds.ps
-test-at t = and 2 test-kinds.ps (is 2 test-kinds.ps μ-test t) test.Pre
+abbrev test-at : ℕ → In 3 test-kinds.ps
+test-at t = and 3 test-kinds.ps (is 3 test-kinds.ps μ-test t) test.Pre
 
-abbrev test-below : ℕ → In 2 test-kinds.ps
-test-below t = and 2 test-kinds.ps (falls 2 test-kinds.ps _<_ μ-test t) test.Pre
+abbrev test-below : ℕ → In 3 test-kinds.ps
+test-below t = and 3 test-kinds.ps (falls 3 test-kinds.ps _<_ μ-test t) test.Pre
 
 -- what is read after an operator
-abbrev right-below : ℕ → In 2 operand-kinds.ps
+abbrev right-below : ℕ → In 3 operand-kinds.ps
 right-below t = operand-below t
 
-abbrev right-post : Out 2 operand-kinds.ps operand-kinds.r
+abbrev right-post : Out 3 operand-kinds.ps operand-kinds.r
 right-post = operand.Post
 
 pub +chain+factor+inner+more+operand+test-spec : {M : Type 1} → statement M
@@ -179,7 +179,7 @@ pub +chain+factor+inner+more+operand+test-spec : {M : Type 1} → statement M
     (λ c κs. search falls-operand)
     (λ c. search needs)
     (λ c κs. search falls-more)
-    (λ c. more-on _ _ _ _ _ _ _ _ (c .before .before .before .before .before .before .before .before .before .read .given .1) _ (c .before .before .before .before .before .before .before .joint .ensures) _ _ _ _ _ _ _
+    (λ c. more-on _ _ _ _ _ _ _ _ _ (c .before .before .before .before .before .before .before .before .before .read .given .1) _ (c .before .before .before .before .before .before .before .joint .ensures) _ _ _ _ _ _ _
     (c .before .before .before .before .before .op .given .1)
     (c .before .before .before .after .ensures)
     (c .before .before .operand .ensures)
