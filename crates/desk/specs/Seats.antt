@@ -14,7 +14,7 @@ use Rattle.desk.specs.declared.Desk.{Desk}
 abbrev pub seatAt : Desk → ℕ → Seat
 seatAt d i =
     getD (d .seats) i
-    (record { held = false; ticket = 0; offset = 0; hits = 0; unreadable = 0; «condition_length» = 0; condition = [] })
+    (record { held = false; ticket = 0; offset = 0; place = 0; hits = 0; unreadable = 0; «condition_length» = 0; condition = [] })
 
 -- whether the seat of a number, counted round, is held, or free
 abbrev pub heldIs : Desk → Bool → ℕ → Bool

@@ -1,7 +1,7 @@
 -- Document 01, "Timetable, seats and turns": "A desk is sound when: last served is under 16; the length is at most 65,536;
 -- held tickets are nonzero, different and not above the last issued; each held condition passes Open's checks; each held
--- offset is at most the length; each held seat's hits and unreadable lines together are at most its offset." What is asked
--- of one seat alone is `seatSound` of the crate `desk_seat`.
+-- offset is at most the length; ..". By document 02, b, also "only with places under 1,440", and with its bound on a seat's two counts.
+-- What is asked of one seat alone is `seatSound` of the crate `desk_seat`.
 use mathlib.Core.Bool.{Bool, true}
 use mathlib.Core.List.{[], _∷_}
 use Prim.Native.Nat.{ℕ}

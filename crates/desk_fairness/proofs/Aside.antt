@@ -11,7 +11,7 @@ use Rattle.desk_seat.specs.Files.{Files}
 use Rattle.desk_seat.specs.Conditions.{Result, hit, miss, unreadable}
 use Rattle.desk_seat.specs.Answers.{doneWith}
 use Rattle.desk_seat.specs.Seat.{freeSeat, seatFor}
-use Rattle.desk_seat.specs.Serving.{Step, hasLine, afterLine, seatResult, judgedAs, serveOf}
+use Rattle.desk_seat.specs.Serving.{Step, hasLine, onwardFrom, seatResult, judgedAs, serveOf}
 use Rattle.desk_seat.specs.TurnsLeft.{turnsAsked}
 use Rattle.desk_seat.specs.declared.Seat.{Seat}
 use Rattle.desk.specs.Desk.{freshFor}
@@ -27,6 +27,7 @@ strip s =
       held = s .held;
       ticket = 0;
       offset = s .offset;
+      place = s .place;
       hits = s .hits;
       unreadable = s .unreadable;
       «condition_length» = s .«condition_length»;
@@ -35,29 +36,29 @@ strip s =
 
 outcome : Files → Seat → Bool → Result → Step
 outcome f s b v =
-    pick b (judgedAs (afterLine f s) s v) (record { seat = freeSeat; answer = doneWith (s .ticket) (s .hits) (s .unreadable) })
+    pick b (judgedAs (onwardFrom f s) s v) (record { seat = freeSeat; answer = doneWith (s .ticket) (s .hits) (s .unreadable) })
 
 module _ (f : Files) where
   outcome-seat : (s : Seat) (b : Bool) (v : Result) → strip (outcome f s b v .seat) ≡ strip (outcome f (strip s) b v .seat)
-  unfolding strip outcome
+  unfolding strip outcome onwardFrom
   outcome-seat s true hit = refl
   outcome-seat s true miss = refl
   outcome-seat s true (unreadable n) = refl
   outcome-seat s false v = refl
 
   outcome-answer : (s : Seat) (b : Bool) (v : Result) → ticketAside (outcome f s b v .answer) ≡ ticketAside (outcome f (strip s) b v .answer)
-  unfolding strip outcome
+  unfolding strip outcome onwardFrom
   outcome-answer s true hit = refl
   outcome-answer s true miss = refl
   outcome-answer s true (unreadable n) = refl
   outcome-answer s false v = refl
 
   strip-seat : (s : Seat) → strip (serveOf f s .seat) ≡ strip (serveOf f (strip s) .seat)
-  unfolding serveOf strip outcome
+  unfolding serveOf strip outcome onwardFrom
   strip-seat s = outcome-seat s (hasLine f s) (seatResult f s)
 
   strip-answer : (s : Seat) → ticketAside (serveOf f s .answer) ≡ ticketAside (serveOf f (strip s) .answer)
-  unfolding serveOf strip outcome
+  unfolding serveOf strip outcome onwardFrom
   strip-answer s = outcome-answer s (hasLine f s) (seatResult f s)
 
   same-aside : (n : ℕ) (s s′ : Seat) → strip s ≡ strip s′ → map ticketAside (serves n f s) ≡ map ticketAside (serves n f s′)

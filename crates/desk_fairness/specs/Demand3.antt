@@ -6,19 +6,24 @@
 --   would get with the desk to itself, line for line, only the ticket number aside, however many others open or close
 --   queries meanwhile."
 --
+-- Document 02, b: "In demand 3, L is now the number of turns the lines stand for: one for a plain, bad or empty-run line, else its
+-- occurrences." Line for line is then case for case.
+--
 -- The theorems are `demand3`, `demand3-lines`, `answers-and-done`, `demand3-any-time`, `demand3-in-time` and `lone-query` (proofs/). In
 -- all of them f is what the turns read, r what was asked of Open, d the desk that was asked, k the ticket that it gave;
 -- `(rest : List Turned) × P` reads: there is such a list with P.
 use mathlib.Core.Path.{_≡_}
 use mathlib.Core.Bool.{true, false}
 use mathlib.Core.List.{List, [], _∷_, _++_, map}
-use Prim.Native.Nat.{ℕ, _+_, _*_, _≤_, _<_}
+use Prim.Native.Nat.{ℕ, suc, _+_, _*_, _≤_, _<_}
 use lib.ListN.{length, take, replicate}
 use Rattle.basis.specs.Answer.{gives}
 use Rattle.timetable.specs.Lines.{Line, offsetLines}
 use Rattle.desk_seat.specs.Files.{Files}
 use Rattle.desk_seat.specs.Request.{Request}
-use Rattle.desk_seat.specs.Conditions.{Result, hit, miss, unreadable, resultAt}
+use Rattle.run_cases.specs.Cases.{Case}
+use Rattle.desk_seat.specs.Conditions.{Result, hit, miss, unreadable}
+use Rattle.desk_seat.specs.Serving.{casesOf, caseResult}
 use Rattle.desk_seat.specs.Answers.{Turned, idle, hitAt, missAt, unreadableAt, doneWith}
 use Rattle.desk_seat.specs.TurnsLeft.{turnsAsked}
 use Rattle.desk.specs.Bounds.{seatCount}
@@ -39,7 +44,7 @@ pub record Query (f : Files) (r : Request) (d : Desk) (k : ℕ) : Type 0 where
 abbrev pub gets : Files → Request → Desk → ℕ → List Event → List Turned
 gets f r d k es = answersOf k f (openOf r d .desk) es
 
--- "the 16 x (L + 1)th turn": L, the timetable's lines, is `turnsAsked`
+-- "the 16 x (L + 1)th turn": L, the turns that the timetable's lines stand for, is `turnsAsked`
 abbrev pub turnsFor : Files → ℕ
 turnsFor f = seatCount * (turnsAsked f + 1)
 
@@ -53,8 +58,8 @@ pub record Course (f : Files) (k : ℕ) (es : List Event) : Type 0 where
 -- "only the ticket number aside"
 abbrev pub ticketAside : Turned → Turned
 ticketAside idle = idle
-ticketAside (hitAt k o) = hitAt 0 o
-ticketAside (missAt k o) = missAt 0 o
+ticketAside (hitAt k o p) = hitAt 0 o p
+ticketAside (missAt k o p) = missAt 0 o p
 ticketAside (unreadableAt k o n) = unreadableAt 0 o n
 ticketAside (doneWith k h u) = doneWith 0 h u
 
@@ -67,30 +72,36 @@ Demand3 =
     (f : Files) (r : Request) (d : Desk) (k : ℕ) (es : List Event) → Query f r d k → Course f k es
     → map ticketAside (gets f r d k es) ≡ map ticketAside (alone f r)
 
--- ---- the second form: line for line
+-- ---- the second form: line for line, and within a line case for case
 
--- the answer to ticket k at a line: the condition's result there, with the line's offset
-abbrev pub answerFor : ℕ → ℕ → Result → Turned
-answerFor k offset hit = hitAt k offset
-answerFor k offset miss = missAt k offset
-answerFor k offset (unreadable n) = unreadableAt k offset n
+-- the answer to ticket k at a case: the condition's result there, with the line's offset and the place
+abbrev pub answerFor : ℕ → ℕ → ℕ → Result → Turned
+answerFor k offset place hit = hitAt k offset place
+answerFor k offset place miss = missAt k offset place
+answerFor k offset place (unreadable n) = unreadableAt k offset n
 
--- the answers at some lines to a query with the condition c
-abbrev pub lineAnswers : ℕ → List ℕ → List Line → List Turned
-lineAnswers k c ls = map (λ l. answerFor k (l .offset) (resultAt c (l .text))) ls
+-- the answers at the cases of a line, the first at a place, to a query with the condition c
+unfoldable pub caseAnswers : ℕ → List ℕ → ℕ → ℕ → List Case → List Turned
+caseAnswers k c offset place [] = []
+caseAnswers k c offset place (x ∷ xs) = answerFor k offset place (caseResult c x) ∷ caseAnswers k c offset (suc place) xs
 
--- how many hits, and how many unreadable lines, a list of answers has
+-- the answers at some lines, at all that each stands for
+unfoldable pub lineAnswers : ℕ → List ℕ → List Line → List Turned
+lineAnswers k c [] = []
+lineAnswers k c (l ∷ ls) = caseAnswers k c (l .offset) 0 (casesOf (l .text)) ++ lineAnswers k c ls
+
+-- how many hits, and how many unreadable turns, a list of answers has
 abbrev pub hitIn : Turned → ℕ
 hitIn idle = 0
-hitIn (hitAt k o) = 1
-hitIn (missAt k o) = 0
+hitIn (hitAt k o p) = 1
+hitIn (missAt k o p) = 0
 hitIn (unreadableAt k o n) = 0
 hitIn (doneWith k h u) = 0
 
 abbrev pub unreadableIn : Turned → ℕ
 unreadableIn idle = 0
-unreadableIn (hitAt k o) = 0
-unreadableIn (missAt k o) = 0
+unreadableIn (hitAt k o p) = 0
+unreadableIn (missAt k o p) = 0
 unreadableIn (unreadableAt k o n) = 1
 unreadableIn (doneWith k h u) = 0
 
@@ -98,7 +109,7 @@ unfoldable pub howMany : (Turned → ℕ) → List Turned → ℕ
 howMany count [] = 0
 howMany count (a ∷ others) = count a + howMany count others
 
--- an answer for each line of the timetable in order
+-- an answer for each case of each line of the timetable, in order
 abbrev pub answersIn : ℕ → Files → Request → List Turned
 answersIn k f r = lineAnswers k (r .condition) (offsetLines (f .timetable))
 
@@ -106,7 +117,7 @@ answersIn k f r = lineAnswers k (r .condition) (offsetLines (f .timetable))
 abbrev pub expected : ℕ → Files → Request → List Turned
 expected k f r = answersIn k f r ++ (doneWith k (howMany hitIn (answersIn k f r)) (howMany unreadableIn (answersIn k f r)) ∷ [])
 
--- L is the number of lines: the list has an answer for each of them, and Done
+-- L is the number of turns that the lines stand for: the list has an answer for each of them, and Done
 abbrev pub AnswersAndDone : Type 0
 AnswersAndDone = (k : ℕ) (f : Files) (r : Request) → length (expected k f r) ≡ turnsAsked f + 1
 

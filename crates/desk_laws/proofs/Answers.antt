@@ -53,8 +53,8 @@ close-determined a b e = cc (ap closeFrom e, close-back a, close-back b)
 
 abbrev turnFrom : Answer Turned → TurnAnswer
 turnFrom (gives idle) = TV.Idle
-turnFrom (gives (hitAt k o)) = TV.Hit (record { ticket = k; offset = o })
-turnFrom (gives (missAt k o)) = TV.Miss (record { ticket = k; offset = o })
+turnFrom (gives (hitAt k o p)) = TV.Hit (record { ticket = k; offset = o; place = p })
+turnFrom (gives (missAt k o p)) = TV.Miss (record { ticket = k; offset = o; place = p })
 turnFrom (gives (unreadableAt k o n)) = TV.Unreadable (record { ticket = k; offset = o }) (record { number = n })
 turnFrom (gives (doneWith k h u)) = TV.Done (record { ticket = k; hits = h; unreadable = u })
 turnFrom (refuses n) = TV.Refused (record { number = n })

@@ -2,23 +2,29 @@
 use mathlib.Core.Path.{_≡_, refl, sym, ap, _∙_}
 use mathlib.Core.Bool.{Bool, true, false}
 use mathlib.Core.Logic.{⊎-elim, _⊎_, inl, inr}
-use Prim.Native.Nat.{ℕ, _+_, _≤_, _<_}
+use Prim.Native.Nat.{ℕ, _+_, _*_, _≤_, _<_}
 use native.Mathlib.Decide.{ℕ-discrete}
 use native.Mathlib.Omega.{arith}
-use borrow.Author.Tests.{lt-ltb, le-leb, eq-eqb, leb-true, ltb-true, eqb-true}
+use borrow.Author.Tests.{lt-ltb, le-leb, eq-eqb, ltb-true, eqb-true}
 use lib.Dec.{eqb}
 use lib.ListN.{length, set, length-set}
 use lib.Seq.{getD-set-same, getD-set-other}
 use Rattle.basis.specs.Choice.{pick, both, every}
 use Rattle.basis.proofs.Tests.{both-left, both-right}
+use Rattle.value_instants.specs.Ticks.{utc}
+use Rattle.timetable.specs.Lines.{lineAt}
 use Rattle.timetable.proofs.Offsets.{next-within, next-further}
+use Rattle.run_times.specs.Occurrences.{mostOccurrences}
+use Rattle.run_cases.proofs.Lines.{stands-for-few}
 use Rattle.desk_seat.specs.Files.{Files}
 use Rattle.desk_seat.specs.Bounds.{maxTimetable}
 use Rattle.desk_seat.specs.Conditions.{Result, hit, miss, unreadable}
 use Rattle.desk_seat.specs.Soundness.{seatSound}
-use Rattle.desk_seat.specs.Serving.{hasLine, afterLine, judgedAs}
+use Rattle.desk_seat.specs.Serving.{hasLine, onwardFrom, judgedAs}
 use Rattle.desk_seat.specs.declared.Seat.{Seat}
-use Rattle.desk_seat.proofs.Soundness.{every-at}
+use Rattle.desk_seat.specs.declared.Spot.{Spot}
+use Rattle.desk_seat.proofs.Soundness.{Servable, servable, was-issued, servable-sound}
+use Rattle.desk_seat.proofs.Serving.{more-or-last, onward-more, onward-next}
 use Rattle.desk.specs.Bounds.{seatCount}
 use Rattle.desk.specs.Scan.{firstPassing}
 use Rattle.desk.specs.Seats.{seatAt, hasTicket, seatOf}
@@ -90,16 +96,9 @@ module _ (d : Desk) (s : Sound d) where
 -- ---- a seat is replaced
 -- more tickets issued
 pub seat-mono : (k k′ n : ℕ) (s : Seat) → k ≤ k′ → seatSound k n s ≡ true → seatSound k′ n s ≡ true
-unfolding seatSound both
 seat-mono k k′ n s l h =
-    let t = every-at _ 0 h in
-    let q : s .ticket ≤ k = leb-true _ _ (every-at _ 1 h) in
-    let m : s .ticket ≤ k′ = omega arith in
-    let r = every-at _ 2 h in
-    let g = every-at _ 3 h in
-    let w = every-at _ 4 h in
-    let c = every-at _ 5 h in
-    unfold every in simp (t, le-leb _ _ m, r, g, w, c)
+    let q = was-issued k n s h in
+    servable-sound k′ n s (omega arith) (servable k n s h)
 
 abbrev pub replaced : Desk → ℕ → Seat → ℕ → ℕ → Desk
 replaced d i s last issued =
@@ -144,21 +143,44 @@ module _ (d : Desk) (o : Sound d) (i : ℕ) (li : i < seatCount) (s : Seat) (las
           }
 
 -- ---- a seat that is served stays sound
+-- where it goes on there is room for one count more
+record Room (f : Files) (s : Seat) (to : Spot) : Type 0 where
+  pub within : to .offset ≤ length (f .timetable)
+  pub place : to .place < mostOccurrences
+  pub counts : s .hits + s .unreadable + 1 ≤ mostOccurrences * to .offset + to .place
+
+-- a line stands for at most 1,440 cases, and the next line is at least a byte further
+room-on : (f : Files) (s : Seat) → hasLine f s ≡ true → Servable (length (f .timetable)) s → Room f s (onwardFrom f s)
+room-on f s l v =
+    let t = f .timetable in
+    let c = v .counts in
+    let p = v .place in
+    ⊎-elim
+    (λ m.
+    let few = stands-for-few utc (lineAt t (s .offset) .text) in
+    rw (onward-more f s m) (record { within = v .within; place = omega arith; counts = omega arith }))
+    (λ m.
+    let further = next-further t (s .offset) (ltb-true _ _ l) in
+    rw (onward-next f s m) (record { within = next-within t (s .offset) (v .within); place = omega arith; counts = omega arith }))
+    (more-or-last f s)
+
+judged-in : (f : Files) (k : ℕ) (s : Seat) (to : Spot) (v : Result) → Room f s to → s .ticket ≤ k → Servable (length (f .timetable)) s
+    → seatSound k (length (f .timetable)) (judgedAs to s v .seat) ≡ true
+judged-in f k s to hit r i v =
+    let c = r .counts in
+    servable-sound k (length (f .timetable)) (judgedAs to s hit .seat) i
+    (record { numbered = v .numbered; good = v .good; room = v .room; within = r .within; place = r .place; counts = omega arith })
+judged-in f k s to miss r i v =
+    let c = r .counts in
+    servable-sound k (length (f .timetable)) (judgedAs to s miss .seat) i
+    (record { numbered = v .numbered; good = v .good; room = v .room; within = r .within; place = r .place; counts = omega arith })
+judged-in f k s to (unreadable n) r i v =
+    let c = r .counts in
+    servable-sound k (length (f .timetable)) (judgedAs to s (unreadable n) .seat) i
+    (record { numbered = v .numbered; good = v .good; room = v .room; within = r .within; place = r .place; counts = omega arith })
+
 pub judged-sound : (f : Files) (k : ℕ) (s : Seat) (v : Result) → hasLine f s ≡ true → seatSound k (length (f .timetable)) s ≡ true
-    → seatSound k (length (f .timetable)) (judgedAs (afterLine f s) s v .seat) ≡ true
-unfolding seatSound both
+    → seatSound k (length (f .timetable)) (judgedAs (onwardFrom f s) s v .seat) ≡ true
 judged-sound f k s v l h =
-    let a = every-at _ 0 h in
-    let b = every-at _ 1 h in
-    let r = every-at _ 2 h in
-    let g = every-at _ 3 h in
-    let c : s .hits + s .unreadable ≤ s .offset = leb-true _ _ (every-at _ 5 h) in
-    let on : s .offset < length (f .timetable) = ltb-true _ _ l in
-    let w = next-within (f .timetable) (s .offset) (omega arith) in
-    let further = next-further (f .timetable) (s .offset) on in
-    unfold every in
-    elim v [
-      | hit ↦ (let m : s .hits + 1 + s .unreadable ≤ afterLine f s = omega arith in simp (a, b, r, g, le-leb _ _ w, le-leb _ _ m))
-      | miss ↦ (let m : s .hits + s .unreadable ≤ afterLine f s = omega arith in simp (a, b, r, g, le-leb _ _ w, le-leb _ _ m))
-      | unreadable x ↦ (let m : s .hits + (s .unreadable + 1) ≤ afterLine f s = omega arith in simp (a, b, r, g, le-leb _ _ w, le-leb _ _ m))
-    ]
+    let x = servable k (length (f .timetable)) s h in
+    judged-in f k s (onwardFrom f s) v (room-on f s l x) (was-issued k (length (f .timetable)) s h) x

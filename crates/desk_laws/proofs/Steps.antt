@@ -1,20 +1,17 @@
 -- What each call does to a sound desk, by cases: refused it alters nothing, else it replaces one seat. The desk stays sound.
 use mathlib.Core.Path.{_≡_, refl, sym, _∙_, subst}
 use mathlib.Core.Bool.{Bool, true, false, true≢false}
-use mathlib.Core.List.{_++_}
 use mathlib.Core.Logic.{⊎-elim, _⊎_, inl, inr}
 use Prim.Native.Nat.{ℕ, _+_, _-_, _%_, _≤_, _<_}
 use native.Mathlib.Omega.{arith}
-use borrow.Author.Tests.{lt-ltb, le-leb, leb-true, ltb-true}
+use borrow.Author.Tests.{lt-ltb, ltb-true}
 use lib.Dec.{ltb}
-use lib.ListN.{length, take, replicate}
+use lib.ListN.{length}
 use lib.Seq.{take-append-seam}
-use Rattle.basis.specs.Choice.{both, every}
 use Rattle.basis.specs.Answer.{Answer, gives, refuses}
 use Rattle.value.specs.Refusals.{noSeat, wrongTimetable, notSound, noMoreTickets}
 use Rattle.desk_seat.specs.Files.{Files}
 use Rattle.desk_seat.specs.Request.{Request}
-use Rattle.desk_seat.specs.Bounds.{conditionRoom}
 use Rattle.desk_seat.specs.Conditions.{accepted, checkOf}
 use Rattle.desk_seat.specs.Answers.{idle}
 use Rattle.desk_seat.specs.Seat.{freeSeat, seatFor}
@@ -22,7 +19,7 @@ use Rattle.desk_seat.specs.Soundness.{seatSound}
 use Rattle.desk_seat.specs.Serving.{seatResult, serveOf}
 use Rattle.desk_seat.specs.declared.Seat.{Seat}
 use Rattle.desk_seat.proofs.Conditions.{checked-accepted, accepted-fits}
-use Rattle.desk_seat.proofs.Soundness.{every-at}
+use Rattle.desk_seat.proofs.Soundness.{was-issued, servable-sound}
 use Rattle.desk_seat.proofs.Serving.{line-or-done, serve-line, off-free, served-ticket}
 use Rattle.desk.specs.Bounds.{seatCount, lastTicket}
 use Rattle.desk.specs.Scan.{firstPassing}
@@ -69,8 +66,7 @@ open-cases r d = go (soundOf d) refl
     go true e = open-checked r d (checkOf (r .condition)) e refl
 
 pub old-ticket : (d : Desk) (o : Sound d) (j : ℕ) → j < seatCount → seatAt d j .held ≡ true → seatAt d j .ticket ≤ d .issued
-unfolding seatSound
-old-ticket d o j lj hj = leb-true _ _ (every-at _ 1 (o .seat j lj hj))
+old-ticket d o j lj hj = was-issued _ _ _ (o .seat j lj hj)
 
 module _ (r : Request) (d : Desk) (o : Sound d) (w : Seated r d) where
   -- the seat that open takes was free
@@ -84,16 +80,16 @@ module _ (r : Request) (d : Desk) (o : Sound d) (w : Seated r d) where
       rw e at h
 
   new-good : seatSound (d .issued + 1) (d .«timetable_length») (seatFor (d .issued + 1) r) ≡ true
-  unfolding seatSound every both
   new-good =
-      let g : accepted (take (length (r .condition)) (r .condition ++ replicate (conditionRoom - length (r .condition)) 0)) ≡ true = rw take-append-seam (w .good) in
-      simp (
-        le-leb 1 (d .issued + 1) (omega arith),
-        le-leb (d .issued + 1) (d .issued + 1) (omega arith),
-        le-leb _ _ (accepted-fits (r .condition) (w .good)),
-        g,
-        le-leb 0 (d .«timetable_length») (omega arith),
-      )
+      servable-sound (d .issued + 1) (d .«timetable_length») (seatFor (d .issued + 1) r) (omega arith)
+      (record {
+        numbered = omega arith;
+        good = rw take-append-seam (w .good);
+        room = accepted-fits (r .condition) (w .good);
+        within = omega arith;
+        place = omega arith;
+        counts = omega arith;
+      })
 
   pub opened-sound : Sound (replaced d (firstFrom d false 0) (seatFor (d .issued + 1) r) (d .«last_served») (d .issued + 1))
   opened-sound =

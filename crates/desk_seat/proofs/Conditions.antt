@@ -1,5 +1,5 @@
 -- What the crate of conditions proves of accepted conditions, as a seat and the desk use it: such a text passes Open's
--- checks, it fits a seat, and a judgement of it at a line is never refused.
+-- checks, it fits a seat, and a judgement of it is never refused.
 use mathlib.Core.Path.{_≡_, refl, sym, _∙_}
 use mathlib.Core.Bool.{Bool, true, false}
 use mathlib.Core.List.{List}

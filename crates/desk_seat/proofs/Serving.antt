@@ -1,18 +1,28 @@
--- What serving a seat does: while lines are left its next line is judged, and at the timetable's end it is done.
+-- What serving a seat does: while lines are left the case at its place is judged and it goes on to the next place, or to the next line;
+-- at the timetable's end it is done.
 use mathlib.Core.Path.{_≡_, refl, sym, _∙_}
 use mathlib.Core.Bool.{Bool, true, false, true≢false}
+use mathlib.Core.List.{List}
 use mathlib.Core.Logic.{⊎-elim, _⊎_, inl, inr}
-use Prim.Native.Nat.{ℕ, _-_, _≤_, _<_}
-use borrow.Author.Tests.{lt-ltb, le-ltb}
-use lib.ListN.{length, take, drop}
-use Rattle.timetable.specs.Lines.{lineEnd}
-use Rattle.timetable.proofs.Offsets.{line-cut}
+use Prim.Native.Nat.{ℕ, _+_, _≤_, _<_}
+use borrow.Author.Tests.{lt-ltb, le-ltb, ltb-true, ltb-false}
+use lib.Dec.{ltb}
+use lib.ListN.{length}
+use Rattle.basis.specs.Choice.{pick}
+use Rattle.value.specs.Values.{okOffset}
+use Rattle.value_instants.specs.Ticks.{utc}
+use Rattle.numerals.specs.Carried.{textIn}
+use Rattle.timetable.specs.Lines.{nextLine, lineAt}
+use Rattle.run_cases.specs.StandsFor.{standsFor}
+use Rattle.run_cases.specs.Carried.{caseSaid, Shows}
+use Rattle.run_cases.specs.declared.CaseAtPlace.{CaseAtPlace}
 use Rattle.desk_seat.specs.Files.{Files}
-use Rattle.desk_seat.specs.Conditions.{Result, hit, miss, unreadable, resultAt}
+use Rattle.desk_seat.specs.Conditions.{Result, hit, miss, unreadable}
 use Rattle.desk_seat.specs.Answers.{ticketOf, doneWith}
 use Rattle.desk_seat.specs.Seat.{freeSeat, conditionOf}
-use Rattle.desk_seat.specs.Serving.{hasLine, afterLine, seatResult, judgedAs, serveOf}
+use Rattle.desk_seat.specs.Serving.{hasLine, casesAt, caseResult, onwardFrom, seatResult, judgedAs, serveOf}
 use Rattle.desk_seat.specs.declared.Seat.{Seat}
+use Rattle.desk_seat.specs.declared.Spot.{Spot}
 
 module _ (f : Files) (s : Seat) where
   pub line-or-done : (hasLine f s ≡ true) ⊎ (hasLine f s ≡ false)
@@ -22,7 +32,7 @@ module _ (f : Files) (s : Seat) where
       go true e = inl e
       go false e = inr e
 
-  pub serve-line : hasLine f s ≡ true → serveOf f s ≡ judgedAs (afterLine f s) s (seatResult f s)
+  pub serve-line : hasLine f s ≡ true → serveOf f s ≡ judgedAs (onwardFrom f s) s (seatResult f s)
   unfolding serveOf
   serve-line l = rw l
 
@@ -30,45 +40,75 @@ module _ (f : Files) (s : Seat) where
   unfolding serveOf
   serve-done l = rw l
 
-  -- for code that has the line's end and the next line's start, and cut the line out
-  pub serve-cut : (end next : ℕ) → s .offset < length (f .timetable) → end ≡ lineEnd (f .timetable) (s .offset) → next ≡ afterLine f s
-      → serveOf f s ≡ judgedAs next s (resultAt (conditionOf s) (take (end - s .offset) (drop (s .offset) (f .timetable))))
-  unfolding serveOf
-  serve-cut end next l e n = rw (lt-ltb _ _ l, line-cut (f .timetable) (s .offset) end e, n)
-
   pub serve-end : length (f .timetable) ≤ s .offset → serveOf f s ≡ record { seat = freeSeat; answer = doneWith (s .ticket) (s .hits) (s .unreadable) }
   serve-end l = serve-done (le-ltb _ _ l)
 
+  -- ---- where the seat goes on
+
+  -- its line has another place, or not
+  pub more-or-last : (s .place + 1 < length (casesAt f (s .offset))) ⊎ (length (casesAt f (s .offset)) ≤ s .place + 1)
+  more-or-last = go (ltb (s .place + 1) (length (casesAt f (s .offset)))) refl
+    where
+      go : (b : Bool) → ltb (s .place + 1) (length (casesAt f (s .offset))) ≡ b
+          → (s .place + 1 < length (casesAt f (s .offset))) ⊎ (length (casesAt f (s .offset)) ≤ s .place + 1)
+      go true e = inl (ltb-true (s .place + 1) (length (casesAt f (s .offset))) e)
+      go false e = inr (ltb-false (s .place + 1) (length (casesAt f (s .offset))) e)
+
+  pub onward-more : s .place + 1 < length (casesAt f (s .offset)) → onwardFrom f s ≡ record { offset = s .offset; place = s .place + 1 }
+  unfolding onwardFrom
+  onward-more h = rw (lt-ltb (s .place + 1) (length (casesAt f (s .offset))) h)
+
+  pub onward-next : length (casesAt f (s .offset)) ≤ s .place + 1 → onwardFrom f s ≡ record { offset = nextLine (f .timetable) (s .offset); place = 0 }
+  unfolding onwardFrom
+  onward-next h = rw (le-ltb (s .place + 1) (length (casesAt f (s .offset))) h)
+
+  -- for code that has the line and the next line's start, and has looked at the place in what the line stands for
+  pub serve-case : (line : List ℕ) (next : ℕ) (to : Spot) (r : CaseAtPlace) → lineAt (f .timetable) (s .offset) .text ≡ line
+      → nextLine (f .timetable) (s .offset) ≡ next
+      → Shows r line (standsFor utc line) (s .place)
+      → to ≡ pick (r .more) (record { offset = s .offset; place = s .place + 1 }) (record { offset = next; place = 0 })
+      → judgedAs (onwardFrom f s) s (seatResult f s) ≡ judgedAs to s (caseResult (conditionOf s) (caseSaid line (textIn (r .made)) (r .read)))
+  unfolding onwardFrom
+  serve-case line next to r l n x e = rw (e, x .what, x .more, l, n)
+
   -- ---- the seat and the answer afterwards
-  judged-held : (o : ℕ) (v : Result) → judgedAs o s v .seat .held ≡ s .held
-  judged-held o hit = refl
-  judged-held o miss = refl
-  judged-held o (unreadable n) = refl
+  judged-held : (to : Spot) (v : Result) → judgedAs to s v .seat .held ≡ s .held
+  judged-held to hit = refl
+  judged-held to miss = refl
+  judged-held to (unreadable n) = refl
 
-  judged-ticket : (o : ℕ) (v : Result) → judgedAs o s v .seat .ticket ≡ s .ticket
-  judged-ticket o hit = refl
-  judged-ticket o miss = refl
-  judged-ticket o (unreadable n) = refl
+  judged-ticket : (to : Spot) (v : Result) → judgedAs to s v .seat .ticket ≡ s .ticket
+  judged-ticket to hit = refl
+  judged-ticket to miss = refl
+  judged-ticket to (unreadable n) = refl
 
-  judged-offset : (o : ℕ) (v : Result) → judgedAs o s v .seat .offset ≡ o
-  judged-offset o hit = refl
-  judged-offset o miss = refl
-  judged-offset o (unreadable n) = refl
+  judged-offset : (to : Spot) (v : Result) → judgedAs to s v .seat .offset ≡ to .offset
+  judged-offset to hit = refl
+  judged-offset to miss = refl
+  judged-offset to (unreadable n) = refl
 
-  judged-answer : (o : ℕ) (v : Result) → ticketOf (judgedAs o s v .answer) ≡ s .ticket
-  judged-answer o hit = refl
-  judged-answer o miss = refl
-  judged-answer o (unreadable n) = refl
+  judged-place : (to : Spot) (v : Result) → judgedAs to s v .seat .place ≡ to .place
+  judged-place to hit = refl
+  judged-place to miss = refl
+  judged-place to (unreadable n) = refl
+
+  judged-answer : (to : Spot) (v : Result) → ticketOf (judgedAs to s v .answer) ≡ s .ticket
+  judged-answer to hit = refl
+  judged-answer to miss = refl
+  judged-answer to (unreadable n) = refl
 
   -- while lines are left
   pub on-held : hasLine f s ≡ true → serveOf f s .seat .held ≡ s .held
-  on-held l = rw (serve-line l) (judged-held (afterLine f s) (seatResult f s))
+  on-held l = rw (serve-line l) (judged-held (onwardFrom f s) (seatResult f s))
 
   pub on-ticket : hasLine f s ≡ true → serveOf f s .seat .ticket ≡ s .ticket
-  on-ticket l = rw (serve-line l) (judged-ticket (afterLine f s) (seatResult f s))
+  on-ticket l = rw (serve-line l) (judged-ticket (onwardFrom f s) (seatResult f s))
 
-  pub on-offset : hasLine f s ≡ true → serveOf f s .seat .offset ≡ afterLine f s
-  on-offset l = rw (serve-line l) (judged-offset (afterLine f s) (seatResult f s))
+  pub on-offset : hasLine f s ≡ true → serveOf f s .seat .offset ≡ onwardFrom f s .offset
+  on-offset l = rw (serve-line l) (judged-offset (onwardFrom f s) (seatResult f s))
+
+  pub on-place : hasLine f s ≡ true → serveOf f s .seat .place ≡ onwardFrom f s .place
+  on-place l = rw (serve-line l) (judged-place (onwardFrom f s) (seatResult f s))
 
   pub off-free : hasLine f s ≡ false → serveOf f s .seat .held ≡ false
   off-free l = rw (serve-done l)
@@ -78,4 +118,4 @@ module _ (f : Files) (s : Seat) where
   served-ticket e = ⊎-elim (λ l. on-ticket l) (λ l. absurd (true≢false (sym e ∙ off-free l))) line-or-done
 
   pub served-answer : ticketOf (serveOf f s .answer) ≡ s .ticket
-  served-answer = ⊎-elim (λ l. rw (serve-line l) (judged-answer (afterLine f s) (seatResult f s))) (λ l. rw (serve-done l)) line-or-done
+  served-answer = ⊎-elim (λ l. rw (serve-line l) (judged-answer (onwardFrom f s) (seatResult f s))) (λ l. rw (serve-done l)) line-or-done

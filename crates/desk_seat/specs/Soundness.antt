@@ -1,11 +1,13 @@
 -- Document 01, "Timetable, seats and turns", of a sound desk, what is asked of one seat alone: "held tickets are nonzero, ..
 -- and not above the last issued; each held condition passes Open's checks; each held offset is at most the length; each held
--- seat's hits and unreadable lines together are at most its offset."
+-- seat's hits and unreadable lines together are at most its offset." Document 02, b: "A desk is sound only with places under 1,440, and
+-- a seat's two counts are now at most 1,440 times its offset plus its place."
 use mathlib.Core.Bool.{Bool}
 use mathlib.Core.List.{[], _∷_}
-use Prim.Native.Nat.{ℕ, _+_}
-use lib.Dec.{leb}
+use Prim.Native.Nat.{ℕ, _+_, _*_}
+use lib.Dec.{leb, ltb}
 use Rattle.basis.specs.Choice.{every}
+use Rattle.run_times.specs.Occurrences.{mostOccurrences}
 use Rattle.desk_seat.specs.Bounds.{conditionRoom}
 use Rattle.desk_seat.specs.Conditions.{accepted}
 use Rattle.desk_seat.specs.Seat.{conditionOf}
@@ -21,5 +23,6 @@ seatSound issued long s =
     ∷ leb (s .«condition_length») conditionRoom
     ∷ accepted (conditionOf s)
     ∷ leb (s .offset) long
-    ∷ leb (s .hits + s .unreadable) (s .offset)
+    ∷ ltb (s .place) mostOccurrences
+    ∷ leb (s .hits + s .unreadable) (mostOccurrences * s .offset + s .place)
     ∷ [])

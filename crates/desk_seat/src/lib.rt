@@ -1,21 +1,29 @@
-// One seat by itself (document 01, "Timetable, seats and turns"): free, taken, sound, and served. The desk of sixteen is the
-// crate `desk`.
+// One seat by itself (document 01, "Timetable, seats and turns"; document 02, b): free, taken, sound, and served. The desk of
+// sixteen is the crate `desk`.
 use condition::Checked;
 use condition::Judged;
+use run_cases::CaseAtPlace;
+use run_cases::CaseRead;
 use value::Refusal;
+use value_instants::ticks;
 ghost use mathlib.Core.Path.{_≡_};
 ghost use mathlib.Core.Bool.{true};
 ghost use mathlib.Core.List.{_++_};
-ghost use Prim.Native.Nat.{ℕ, _-_, _≤_, _<_};
+ghost use Prim.Native.Nat.{ℕ, _+_, _-_, _≤_, _<_};
 ghost use lib.ListN.{length, replicate};
+ghost use Rattle.basis.specs.Choice.{pick};
 ghost use Rattle.basis.specs.Answer.{gives};
-ghost use Rattle.desk_seat.specs.Bounds.{conditionRoom, maxTimetable};
-ghost use Rattle.desk_seat.specs.Files.{over};
+ghost use Rattle.numerals.specs.Carried.{textIn};
+ghost use Rattle.timetable.specs.Lines.{nextLine, lineAt};
+ghost use Rattle.run_times.specs.Occurrences.{mostOccurrences};
+ghost use Rattle.run_cases.specs.Carried.{caseSaid};
+ghost use Rattle.desk_seat.specs.Bounds.{conditionRoom, maxTimetable, maxCount};
+ghost use Rattle.desk_seat.specs.Files.{Files, over};
 ghost use Rattle.desk_seat.specs.Request.{asking};
 ghost use Rattle.desk_seat.specs.Conditions.{accepted, judged, Result, unreadable};
 ghost use Rattle.desk_seat.specs.Seat.{freeSeat, seatFor};
 ghost use Rattle.desk_seat.specs.Soundness.{seatSound};
-ghost use Rattle.desk_seat.specs.Serving.{judgedAs, serveOf};
+ghost use Rattle.desk_seat.specs.Serving.{onwardFrom, judgedAs, caseResult, seatResult, serveOf};
 ghost use Rattle.desk_seat.specs.Carried.{Steps};
 
 // A seat. A fresh desk, close and Done leave a free seat all zeros; of a free seat in a desk that is handed in nothing is asked.
@@ -23,6 +31,7 @@ pub struct Seat {
     pub held: bool,
     pub ticket: u32,
     pub offset: usize,
+    pub place: u32,
     pub hits: usize,
     pub unreadable: usize,
     pub condition_length: usize,
@@ -34,10 +43,23 @@ impl Seat {
     pub const ROOM: usize = condition::MAX_LENGTH;
 }
 
+// Where a seat goes on: an offset, and a place in what the line there stands for.
+pub struct Spot {
+    pub offset: usize,
+    pub place: u32,
+}
+
 // Whose answer it is, and at which line.
 pub struct At {
     pub ticket: u32,
     pub offset: usize,
+}
+
+// Whose answer it is, at which line, and at which place in what the line stands for.
+pub struct AtPlace {
+    pub ticket: u32,
+    pub offset: usize,
+    pub place: u32,
 }
 
 // The two counts of a query that is done.
@@ -50,8 +72,8 @@ pub struct Totals {
 // What a turn answers. Idle and a refusal are the desk's; a seat that is served gives one of the others.
 pub enum TurnAnswer {
     Idle,
-    Hit(At),
-    Miss(At),
+    Hit(AtPlace),
+    Miss(AtPlace),
     Unreadable(At, Refusal),
     Done(Totals),
     Refused(Refusal),
@@ -78,6 +100,7 @@ pub fn free() -> Seat
         held: false,
         ticket: 0,
         offset: 0,
+        place: 0,
         hits: 0,
         unreadable: 0,
         condition_length: 0,
@@ -109,6 +132,7 @@ pub fn taken(ticket: u32, text: &[u8]) -> Seat
         held: true,
         ticket,
         offset: 0,
+        place: 0,
         hits: 0,
         unreadable: 0,
         condition_length: text.len(),
@@ -116,8 +140,9 @@ pub fn taken(ticket: u32, text: &[u8]) -> Seat
     }
 }
 
-// Whether a held seat is sound by itself.
+// Whether a held seat is sound by itself. Of a longer timetable the bound of its counts might wrap.
 pub fn sound(s: Seat, issued: u32, timetable_length: usize) -> bool
+    requires { ⌜ «timetable_length» ≤ maxTimetable ⌝ }
     ensures { λ r. ⌜ r ≡ seatSound issued «timetable_length» s ⌝ }
 {
     if s.ticket < 1 {
@@ -137,10 +162,15 @@ pub fn sound(s: Seat, issued: u32, timetable_length: usize) -> bool
     if timetable_length < s.offset {
         return false;
     }
-    if s.offset < s.hits {
+    if run_times::MOST <= s.place {
         return false;
     }
-    if s.offset - s.hits < s.unreadable {
+    let before = run_times::MOST as usize * s.offset;
+    let most = before + s.place as usize;
+    if most < s.hits {
+        return false;
+    }
+    if most - s.hits < s.unreadable {
         return false;
     }
     true
@@ -156,13 +186,49 @@ fn passes(text: &[u8]) -> bool
     }
 }
 
-// The seat after a line that its condition could not be judged at.
-fn at_unreadable(s: Seat, next: usize, refusal: Refusal) -> AfterServing
-    requires { ⌜ s .unreadable < maxTimetable ⌝ }
-    ensures { λ r. ⌜ Steps r (judgedAs next s (unreadable (refusal .number))) ⌝ }
+// The next place of the line where it has one, else the next line.
+fn onward_from(at: Spot, next: usize, more: bool) -> Spot
+    requires { ⌜ at .place < mostOccurrences ⌝ }
+    ensures { λ r. ⌜ r ≡ pick more (record { offset = at .offset; place = at .place + 1 }) (record { offset = next; place = 0 }) ⌝ }
+{
+    let after = at.place + 1;
+    if !more {
+        return Spot {
+            offset: next,
+            place: 0,
+        };
+    }
+    Spot {
+        offset: at.offset,
+        place: after,
+    }
+}
+
+// The result of a condition at what a line has at a place.
+fn result_at(text: &[u8], line: &[u8], there: CaseAtPlace) -> Judged
+    requires { ⌜ there .made .len ≤ length (there .made .bytes) ⌝ }
+    ensures { λ r. ⌜ judged r ≡ gives (caseResult (now (text .entry)) (caseSaid (now (line .entry)) (textIn (there .made)) (there .read))) ⌝ }
+{
+    let what = there.read;
+    match what {
+        CaseRead::Row => {
+            let made = there.made.bytes;
+            let long = there.made.len;
+            condition::judge(text, line, &made[..long], ticks::utc())
+        }
+        CaseRead::Miss => Judged::Miss,
+        CaseRead::Refused(refusal) => Judged::Unreadable(refusal),
+    }
+}
+
+// The seat after a case that is unreadable, going on at `to`.
+fn at_unreadable(s: Seat, to: Spot, refusal: Refusal) -> AfterServing
+    requires { ⌜ s .unreadable < maxCount ⌝ }
+    ensures { λ r. ⌜ Steps r (judgedAs to s (unreadable (refusal .number))) ⌝ }
 {
     let mut moved = s;
-    moved.offset = next;
+    moved.offset = to.offset;
+    moved.place = to.place;
     moved.unreadable = s.unreadable + 1;
     AfterServing {
         seat: moved,
@@ -176,16 +242,18 @@ fn at_unreadable(s: Seat, next: usize, refusal: Refusal) -> AfterServing
     }
 }
 
-// The seat after a line with a result, the next line being at `next`.
-fn judged_as(s: Seat, next: usize, result: Judged) -> AfterServing
-    requires { ⌜ (s .hits < maxTimetable) × (s .unreadable < maxTimetable) ⌝ }
-    ensures { λ r. ⌜ ((x : Result) → judged result ≡ gives x → Steps r (judgedAs next s x)) ⌝ }
+// The seat after a case with a result, going on at `to`.
+fn judged_as(s: Seat, to: Spot, result: Judged) -> AfterServing
+    requires { ⌜ (s .hits < maxCount) × (s .unreadable < maxCount) ⌝ }
+    ensures { λ r. ⌜ ((x : Result) → judged result ≡ gives x → Steps r (judgedAs to s x)) ⌝ }
 {
     let mut moved = s;
-    moved.offset = next;
-    let at = At {
+    moved.offset = to.offset;
+    moved.place = to.place;
+    let at = AtPlace {
         ticket: s.ticket,
         offset: s.offset,
+        place: s.place,
     };
     match result {
         Judged::Hit => {
@@ -199,10 +267,28 @@ fn judged_as(s: Seat, next: usize, result: Judged) -> AfterServing
             seat: moved,
             answer: TurnAnswer::Miss(at),
         },
-        Judged::Unreadable(refusal) => at_unreadable(s, next, refusal),
+        Judged::Unreadable(refusal) => at_unreadable(s, to, refusal),
         // an accepted condition is never refused
-        Judged::Refused(refusal) => at_unreadable(s, next, refusal),
+        Judged::Refused(refusal) => at_unreadable(s, to, refusal),
     }
+}
+
+// The seat after a turn at its line, the next line being at `next`.
+fn at_line(s: Seat, line: &[u8], next: usize) -> AfterServing
+    requires { ⌜ (s .«condition_length» ≤ conditionRoom) × (s .place < mostOccurrences) × (s .hits < maxCount) × (s .unreadable < maxCount) ⌝ }
+    ensures { λ r. ⌜ ((f : Files) → lineAt (f .timetable) (s .offset) .text ≡ now (line .entry) → nextLine (f .timetable) (s .offset) ≡ next → Steps r (judgedAs (onwardFrom f s) s (seatResult f s))) ⌝ }
+{
+    let place = s.place;
+    let there = run_cases::at_place(line, place, ticks::utc());
+    let spot = Spot {
+        offset: s.offset,
+        place,
+    };
+    let to = onward_from(spot, next, there.more);
+    let long = s.condition_length;
+    let c = s.condition;
+    let result = result_at(&c[..long], line, there);
+    judged_as(s, to, result)
 }
 
 // The seat after a turn of its own, and the answer.
@@ -215,10 +301,7 @@ pub fn served(s: Seat, t: &[u8]) -> AfterServing
         let line = timetable_reader::read_line(t, at);
         let end = line.end;
         let next = line.next;
-        let long = s.condition_length;
-        let c = s.condition;
-        let result = condition::judge(&c[..long], &t[at..end]);
-        judged_as(s, next, result)
+        at_line(s, &t[at..end], next)
     } else {
         AfterServing {
             seat: free(),
