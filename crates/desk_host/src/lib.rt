@@ -29,9 +29,8 @@ ghost use Rattle.output.specs.Output.{outputOf};
 // The bytes of lines that are written at once.
 const ROOM: usize = 4_096;
 
-// Each piece takes a turn or more, and a full desk over a timetable of empty lines takes 16 x (65,536 + 1) of them before it
-// is Idle.
-const CALLS: usize = Desk::SEATS * (Desk::MAX_TIMETABLE + 1) + 1;
+// Each piece takes a turn or more, and no desk takes more than 16 x (1,440 x 65,536 + 1) of them before it is Idle.
+const CALLS: usize = Desk::SEATS * (run_times::MOST as usize * Desk::MAX_TIMETABLE + 1) + 1;
 
 // What became of the pieces so far: whether every write went through, whether more is due, and how many bytes were handed to
 // the writes.

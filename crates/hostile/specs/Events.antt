@@ -57,8 +57,8 @@ setBy line name =
     (pick (same name (bytes "length")) (lengthWith (lastNumber line 3 greatest))
     (pick (same name (bytes "issued")) (issuedWith (lastNumber line 3 lastTicket)) E.NoEvent))
 
--- `seat→I→NAME→N`: "NAME is `held`, `ticket`, `offset`, `hits`, `unreadable` or `condition_length`";
--- "`held` takes 0 and 1"
+-- `seat→I→NAME→N`: "NAME is `held`, `ticket`, `offset`, `hits`, `unreadable`, `place` or `condition_length`";
+-- "`held` takes 0 and 1"; a place may be as great as a ticket
 abbrev pub heldWith : ℕ → FieldNumber → ScriptEvent
 heldWith index n = onlyIf (n .good) (E.Seat index (S.Held (eqb (n .value) 1)))
 
@@ -74,6 +74,9 @@ hitsWith index n = onlyIf (n .good) (E.Seat index (S.Hits (n .value)))
 abbrev pub unreadableWith : ℕ → FieldNumber → ScriptEvent
 unreadableWith index n = onlyIf (n .good) (E.Seat index (S.Unreadable (n .value)))
 
+abbrev pub placeWith : ℕ → FieldNumber → ScriptEvent
+placeWith index n = onlyIf (n .good) (E.Seat index (S.Place (n .value)))
+
 abbrev pub conditionLengthWith : ℕ → FieldNumber → ScriptEvent
 conditionLengthWith index n = onlyIf (n .good) (E.Seat index (S.ConditionLength (n .value)))
 
@@ -85,8 +88,9 @@ conditionEvent line index =
 unfoldable pub lastNamesBy : List ℕ → ℕ → List ℕ → ScriptEvent
 lastNamesBy line index name =
     pick (same name (bytes "unreadable")) (unreadableWith index (lastNumber line 4 greatest))
+    (pick (same name (bytes "place")) (placeWith index (lastNumber line 4 lastTicket))
     (pick (same name (bytes "condition_length")) (conditionLengthWith index (lastNumber line 4 greatest))
-    (pick (same name (bytes "condition")) (conditionEvent line index) E.NoEvent))
+    (pick (same name (bytes "condition")) (conditionEvent line index) E.NoEvent)))
 
 unfoldable pub seatBy : List ℕ → ℕ → List ℕ → ScriptEvent
 seatBy line index name =

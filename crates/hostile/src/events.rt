@@ -14,7 +14,7 @@ ghost use mathlib.Core.Path.{_≡_};
 ghost use Prim.Native.Nat.{_≤_};
 ghost use Rattle.hostile.specs.Events as the;
 
-// The greatest ticket, as a number of a line.
+// The greatest ticket, as a number of a line. A place may be as great.
 const TICKETS: usize = Desk::LAST_TICKET as usize;
 
 // N where it is the last field of a line, the n-th.
@@ -69,6 +69,13 @@ fn last_names(line: &[u8], index: usize, name: &[u8]) -> ScriptEvent
         return only_if(
             n.good,
             ScriptEvent::Seat(index, SeatNumber::Unreadable(n.value)),
+        );
+    }
+    if same(name, b"place") {
+        let n = last_number(line, 4, TICKETS);
+        return only_if(
+            n.good,
+            ScriptEvent::Seat(index, SeatNumber::Place(n.value as u32)),
         );
     }
     if same(name, b"condition_length") {

@@ -18,6 +18,7 @@ pub enum SeatNumber {
     Offset(usize),
     Hits(usize),
     Unreadable(usize),
+    Place(u32),
     ConditionLength(usize),
 }
 

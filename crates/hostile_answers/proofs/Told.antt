@@ -1,4 +1,4 @@
--- The line of any turn can be written: that of a sound desk's has its numbers within a timetable's bound, and a refused one has
+-- The line of any turn can be written: that of a sound desk's has its numbers within their bounds, and a refused one has
 -- none but the refusal's.
 use mathlib.Core.Path.{_≡_, refl, ap, _∙_}
 use mathlib.Core.Bool.{Bool, true, false}

@@ -94,6 +94,7 @@ fn show_seat(index: usize, s: Seat) {
     let text = cut(bytes, 0, kept(bytes));
     let any = text.len()
         | s.offset
+        | s.place as usize
         | s.hits
         | s.unreadable
         | s.condition_length
@@ -109,6 +110,7 @@ fn show_seat(index: usize, s: Seat) {
     tell_number(s.offset);
     tell_number(s.hits);
     tell_number(s.unreadable);
+    tell_number(s.place as usize);
     tell_number(s.condition_length);
     tell_bytes(text);
     tell(b"\n");

@@ -23,13 +23,13 @@ module _ (s : Seat) (text : List ℕ) where
   no-room h = rw (lt-leb (length text) conditionRoom h)
 
   pub copied-in : length text ≤ conditionRoom → {c : List ℕ} → c ≡ take (length text) text ++ drop (length text) (replicate conditionRoom 0)
-      → record { held = s .held; ticket = s .ticket; offset = s .offset; hits = s .hits; unreadable = s .unreadable; «condition_length» = s .«condition_length»; condition = c }
+      → record { held = s .held; ticket = s .ticket; offset = s .offset; place = s .place; hits = s .hits; unreadable = s .unreadable; «condition_length» = s .«condition_length»; condition = c }
       ≡ conditionWith s text
   copied-in h {c} e =
       let w : c ≡ text ++ replicate (conditionRoom - length text) 0 =
       e ∙ (λ i. take-all (length text) text (omega arith) i ++ drop-same (length text) conditionRoom 0 i) in
       rw (le-leb (length text) conditionRoom h)
-      (λ i. record { held = s .held; ticket = s .ticket; offset = s .offset; hits = s .hits; unreadable = s .unreadable; «condition_length» = s .«condition_length»; condition = w i })
+      (λ i. record { held = s .held; ticket = s .ticket; offset = s .offset; place = s .place; hits = s .hits; unreadable = s .unreadable; «condition_length» = s .«condition_length»; condition = w i })
 
 module _ (d : Desk) (index : ℕ) where
   pub no-seat : (s : Seat) → seatCount ≤ index → d ≡ withSeat d index s

@@ -22,18 +22,19 @@ deskWith d (D.Issued n) = record { seats = d .seats; «last_served» = d .«last
 
 -- `seat→I→NAME→N`: "that number of the seat numbered I becomes N"
 abbrev pub seatWith : Seat → SeatNumber → Seat
-seatWith s (S.Held h) = record { held = h; ticket = s .ticket; offset = s .offset; hits = s .hits; unreadable = s .unreadable; «condition_length» = s .«condition_length»; condition = s .condition }
-seatWith s (S.Ticket n) = record { held = s .held; ticket = n; offset = s .offset; hits = s .hits; unreadable = s .unreadable; «condition_length» = s .«condition_length»; condition = s .condition }
-seatWith s (S.Offset n) = record { held = s .held; ticket = s .ticket; offset = n; hits = s .hits; unreadable = s .unreadable; «condition_length» = s .«condition_length»; condition = s .condition }
-seatWith s (S.Hits n) = record { held = s .held; ticket = s .ticket; offset = s .offset; hits = n; unreadable = s .unreadable; «condition_length» = s .«condition_length»; condition = s .condition }
-seatWith s (S.Unreadable n) = record { held = s .held; ticket = s .ticket; offset = s .offset; hits = s .hits; unreadable = n; «condition_length» = s .«condition_length»; condition = s .condition }
-seatWith s (S.ConditionLength n) = record { held = s .held; ticket = s .ticket; offset = s .offset; hits = s .hits; unreadable = s .unreadable; «condition_length» = n; condition = s .condition }
+seatWith s (S.Held h) = record { held = h; ticket = s .ticket; offset = s .offset; place = s .place; hits = s .hits; unreadable = s .unreadable; «condition_length» = s .«condition_length»; condition = s .condition }
+seatWith s (S.Ticket n) = record { held = s .held; ticket = n; offset = s .offset; place = s .place; hits = s .hits; unreadable = s .unreadable; «condition_length» = s .«condition_length»; condition = s .condition }
+seatWith s (S.Offset n) = record { held = s .held; ticket = s .ticket; offset = n; place = s .place; hits = s .hits; unreadable = s .unreadable; «condition_length» = s .«condition_length»; condition = s .condition }
+seatWith s (S.Hits n) = record { held = s .held; ticket = s .ticket; offset = s .offset; place = s .place; hits = n; unreadable = s .unreadable; «condition_length» = s .«condition_length»; condition = s .condition }
+seatWith s (S.Unreadable n) = record { held = s .held; ticket = s .ticket; offset = s .offset; place = s .place; hits = s .hits; unreadable = n; «condition_length» = s .«condition_length»; condition = s .condition }
+seatWith s (S.Place n) = record { held = s .held; ticket = s .ticket; offset = s .offset; place = n; hits = s .hits; unreadable = s .unreadable; «condition_length» = s .«condition_length»; condition = s .condition }
+seatWith s (S.ConditionLength n) = record { held = s .held; ticket = s .ticket; offset = s .offset; place = s .place; hits = s .hits; unreadable = s .unreadable; «condition_length» = n; condition = s .condition }
 
 -- `seat→I→condition→TEXT`: "The seat's bytes become TEXT with zeros after it; no other number of the seat alters"
 abbrev pub conditionWith : Seat → List ℕ → Seat
 conditionWith s text =
     pick (leb (length text) conditionRoom)
-    (record { held = s .held; ticket = s .ticket; offset = s .offset; hits = s .hits; unreadable = s .unreadable; «condition_length» = s .«condition_length»; condition = text ++ replicate (conditionRoom - length text) 0 })
+    (record { held = s .held; ticket = s .ticket; offset = s .offset; place = s .place; hits = s .hits; unreadable = s .unreadable; «condition_length» = s .«condition_length»; condition = text ++ replicate (conditionRoom - length text) 0 })
     s
 
 -- the desk with this seat as number `index`; a number past the last alters nothing

@@ -27,6 +27,7 @@ fn with_number(mut seat: Seat, number: SeatNumber) -> Seat
         SeatNumber::Offset(n) => seat.offset = n,
         SeatNumber::Hits(n) => seat.hits = n,
         SeatNumber::Unreadable(n) => seat.unreadable = n,
+        SeatNumber::Place(n) => seat.place = n,
         SeatNumber::ConditionLength(n) => seat.condition_length = n,
     }
     seat

@@ -2,6 +2,7 @@
 use desk::CloseAnswer;
 use desk::OpenAnswer;
 use desk_seat::At;
+use desk_seat::AtPlace;
 use desk_seat::Totals;
 use desk_seat::TurnAnswer;
 use library_told::tell;
@@ -29,11 +30,23 @@ pub fn tell_close(answer: CloseAnswer) {
     }
 }
 
-// A ticket and a line's offset.
-fn tell_at(word: &[u8], at: At) {
+// A ticket, a line's offset and the place.
+fn tell_placed(word: &[u8], at: AtPlace) {
     tell(word);
     tell_number(at.ticket as u64);
     tell_number(at.offset as u64);
+    tell_number(at.place as u64);
+    tell_end();
+}
+
+// 1, 2, 3: a field is no such value; 4: a result is beyond the bounds; 6: the line has no such field; 17, 18: the line's run has no
+// step above zero, or too many occurrences.
+fn tell_unreadable(at: At, number: u8) {
+    tell(b"unreadable");
+    tell_number(at.ticket as u64);
+    tell_number(at.offset as u64);
+    tell_number(number as u64);
+    tell_end();
 }
 
 fn tell_done(totals: Totals) {
@@ -47,20 +60,9 @@ fn tell_done(totals: Totals) {
 pub fn tell_turn(answer: TurnAnswer) {
     match answer {
         TurnAnswer::Idle => tell(b"idle\n"),
-        TurnAnswer::Hit(at) => {
-            tell_at(b"hit", at);
-            tell_end();
-        }
-        TurnAnswer::Miss(at) => {
-            tell_at(b"miss", at);
-            tell_end();
-        }
-        // 1, 2, 3: a field is no such value; 4: a result is beyond the bounds; 6: the line has no such field
-        TurnAnswer::Unreadable(at, refusal) => {
-            tell_at(b"unreadable", at);
-            tell_number(refusal.number as u64);
-            tell_end();
-        }
+        TurnAnswer::Hit(at) => tell_placed(b"hit", at),
+        TurnAnswer::Miss(at) => tell_placed(b"miss", at),
+        TurnAnswer::Unreadable(at, refusal) => tell_unreadable(at, refusal.number),
         TurnAnswer::Done(totals) => tell_done(totals),
         // 12, 11: not here, where the desk is sound and the timetable is the one that it was made for
         TurnAnswer::Refused(refusal) => tell_refused(refusal.number),

@@ -1,5 +1,5 @@
 -- What a desk has left to do, counted in turns: for each held seat those that it has left, and one for Done. A turn that serves a
--- seat makes that less, and it is never more than a full desk has over a timetable of empty lines.
+-- seat makes that less, and it is never more than 1,440 for each byte of the timetable and Done for each seat.
 use native.Mathlib.Omega.{arith}
 use mathlib.Core.Path.{_≡_, ap, _∙_}
 use mathlib.Core.Bool.{Bool, true, false}
@@ -8,6 +8,7 @@ use mathlib.Core.Logic.{⊎-elim}
 use Prim.Native.Nat.{ℕ, zero, suc, _+_, _*_, _≤_, _<_}
 use lib.ListN.{length, getD, set}
 use Rattle.basis.specs.Choice.{pick}
+use Rattle.run_times.specs.Occurrences.{mostOccurrences}
 use Rattle.desk_seat.specs.Bounds.{maxTimetable}
 use Rattle.desk_seat.specs.Files.{Files}
 use Rattle.desk_seat.specs.Serving.{serveOf}
@@ -41,10 +42,10 @@ served-less f s h =
     (λ l. omega (arith, free-left f (serveOf f s .seat) (off-free f s l), held-left f s h))
     (line-or-done f s)
 
-seat-bounded : (f : Files) (s : Seat) → length (f .timetable) ≤ maxTimetable → seatLeft f s ≤ maxTimetable + 1
+seat-bounded : (f : Files) (s : Seat) → length (f .timetable) ≤ maxTimetable → seatLeft f s ≤ mostOccurrences * maxTimetable + 1
 seat-bounded f s l = go (s .held)
   where
-    go : (b : Bool) → pick b (suc (turnsLeft f s)) 0 ≤ maxTimetable + 1
+    go : (b : Bool) → pick b (suc (turnsLeft f s)) 0 ≤ mostOccurrences * maxTimetable + 1
     go true = omega (arith, left-few f s)
     go false = omega arith
 
@@ -58,7 +59,7 @@ left-set f (s ∷ ss) (suc i) x z l = omega (arith, left-set f ss i x z (omega a
 seat-set : (f : Files) (d : Desk) (i : ℕ) (x : Seat) → i < length (d .seats) → seatsLeft f (set (d .seats) i x) + seatLeft f (seatAt d i) ≡ seatsLeft f (d .seats) + seatLeft f x
 seat-set f d i x l = left-set f (d .seats) i x _ l
 
-left-bounded : (f : Files) (ss : List Seat) → length (f .timetable) ≤ maxTimetable → seatsLeft f ss ≤ (maxTimetable + 1) * length ss
+left-bounded : (f : Files) (ss : List Seat) → length (f .timetable) ≤ maxTimetable → seatsLeft f ss ≤ (mostOccurrences * maxTimetable + 1) * length ss
 unfolding seatsLeft
 left-bounded f [] l = omega arith
 left-bounded f (s ∷ ss) l = omega (arith, seat-bounded f s l, left-bounded f ss l)
@@ -69,6 +70,6 @@ pub serving-less : (f : Files) (d h : Desk) (i : ℕ) → i < length (d .seats) 
 unfolding deskLeft
 serving-less f d h i l b e = rw e (omega (arith, seat-set f d i (serveOf f (seatAt d i) .seat) l, served-less f (seatAt d i) b))
 
-pub desk-bounded : (f : Files) (d : Desk) → length (f .timetable) ≤ maxTimetable → deskLeft f d ≤ (maxTimetable + 1) * length (d .seats)
+pub desk-bounded : (f : Files) (d : Desk) → length (f .timetable) ≤ maxTimetable → deskLeft f d ≤ (mostOccurrences * maxTimetable + 1) * length (d .seats)
 unfolding deskLeft
 desk-bounded f d l = left-bounded f (d .seats) l

@@ -1,5 +1,5 @@
--- The line of any turn of a sound desk fits the room for a line: it has a word and at most three numbers, of a ticket, an
--- offset or count, and a refusal. Open's has one.
+-- The line of any turn of a sound desk fits the room for a line: it has a word, a ticket and two numbers, neither greater than a
+-- count can be. Open's has one number.
 use native.Mathlib.Omega.{arith}
 use mathlib.Core.Path.{_≡_, refl, sym}
 use mathlib.Core.Bool.{Bool, true, false, true≢false}
@@ -13,19 +13,25 @@ use Rattle.basis.specs.Choice.{pick}
 use Rattle.basis.specs.Answer.{Answer, gives, refuses}
 use Rattle.basis.specs.Letters.{bytes}
 use Rattle.timetable.specs.Lines.{newline, lineAt}
+use Rattle.value_instants.specs.Ticks.{utc}
 use Rattle.numerals.specs.Writing.{decimal}
-use Rattle.value.specs.Refusals.{noSeat, notSound, noMoreTickets}
+use Rattle.value.specs.Refusals.{noSeat, notSound, noMoreTickets, tooMany}
+use Rattle.run_times.specs.Occurrences.{mostOccurrences}
+use Rattle.run_cases.specs.Cases.{Case, rowCase, missCase, refusalCase, caseAt}
+use Rattle.run_cases.proofs.Refusals.{refusals-at-line}
 use Rattle.condition.proofs.Readable.{Readable, accepted-readable}
-use Rattle.condition_parts.proofs.Numbers.{atLine}
-use Rattle.desk_seat.specs.Bounds.{maxTimetable}
+use Rattle.condition_parts.specs.Numbers.{atRow}
+use Rattle.desk_seat.specs.Bounds.{maxTimetable, maxCount}
 use Rattle.desk_seat.specs.Files.{Files}
 use Rattle.desk_seat.specs.Request.{Request}
-use Rattle.desk_seat.specs.Conditions.{Result, hit, miss, unreadable, checkOf}
+use Rattle.desk_seat.specs.Conditions.{Result, hit, miss, unreadable, accepted, checkOf, resultAt}
 use Rattle.desk_seat.specs.Seat.{conditionOf}
-use Rattle.desk_seat.specs.Serving.{serveOf, judgedAs, seatResult, afterLine}
+use Rattle.desk_seat.specs.Serving.{casesAt, caseResult, serveOf, judgedAs, seatResult, onwardFrom}
 use Rattle.desk_seat.specs.declared.Seat.{Seat}
+use Rattle.desk_seat.specs.declared.Spot.{Spot}
 use Rattle.desk_seat.proofs.Soundness.{Servable}
 use Rattle.desk_seat.proofs.Serving.{line-or-done, serve-line, serve-done}
+use Rattle.value_instants.proofs.Instants.{utc-good}
 use Rattle.desk.specs.Bounds.{seatCount, lastTicket}
 use Rattle.desk.specs.Seats.{firstFrom}
 use Rattle.desk.specs.Soundness.{soundOf}
@@ -33,7 +39,7 @@ use Rattle.desk.specs.Desk.{openOf}
 use Rattle.desk.specs.declared.Desk.{Desk}
 use Rattle.desk_laws.proofs.OwnNumbers.{own-low}
 use Rattle.output_lines.specs.Text.{numbers, lineWith, refusedLine, openLine, turnLine, lineRoom}
-use Rattle.output_lines.proofs.Widths.{ten-digits, five-digits}
+use Rattle.output_lines.proofs.Widths.{ten-digits, eight-digits}
 
 line-length : (w ns : List ℕ) → length (lineWith w ns) ≡ length w + length (numbers ns) + 1
 unfolding lineWith
@@ -47,12 +53,9 @@ numbers-length : (n : ℕ) (ns : List ℕ) → length (numbers (n ∷ ns)) ≡ 1
 unfolding numbers
 numbers-length n ns = omega (arith, length-append (decimal n) (numbers ns))
 
-two-fit : (w : List ℕ) (a b : ℕ) → length w ≤ 10 → a ≤ lastTicket → b ≤ maxTimetable → length (lineWith w (a ∷ b ∷ [])) ≤ lineRoom
-two-fit w a b l la lb = omega (arith, line-length w (a ∷ b ∷ []), numbers-length a (b ∷ []), numbers-length b [], no-numbers, ten-digits a la, five-digits b lb)
-
-three-fit : (w : List ℕ) (a b c : ℕ) → length w ≤ 10 → a ≤ lastTicket → b ≤ maxTimetable → c ≤ maxTimetable → length (lineWith w (a ∷ b ∷ c ∷ [])) ≤ lineRoom
+three-fit : (w : List ℕ) (a b c : ℕ) → length w ≤ 10 → a ≤ lastTicket → b ≤ maxCount → c ≤ maxCount → length (lineWith w (a ∷ b ∷ c ∷ [])) ≤ lineRoom
 three-fit w a b c l la lb lc =
-    omega (arith, line-length w (a ∷ b ∷ c ∷ []), numbers-length a (b ∷ c ∷ []), numbers-length b (c ∷ []), numbers-length c [], no-numbers, ten-digits a la, five-digits b lb, five-digits c lc)
+    omega (arith, line-length w (a ∷ b ∷ c ∷ []), numbers-length a (b ∷ c ∷ []), numbers-length b (c ∷ []), numbers-length c [], no-numbers, ten-digits a la, eight-digits b lb, eight-digits c lc)
 
 one-fits : (w : List ℕ) (a : ℕ) → length w ≤ 10 → a ≤ lastTicket → length (lineWith w (a ∷ [])) ≤ lineRoom
 one-fits w a l la = omega (arith, line-length w (a ∷ []), numbers-length a [], no-numbers, ten-digits a la)
@@ -60,11 +63,11 @@ one-fits w a l la = omega (arith, line-length w (a ∷ []), numbers-length a [],
 pub idle-fits : length (lineWith (bytes "idle") []) ≤ lineRoom
 idle-fits = let z = leb-true (length (bytes "idle")) 10 refl in omega (arith, line-length (bytes "idle") [], no-numbers)
 
--- the numbers that a line can have are small
-number-small : (n : ℕ) → atLine n ≡ true → n ≤ maxTimetable
+-- the numbers that a row's result can have are small
+number-small : (n : ℕ) → atRow n ≡ true → n ≤ tooMany
 number-small n h = go (eqb n 1) (eqb n 2) (eqb n 3) (eqb n 4) (eqb n 6) refl refl refl refl refl h
   where
-    go : (a b c d e : Bool) → eqb n 1 ≡ a → eqb n 2 ≡ b → eqb n 3 ≡ c → eqb n 4 ≡ d → eqb n 6 ≡ e → pick a true (pick b true (pick c true (pick d true e))) ≡ true → n ≤ maxTimetable
+    go : (a b c d e : Bool) → eqb n 1 ≡ a → eqb n 2 ≡ b → eqb n 3 ≡ c → eqb n 4 ≡ d → eqb n 6 ≡ e → pick a true (pick b true (pick c true (pick d true e))) ≡ true → n ≤ tooMany
     go true b c d e p q r s z k = let w = eqb-true n 1 p in omega arith
     go false true c d e p q r s z k = let w = eqb-true n 2 q in omega arith
     go false false true d e p q r s z k = let w = eqb-true n 3 r in omega arith
@@ -72,18 +75,41 @@ number-small n h = go (eqb n 1) (eqb n 2) (eqb n 3) (eqb n 4) (eqb n 6) refl ref
     go false false false false true p q r s z k = let w = eqb-true n 6 z in omega arith
     go false false false false false p q r s z k = absurd (true≢false (sym k))
 
-judged-fits : (next : ℕ) (s : Seat) (v : Result) → Readable v → s .ticket ≤ lastTicket → s .offset ≤ maxTimetable
-    → length (turnLine (gives (judgedAs next s v .answer))) ≤ lineRoom
-judged-fits next s hit r k o = two-fit (bytes "hit") (s .ticket) (s .offset) (leb-true (length (bytes "hit")) 10 refl) k o
-judged-fits next s miss r k o = two-fit (bytes "miss") (s .ticket) (s .offset) (leb-true (length (bytes "miss")) 10 refl) k o
-judged-fits next s (unreadable n) r k o = three-fit (bytes "unreadable") (s .ticket) (s .offset) n (leb-true (length (bytes "unreadable")) 10 refl) k o (number-small n r)
+-- and those of a case that a line stands for
+abbrev Small : Result → Type 0
+Small hit = Unit {0}
+Small miss = Unit {0}
+Small (unreadable n) = n ≤ tooMany
+
+readable-small : (v : Result) → Readable v → Small v
+readable-small hit r = tt
+readable-small miss r = tt
+readable-small (unreadable n) r = number-small n r
+
+case-small : (text : List ℕ) (x : Case) → accepted text ≡ true → ((n : ℕ) → x ≡ refusalCase n → n ≤ tooMany) → Small (caseResult text x)
+case-small text (rowCase row) h few = readable-small (resultAt utc text row) (accepted-readable utc text row utc-good h)
+case-small text missCase h few = tt
+case-small text (refusalCase n) h few = few n refl
+
+seat-small : (f : Files) (s : Seat) → accepted (conditionOf s) ≡ true → Small (seatResult f s)
+seat-small f s h =
+    case-small (conditionOf s) (caseAt (casesAt f (s .offset)) (s .place)) h
+    (refusals-at-line utc (lineAt (f .timetable) (s .offset) .text) (s .place))
+
+judged-fits : (to : Spot) (s : Seat) (v : Result) → Small v → s .ticket ≤ lastTicket → s .offset ≤ maxTimetable → s .place < mostOccurrences
+    → length (turnLine (gives (judgedAs to s v .answer))) ≤ lineRoom
+judged-fits to s hit r k o p = three-fit (bytes "hit") (s .ticket) (s .offset) (s .place) (leb-true (length (bytes "hit")) 10 refl) k (omega arith) (omega arith)
+judged-fits to s miss r k o p = three-fit (bytes "miss") (s .ticket) (s .offset) (s .place) (leb-true (length (bytes "miss")) 10 refl) k (omega arith) (omega arith)
+judged-fits to s (unreadable n) r k o p =
+    three-fit (bytes "unreadable") (s .ticket) (s .offset) n (leb-true (length (bytes "unreadable")) 10 refl) k (omega arith) (omega (arith, r))
 
 pub served-fits : (f : Files) (long : ℕ) (s : Seat) → Servable long s → long ≤ maxTimetable → s .ticket ≤ lastTicket
     → length (turnLine (gives (serveOf f s .answer))) ≤ lineRoom
 served-fits f long s v l k =
     let w = v .within in
+    let p = v .place in
     let c = v .counts in
-    ⊎-elim (λ b. rw (serve-line f s b) (judged-fits (afterLine f s) s (seatResult f s) (accepted-readable (conditionOf s) (lineAt (f .timetable) (s .offset) .text) (v .good)) k (omega arith)))
+    ⊎-elim (λ b. rw (serve-line f s b) (judged-fits (onwardFrom f s) s (seatResult f s) (seat-small f s (v .good)) k (omega arith) p))
     (λ b. rw (serve-done f s b) (three-fit (bytes "done") (s .ticket) (s .hits) (s .unreadable) (leb-true (length (bytes "done")) 10 refl) k (omega arith) (omega arith)))
     (line-or-done f s)
 

@@ -49,8 +49,8 @@ pub record Works (f : Files) (d : Desk) : Type 0 where
 
 not-idle : (a : Turned) → 1 ≤ ticketOf a → isIdle (gives a) ≡ false
 not-idle idle l = absurd (omega arith)
-not-idle (hitAt k o) l = refl
-not-idle (missAt k o) l = refl
+not-idle (hitAt k o p) l = refl
+not-idle (missAt k o p) l = refl
 not-idle (unreadableAt k o n) l = refl
 not-idle (doneWith k h u) l = refl
 

@@ -1,4 +1,4 @@
--- A line is written part by part: what it holds after a part is added, and the lines of no, one, two and three numbers.
+-- A line is written part by part: what it holds after a part is added, and the lines of no, one and three numbers.
 use mathlib.Core.Path.{_≡_, ap, sym, _∙_}
 use mathlib.Core.List.{List, [], _∷_, _++_, append-assoc, append-nil}
 use Prim.Native.Nat.{ℕ, _+_, _≤_}
@@ -47,11 +47,6 @@ no-number w h a = and-then h a
 pub one-number : {t r : LineText} (w : List ℕ) (a : ℕ) → Holds (t .bytes) (t .len) (w ++ (tab ∷ decimal a)) → Grown t r (newline ∷ []) → Holds (r .bytes) (r .len) (lineWith w (a ∷ []))
 unfolding lineWith numbers
 one-number w a h e = same-bytes (and-then h e) (simp (append-assoc, append-nil))
-
-pub two-numbers : {t u r : LineText} (w : List ℕ) (a b : ℕ) → Holds (t .bytes) (t .len) (w ++ (tab ∷ decimal a))
-    → Grown t u (tab ∷ decimal b) → Grown u r (newline ∷ []) → Holds (r .bytes) (r .len) (lineWith w (a ∷ b ∷ []))
-unfolding lineWith numbers
-two-numbers w a b h x e = same-bytes (and-then (and-then h x) e) (simp (append-assoc, append-nil))
 
 pub three-numbers : {t u v r : LineText} (w : List ℕ) (a b c : ℕ) → Holds (t .bytes) (t .len) (w ++ (tab ∷ decimal a))
     → Grown t u (tab ∷ decimal b) → Grown u v (tab ∷ decimal c) → Grown v r (newline ∷ []) → Holds (r .bytes) (r .len) (lineWith w (a ∷ b ∷ c ∷ []))

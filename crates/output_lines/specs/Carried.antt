@@ -2,10 +2,11 @@
 -- line says is Text.antt.
 use mathlib.Core.Path.{_≡_}
 use mathlib.Core.List.{List, _++_}
-use Prim.Native.Nat.{ℕ, _+_, _≤_}
+use Prim.Native.Nat.{ℕ, _+_, _≤_, _<_}
 use lib.ListN.{length, take}
 use Rattle.basis.specs.Answer.{Answer, gives, refuses}
-use Rattle.desk_seat.specs.Bounds.{maxTimetable}
+use Rattle.run_times.specs.Occurrences.{mostOccurrences}
+use Rattle.desk_seat.specs.Bounds.{maxTimetable, maxCount}
 use Rattle.desk_seat.specs.Answers.{Turned, idle, hitAt, missAt, unreadableAt, doneWith}
 use Rattle.output_lines.specs.declared.LineText.{LineText}
 
@@ -18,11 +19,11 @@ pub record Grown (t r : LineText) (w : List ℕ) : Type 0 where
   pub text : lineIn r ≡ lineIn t ++ w
   pub more : r .len ≡ t .len + length w
 
--- the offset and the counts of an answer are within a timetable's bound, as those of a sound desk are
+-- the offset, the place and the counts of an answer are within their bounds, as those of a sound desk are
 abbrev pub Within : Answer Turned → Type 0
 Within (gives idle) = Unit {0}
-Within (gives (hitAt ticket offset)) = offset ≤ maxTimetable
-Within (gives (missAt ticket offset)) = offset ≤ maxTimetable
+Within (gives (hitAt ticket offset place)) = (offset ≤ maxTimetable) × (place < mostOccurrences)
+Within (gives (missAt ticket offset place)) = (offset ≤ maxTimetable) × (place < mostOccurrences)
 Within (gives (unreadableAt ticket offset n)) = offset ≤ maxTimetable
-Within (gives (doneWith ticket hits bad)) = (hits ≤ maxTimetable) × (bad ≤ maxTimetable)
+Within (gives (doneWith ticket hits bad)) = (hits ≤ maxCount) × (bad ≤ maxCount)
 Within (refuses n) = Unit {0}

@@ -1,5 +1,6 @@
 -- Document 01, "The desk program": "Output lines, tab between fields: `open` ticket; `refused` number; `hit` or `miss` ticket
--- offset; `unreadable` ticket offset number; `done` ticket hits unreadables; last `idle`." Each line ends with byte 10.
+-- offset; `unreadable` ticket offset number; `done` ticket hits unreadables; last `idle`." Document 02, b: "Hit and Miss gain the
+-- seat's place". Each line ends with byte 10.
 use mathlib.Core.List.{List, [], _∷_, _++_}
 use Prim.Native.Nat.{ℕ}
 use Rattle.basis.specs.Answer.{Answer, gives, refuses}
@@ -29,8 +30,8 @@ openLine (refuses n) = refusedLine n
 -- the line of what a turn answers
 abbrev pub turnLine : Answer Turned → List ℕ
 turnLine (gives idle) = lineWith (bytes "idle") []
-turnLine (gives (hitAt ticket offset)) = lineWith (bytes "hit") (ticket ∷ offset ∷ [])
-turnLine (gives (missAt ticket offset)) = lineWith (bytes "miss") (ticket ∷ offset ∷ [])
+turnLine (gives (hitAt ticket offset place)) = lineWith (bytes "hit") (ticket ∷ offset ∷ place ∷ [])
+turnLine (gives (missAt ticket offset place)) = lineWith (bytes "miss") (ticket ∷ offset ∷ place ∷ [])
 turnLine (gives (unreadableAt ticket offset n)) = lineWith (bytes "unreadable") (ticket ∷ offset ∷ n ∷ [])
 turnLine (gives (doneWith ticket hits bad)) = lineWith (bytes "done") (ticket ∷ hits ∷ bad ∷ [])
 turnLine (refuses n) = refusedLine n

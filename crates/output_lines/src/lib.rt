@@ -10,10 +10,10 @@ ghost use Rattle.timetable.specs.Lines.{newline};
 ghost use Rattle.numerals.specs.Writing.{decimal};
 ghost use Rattle.numerals.specs.Carried.{Holds};
 ghost use Rattle.numerals.specs.Writing as its;
-ghost use Rattle.desk_seat.specs.Bounds.{maxTimetable};
+ghost use Rattle.desk_seat.specs.Bounds.{maxCount};
 ghost use Rattle.desk_seat.specs.Answers.{turnMeaning};
 ghost use Rattle.desk.specs.Answers.{openMeaning};
-ghost use Rattle.output_lines.specs.Text.{refusedLine, openLine, turnLine, lineRoom};
+ghost use Rattle.output_lines.specs.Text.{lineWith, refusedLine, openLine, turnLine, lineRoom};
 ghost use Rattle.output_lines.specs.Carried.{lineIn, Grown, Within};
 
 const TAB: u8 = b'\t';
@@ -108,18 +108,10 @@ fn begun(w: &[u8], n: u32) -> LineText
     number(word(w), n as u64)
 }
 
-// A tab and an offset or a count.
+// A tab and a number that may be a count.
 fn counted(t: LineText, n: usize) -> LineText
-    requires { ⌜ (n ≤ maxTimetable) × (t .len + 6 ≤ lineRoom) ⌝ }
-    ensures { λ r. ⌜ (Grown t r (tab ∷ decimal n)) × (r .len ≤ t .len + 6) ⌝ }
-{
-    number(t, n as u64)
-}
-
-// A tab and the number of a refusal.
-fn numbered(t: LineText, n: u8) -> LineText
-    requires { ⌜ t .len + 4 ≤ lineRoom ⌝ }
-    ensures { λ r. ⌜ (Grown t r (tab ∷ decimal n)) × (r .len ≤ t .len + 4) ⌝ }
+    requires { ⌜ (n ≤ maxCount) × (t .len + 9 ≤ lineRoom) ⌝ }
+    ensures { λ r. ⌜ (Grown t r (tab ∷ decimal n)) × (r .len ≤ t .len + 9) ⌝ }
 {
     number(t, n as u64)
 }
@@ -146,22 +138,28 @@ pub fn open_line(answer: OpenAnswer) -> LineText
     }
 }
 
-// The longest has 32 bytes, an unreadable line with a number of three digits: it fits.
+// The line of an answer to a ticket: its word, the ticket, and two numbers more.
+fn ticket_line(w: &[u8], ticket: u32, a: usize, b: usize) -> LineText
+    requires { ⌜ (length (now w) ≤ 10) × (a ≤ maxCount) × (b ≤ maxCount) ⌝ }
+    ensures { λ r. ⌜ Holds (r .bytes) (r .len) (lineWith (now (w .entry)) (ticket ∷ a ∷ b ∷ [])) ⌝ }
+{
+    ended(counted(counted(begun(w, ticket), a), b))
+}
+
+// The longest has 34 bytes, that of Done with two counts of eight digits: it fits.
 pub fn turn_line(answer: TurnAnswer) -> LineText
     requires { ⌜ Within (turnMeaning answer) ⌝ }
     ensures { λ r. ⌜ Holds (r .bytes) (r .len) (turnLine (turnMeaning answer)) ⌝ }
 {
     match answer {
         TurnAnswer::Idle => ended(word(b"idle")),
-        TurnAnswer::Hit(at) => ended(counted(begun(b"hit", at.ticket), at.offset)),
-        TurnAnswer::Miss(at) => ended(counted(begun(b"miss", at.ticket), at.offset)),
+        TurnAnswer::Hit(at) => ticket_line(b"hit", at.ticket, at.offset, at.place as usize),
+        TurnAnswer::Miss(at) => ticket_line(b"miss", at.ticket, at.offset, at.place as usize),
         TurnAnswer::Unreadable(at, refusal) => {
-            let placed = counted(begun(b"unreadable", at.ticket), at.offset);
-            ended(numbered(placed, refusal.number))
+            ticket_line(b"unreadable", at.ticket, at.offset, refusal.number as usize)
         }
         TurnAnswer::Done(totals) => {
-            let hits = counted(begun(b"done", totals.ticket), totals.hits);
-            ended(counted(hits, totals.unreadable))
+            ticket_line(b"done", totals.ticket, totals.hits, totals.unreadable)
         }
         TurnAnswer::Refused(refusal) => refused_line(refusal.number),
     }

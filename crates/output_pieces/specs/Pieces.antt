@@ -12,6 +12,7 @@ use Rattle.basis.specs.Choice.{pick}
 use Rattle.basis.specs.Answer.{Answer, gives, refuses}
 use Rattle.timetable.specs.Lines.{Line, lineAt, nextLine, offsetLines}
 use Rattle.value.specs.Refusals.{badCondition, wrongTimetable}
+use Rattle.run_times.specs.Occurrences.{mostOccurrences}
 use Rattle.desk_seat.specs.Bounds.{maxTimetable}
 use Rattle.desk_seat.specs.Files.{Files}
 use Rattle.desk_seat.specs.Request.{Request, asking}
@@ -110,9 +111,9 @@ untilIdle f zero d = d
 untilIdle f (suc n) d =
     pick (turnsPiece f d roomSize .more) (untilIdle f n (turnsPiece f d roomSize .desk)) (turnsPiece f d roomSize .desk)
 
--- as many turns as a full desk has over a timetable of empty lines, and one for Idle
+-- no more turns than these: of each seat of a full desk 1,440 for each byte of the timetable and one for Done, and one for Idle
 abbrev pub mostTurns : ℕ
-mostTurns = seatCount * (maxTimetable + 1) + 1
+mostTurns = seatCount * (mostOccurrences * maxTimetable + 1) + 1
 
 -- the conditions opened, then the turns taken
 abbrev pub servedAll : Files → List ℕ → Desk → Desk

@@ -1,17 +1,19 @@
--- A sound desk's answers have offsets and counts within a timetable's bound, so that their lines fit the text that is
+-- A sound desk's answers have offsets, places and counts within their bounds, so that their lines fit the text that is
 -- written; and what its turn hands back is what a turn of its own would.
 use mathlib.Core.Path.{_≡_, sym, ap, _∙_}
 use mathlib.Core.Bool.{true}
 use mathlib.Core.Logic.{⊎-elim}
-use Prim.Native.Nat.{ℕ, _+_, _%_, _≤_}
+use Prim.Native.Nat.{ℕ, _+_, _%_, _≤_, _<_}
 use native.Mathlib.Omega.{arith}
 use Rattle.basis.specs.Answer.{gives}
+use Rattle.run_times.specs.Occurrences.{mostOccurrences}
 use Rattle.desk_seat.specs.Files.{Files}
 use Rattle.desk_seat.specs.Bounds.{maxTimetable}
 use Rattle.desk_seat.specs.Conditions.{Result, hit, miss, unreadable}
 use Rattle.desk_seat.specs.Answers.{Turned, turnMeaning}
-use Rattle.desk_seat.specs.Serving.{afterLine, seatResult, judgedAs, serveOf}
+use Rattle.desk_seat.specs.Serving.{onwardFrom, seatResult, judgedAs, serveOf}
 use Rattle.desk_seat.specs.declared.Seat.{Seat}
+use Rattle.desk_seat.specs.declared.Spot.{Spot}
 use Rattle.desk_seat.proofs.Soundness.{Servable, servable}
 use Rattle.desk_seat.proofs.Serving.{line-or-done, serve-line, serve-done}
 use Rattle.desk.specs.Bounds.{seatCount}
@@ -24,16 +26,17 @@ use Rattle.desk_laws.proofs.Sound.{Sound}
 use Rattle.desk_laws.proofs.Steps.{turn-cases, turn-next}
 use Rattle.output_lines.specs.Carried.{Within}
 
-judged-within : (next : ℕ) (s : Seat) (v : Result) → s .offset ≤ maxTimetable → Within (gives (judgedAs next s v .answer))
-judged-within next s hit l = l
-judged-within next s miss l = l
-judged-within next s (unreadable n) l = l
+judged-within : (to : Spot) (s : Seat) (v : Result) → s .offset ≤ maxTimetable → s .place < mostOccurrences → Within (gives (judgedAs to s v .answer))
+judged-within to s hit l p = (l, p)
+judged-within to s miss l p = (l, p)
+judged-within to s (unreadable n) l p = l
 
 served-within : (f : Files) (long : ℕ) (s : Seat) → Servable long s → long ≤ maxTimetable → Within (gives (serveOf f s .answer))
 served-within f long s v l =
     let w = v .within in
+    let p = v .place in
     let c = v .counts in
-    ⊎-elim (λ b. rw (serve-line f s b) (judged-within (afterLine f s) s (seatResult f s) (omega arith)))
+    ⊎-elim (λ b. rw (serve-line f s b) (judged-within (onwardFrom f s) s (seatResult f s) (omega arith) p))
     (λ b. rw (serve-done f s b) (omega arith, omega arith))
     (line-or-done f s)
 

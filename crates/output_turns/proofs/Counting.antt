@@ -24,8 +24,8 @@ line-with-some w ns = omega (arith, length-append w (numbers ns ++ (newline ∷ 
 
 pub line-some : (a : Answer Turned) → 1 ≤ length (turnLine a)
 line-some (gives idle) = line-with-some _ _
-line-some (gives (hitAt k o)) = line-with-some _ _
-line-some (gives (missAt k o)) = line-with-some _ _
+line-some (gives (hitAt k o p)) = line-with-some _ _
+line-some (gives (missAt k o p)) = line-with-some _ _
 line-some (gives (unreadableAt k o n)) = line-with-some _ _
 line-some (gives (doneWith k h u)) = line-with-some _ _
 line-some (refuses n) = line-with-some _ _

@@ -13,9 +13,10 @@ use Rattle.desk_seat.specs.Bounds.{maxTimetable}
 use Rattle.desk_seat.specs.Conditions.{Result, hit, miss, unreadable}
 use Rattle.desk_seat.specs.Answers.{turnMeaning}
 use Rattle.desk_seat.specs.Soundness.{seatSound}
-use Rattle.desk_seat.specs.Serving.{afterLine, seatResult, judgedAs, serveOf}
+use Rattle.desk_seat.specs.Serving.{onwardFrom, seatResult, judgedAs, serveOf}
 use Rattle.desk_seat.specs.Carried.{Steps}
 use Rattle.desk_seat.specs.declared.Seat.{Seat}
+use Rattle.desk_seat.specs.declared.Spot.{Spot}
 use Rattle.desk_seat.specs.declared.AfterServing.{AfterServing}
 use Rattle.desk_seat.specs.declared.TurnAnswer.the-variants as TV
 use Rattle.desk_seat.proofs.Serving.{line-or-done, serve-line, serve-done}
@@ -70,14 +71,14 @@ module _ (d : Desk) where
 abbrev pub stored : Desk → ℕ → AfterServing → AfterTurn
 stored d i x = record { desk = replaced d i (x .seat) i (d .issued); answer = x .answer }
 
-judged-some : (next : ℕ) (s : Seat) (v : Result) → isIdle (gives (judgedAs next s v .answer)) ≡ false
-judged-some next s hit = refl
-judged-some next s miss = refl
-judged-some next s (unreadable n) = refl
+judged-some : (to : Spot) (s : Seat) (v : Result) → isIdle (gives (judgedAs to s v .answer)) ≡ false
+judged-some to s hit = refl
+judged-some to s miss = refl
+judged-some to s (unreadable n) = refl
 
 served-some : (f : Files) (s : Seat) → isIdle (gives (serveOf f s .answer)) ≡ false
 served-some f s =
-    ⊎-elim (λ b. rw (serve-line f s b) (judged-some (afterLine f s) s (seatResult f s))) (λ b. rw (serve-done f s b) refl)
+    ⊎-elim (λ b. rw (serve-line f s b) (judged-some (onwardFrom f s) s (seatResult f s))) (λ b. rw (serve-done f s b) refl)
     (line-or-done f s)
 
 module _ (f : Files) (d : Desk) (j : ℕ) (at : Found d j) where

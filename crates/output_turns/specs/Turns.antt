@@ -24,8 +24,8 @@ use Rattle.output_turns.specs.declared.AfterTurns.{AfterTurns}
 -- whether an answer is Idle
 abbrev pub isIdle : Answer Turned → Bool
 isIdle (gives idle) = true
-isIdle (gives (hitAt k o)) = false
-isIdle (gives (missAt k o)) = false
+isIdle (gives (hitAt k o p)) = false
+isIdle (gives (missAt k o p)) = false
 isIdle (gives (unreadableAt k o n)) = false
 isIdle (gives (doneWith k h u)) = false
 isIdle (refuses n) = false

@@ -22,6 +22,9 @@ enum-known-number-5 c = search needs
 enum-known-number-6 : tie.Need-enum-known-number-6
 enum-known-number-6 c = search needs
 
+enum-known-number-7 : tie.Need-enum-known-number-7
+enum-known-number-7 c = search needs
+
 returns : tie.Need-returns
 returns c = ap (seatWith (c .before .before .before .args .seat)) (sym (c .before .number .given .1))
 
@@ -40,6 +43,9 @@ returns-5 c = ap (seatWith (c .before .before .before .args .seat)) (sym (c .bef
 returns-6 : tie.Need-returns-6
 returns-6 c = ap (seatWith (c .before .before .before .args .seat)) (sym (c .before .number6 .given .1))
 
+returns-7 : tie.Need-returns-7
+returns-7 c = ap (seatWith (c .before .before .before .args .seat)) (sym (c .before .number7 .given .1))
+
 pub with-number-spec : {M : Type 1} → statement M
 with-number-spec =
     tie.close
@@ -50,9 +56,11 @@ with-number-spec =
     enum-known-number-4
     enum-known-number-5
     enum-known-number-6
+    enum-known-number-7
     returns
     returns-2
     returns-3
     returns-4
     returns-5
-    returns-6)
+    returns-6
+    returns-7)
