@@ -1,8 +1,9 @@
-//! Document 01, "Timetable, seats and turns".
+//! Document 01, "Timetable, seats and turns", with the runs of document 02, letter b.
 
 use crate::conditions::tree::Expression;
 use crate::conditions::{accept, evaluation::holds, MOST_BYTES};
 use crate::lines::fields;
+use crate::runs::{Run, MOST_OCCURRENCES};
 use crate::{Refusal, ALL_SEATS_HELD, NOT_SOUND, NO_GRAMMAR, NO_SUCH_TICKET, NO_TICKET_LEFT, WRONG_LENGTH};
 
 pub const SEATS: usize = 16;
@@ -20,6 +21,8 @@ pub struct Seat {
     pub offset: usize,
     pub hits: usize,
     pub unreadable: usize,
+    /// Which occurrence of the line at the offset is the next one.
+    pub place: u32,
     /// How many of the bytes below are the condition.
     pub condition_length: usize,
     pub condition: [u8; MOST_BYTES],
@@ -36,8 +39,8 @@ pub struct Desk {
 
 #[derive(Clone, Copy, PartialEq, Eq, Debug)]
 pub enum Turn {
-    Hit { ticket: u32, offset: usize },
-    Miss { ticket: u32, offset: usize },
+    Hit { ticket: u32, offset: usize, place: u32 },
+    Miss { ticket: u32, offset: usize, place: u32 },
     Unreadable { ticket: u32, offset: usize, number: Refusal },
     Done { ticket: u32, hits: usize, unreadable: usize },
     Idle,
@@ -70,7 +73,8 @@ impl Desk {
         (1..=self.last_issued).contains(&seat.ticket)
             && seat.tree().is_ok()
             && seat.offset <= self.length
-            && seat.hits.checked_add(seat.unreadable).is_some_and(|counted| counted <= seat.offset)
+            && (seat.place as usize) < MOST_OCCURRENCES
+            && seat.counts_fit()
     }
 
     /// Gives the ticket.
@@ -111,24 +115,33 @@ impl Desk {
     /// A turn of a desk that is known to be sound and of this timetable's length.
     pub(crate) fn serve(&mut self, timetable: &[u8]) -> Turn {
         let mut round = (1..=SEATS).map(|step| (self.last_served + step) % SEATS);
-        let Some(place) = round.find(|&place| self.seats[place].held) else {
+        let Some(number) = round.find(|&number| self.seats[number].held) else {
             return Turn::Idle;
         };
-        self.last_served = place;
-        let seat = &mut self.seats[place];
+        self.last_served = number;
+        let seat = &mut self.seats[number];
         if seat.offset == timetable.len() {
             let done = Turn::Done { ticket: seat.ticket, hits: seat.hits, unreadable: seat.unreadable };
             *seat = Seat::default();
             return done;
         }
-        seat.judge_next_line(timetable)
+        seat.judge_next(timetable)
     }
 }
 
 impl Default for Seat {
     /// A free seat of a fresh desk.
     fn default() -> Seat {
-        Seat { held: false, ticket: 0, offset: 0, hits: 0, unreadable: 0, condition_length: 0, condition: [0; MOST_BYTES] }
+        Seat {
+            held: false,
+            ticket: 0,
+            offset: 0,
+            hits: 0,
+            unreadable: 0,
+            place: 0,
+            condition_length: 0,
+            condition: [0; MOST_BYTES],
+        }
     }
 }
 
@@ -145,23 +158,59 @@ impl Seat {
         accept(self.condition.get(..self.condition_length).ok_or(NO_GRAMMAR)?)
     }
 
-    fn judge_next_line(&mut self, timetable: &[u8]) -> Turn {
-        let (ticket, offset) = (self.ticket, self.offset);
+    /// Whether the two counts are at most what the lines before can stand for, and the places before in this one. The
+    /// numbers may be any, so they are taken where there is room for all of them.
+    fn counts_fit(&self) -> bool {
+        let most = MOST_OCCURRENCES as u128 * self.offset as u128 + u128::from(self.place);
+        self.hits as u128 + self.unreadable as u128 <= most
+    }
+
+    /// One turn at the line that the offset stands at; the timetable does not end there.
+    fn judge_next(&mut self, timetable: &[u8]) -> Turn {
+        let (ticket, offset, place) = (self.ticket, self.offset, self.place);
         let rest = &timetable[offset..];
         let line = rest.split(|&byte| byte == b'\n').next().unwrap_or(rest);
-        let ended = line.len() < rest.len();
-        self.offset += line.len() + usize::from(ended);
-        let judged = self.tree().and_then(|tree| holds(&tree, &fields(line)));
+        let fields = fields(line);
+        let run = Run::of(&fields);
+        let judged = run.and_then(|run| self.judge(run, &fields));
+        if run.is_ok_and(|run| (place as usize) + 1 < places(run)) {
+            self.place += 1;
+        } else {
+            let ended = line.len() < rest.len();
+            self.offset += line.len() + usize::from(ended);
+            self.place = 0;
+        }
         match judged {
             Ok(true) => {
                 self.hits += 1;
-                Turn::Hit { ticket, offset }
+                Turn::Hit { ticket, offset, place }
             }
-            Ok(false) => Turn::Miss { ticket, offset },
+            Ok(false) => Turn::Miss { ticket, offset, place },
             Err(number) => {
                 self.unreadable += 1;
                 Turn::Unreadable { ticket, offset, number }
             }
         }
     }
+
+    /// A good line at the seat's place. One that does not reach the place is missed, whatever the condition says.
+    fn judge(&self, run: Option<Run>, fields: &[&[u8]]) -> Result<bool, Refusal> {
+        let place = self.place as usize;
+        if place >= places(run) {
+            return Ok(false);
+        }
+        let tree = self.tree()?;
+        let Some(run) = run else {
+            return holds(&tree, fields);
+        };
+        let text = run.text_at(place);
+        let mut fields = fields.to_vec();
+        fields[1] = text.as_bytes();
+        holds(&tree, &fields)
+    }
+}
+
+/// How many places a good line has: a plain one has place 0 alone, an empty run has none.
+fn places(run: Option<Run>) -> usize {
+    run.map_or(1, |run| run.count)
 }

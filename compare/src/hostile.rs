@@ -8,6 +8,8 @@ use crate::{Refusal, NO_GRAMMAR, NO_ROOM};
 
 pub const MOST_EVENTS_BYTES: usize = 65_536;
 pub const MOST_ROOM: usize = 4_096;
+/// The greatest place that a seat's record holds.
+pub const MOST_PLACE: usize = 4_294_967_295;
 /// What stands in a lent room before anything is written.
 pub const UNWRITTEN: u8 = b'.';
 
@@ -100,16 +102,17 @@ impl<'a> Script<'a> {
     }
 
     fn set_seat(&mut self, rest: &[u8]) -> Result<String, Refusal> {
-        let (place, rest) = parted(rest);
+        let (seat, rest) = parted(rest);
         let (name, text) = parted(rest.ok_or(NO_GRAMMAR)?);
         let text = text.ok_or(NO_GRAMMAR)?;
-        let seat = &mut self.desk.seats[number(place, SEATS - 1)?];
+        let seat = &mut self.desk.seats[number(seat, SEATS - 1)?];
         match name {
             b"held" => seat.held = number(text, 1)? == 1,
             b"ticket" => seat.ticket = ticket(text)?,
             b"offset" => seat.offset = number(text, usize::MAX)?,
             b"hits" => seat.hits = number(text, usize::MAX)?,
             b"unreadable" => seat.unreadable = number(text, usize::MAX)?,
+            b"place" => seat.place = number(text, MOST_PLACE)? as u32,
             b"condition_length" => seat.condition_length = number(text, usize::MAX)?,
             b"condition" if text.len() <= MOST_BYTES => {
                 seat.condition = [0; MOST_BYTES];
@@ -147,10 +150,10 @@ fn ticket(text: &[u8]) -> Result<u32, Refusal> {
 
 fn shown(desk: &Desk) -> String {
     let mut output = format!("desk\t{}\t{}\t{}\n", desk.last_served, desk.length, desk.last_issued);
-    for (place, seat) in desk.seats.iter().enumerate().filter(|(_, seat)| **seat != Seat::default()) {
-        let Seat { held, ticket, offset, hits, unreadable, condition_length, condition } = seat;
+    for (at, seat) in desk.seats.iter().enumerate().filter(|(_, seat)| **seat != Seat::default()) {
+        let Seat { held, ticket, offset, hits, unreadable, place, condition_length, condition } = seat;
         let held = u8::from(*held);
-        output += &format!("seat\t{place}\t{held}\t{ticket}\t{offset}\t{hits}\t{unreadable}\t{condition_length}\t");
+        output += &format!("seat\t{at}\t{held}\t{ticket}\t{offset}\t{hits}\t{unreadable}\t{place}\t{condition_length}\t");
         let end = condition.iter().rposition(|&byte| byte != 0).map_or(0, |last| last + 1);
         output.extend(condition[..end].iter().map(|byte| format!("{byte:02x}")));
         output.push('\n');

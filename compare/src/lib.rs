@@ -1,5 +1,6 @@
-//! The timetable desk a second time, as an ordinary program written from document 01, docs/DECISIONS.md and
-//! docs/LINES.md alone. It shares no code with the proved programs and exists to be compared with them.
+//! The timetable desk a second time, as an ordinary program written from document 01, letter b of document 02,
+//! docs/DECISIONS.md and docs/LINES.md alone. It shares no code with the proved programs and exists to be compared with
+//! them.
 
 pub mod conditions;
 pub mod desk;
@@ -9,9 +10,10 @@ pub mod hostile;
 pub mod library;
 pub mod lines;
 pub mod programs;
+pub mod runs;
 pub mod values;
 
-/// A refusal number of document 01's table.
+/// A refusal number of document 01's table or of a later request.
 pub type Refusal = u8;
 
 pub const NO_SHAPE: Refusal = 1;
@@ -30,3 +32,5 @@ pub const NO_SUCH_TICKET: Refusal = 13;
 pub const NO_TICKET_LEFT: Refusal = 14;
 pub const NO_ROOM: Refusal = 15;
 pub const ARGUMENT_BEYOND_BOUNDS: Refusal = 16;
+pub const STEP_NOT_ABOVE_ZERO: Refusal = 17;
+pub const TOO_MANY_OCCURRENCES: Refusal = 18;

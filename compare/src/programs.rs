@@ -100,7 +100,8 @@ pub(crate) fn order_word(order: Ordering) -> &'static str {
     }
 }
 
-/// Judgements: the first field of each line is a condition, what follows its tab is the line that it is judged at.
+/// Judgements: the first field of each line is a condition, what follows its tab is the line that it is judged at, as
+/// it stands: the second field of a run line is the word itself.
 pub fn judgements(input: &[u8]) -> String {
     lines(&input[..input.len().min(MOST_CALLS_BYTES)]).into_iter().map(judged).collect()
 }
@@ -161,8 +162,8 @@ pub fn desk_runs(cases: &[u8], start_of: impl Fn(&[u8], usize) -> Vec<u8>) -> Ve
 /// The line that tells a turn's answer.
 pub fn turn_line(turn: Turn) -> String {
     match turn {
-        Turn::Hit { ticket, offset } => format!("hit\t{ticket}\t{offset}\n"),
-        Turn::Miss { ticket, offset } => format!("miss\t{ticket}\t{offset}\n"),
+        Turn::Hit { ticket, offset, place } => format!("hit\t{ticket}\t{offset}\t{place}\n"),
+        Turn::Miss { ticket, offset, place } => format!("miss\t{ticket}\t{offset}\t{place}\n"),
         Turn::Unreadable { ticket, offset, number } => format!("unreadable\t{ticket}\t{offset}\t{number}\n"),
         Turn::Done { ticket, hits, unreadable } => format!("done\t{ticket}\t{hits}\t{unreadable}\n"),
         Turn::Idle => "idle\n".to_string(),

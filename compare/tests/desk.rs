@@ -61,12 +61,12 @@ fn the_last_ticket() {
 fn turns_go_round() {
     let table = b"2000-01-01\nbad\n";
     let mut desk = with_seats(table.len(), 2);
-    assert_eq!(desk.turn(table), Ok(Turn::Hit { ticket: 1, offset: 0 }));
+    assert_eq!(desk.turn(table), Ok(Turn::Hit { ticket: 1, offset: 0, place: 0 }));
     assert_eq!(desk.close(1), Ok(()));
     assert_eq!(desk.open(GOOD), Ok(3));
     assert_eq!(desk.last_served, 0);
-    assert_eq!(desk.turn(table), Ok(Turn::Hit { ticket: 2, offset: 0 }));
-    assert_eq!(desk.turn(table), Ok(Turn::Hit { ticket: 3, offset: 0 }));
+    assert_eq!(desk.turn(table), Ok(Turn::Hit { ticket: 2, offset: 0, place: 0 }));
+    assert_eq!(desk.turn(table), Ok(Turn::Hit { ticket: 3, offset: 0, place: 0 }));
     assert_eq!(desk.turn(table), Ok(Turn::Unreadable { ticket: 2, offset: 11, number: 1 }));
     assert_eq!(desk.turn(table), Ok(Turn::Unreadable { ticket: 3, offset: 11, number: 1 }));
     assert_eq!(desk.turn(table), Ok(Turn::Done { ticket: 2, hits: 1, unreadable: 1 }));
@@ -82,7 +82,7 @@ fn a_turn_reads_from_an_offset_within_a_line() {
     let table = b"12000-01-01\n";
     let mut desk = with_seats(table.len(), 1);
     desk.seats[0].offset = 1;
-    assert_eq!(desk.turn(table), Ok(Turn::Hit { ticket: 1, offset: 1 }));
+    assert_eq!(desk.turn(table), Ok(Turn::Hit { ticket: 1, offset: 1, place: 0 }));
     assert_eq!(desk.seats[0].offset, table.len());
 }
 
@@ -130,7 +130,7 @@ fn bytes_after_a_condition_are_not_asked() {
     let mut desk = with_seats(10, 1);
     desk.seats[0].condition[GOOD.len()..].fill(b'(');
     assert!(desk.is_sound());
-    assert_eq!(desk.turn(b"2000-01-01"), Ok(Turn::Hit { ticket: 1, offset: 0 }));
+    assert_eq!(desk.turn(b"2000-01-01"), Ok(Turn::Hit { ticket: 1, offset: 0, place: 0 }));
     assert_eq!(desk.seats[0].condition[239], b'(');
     assert_eq!(desk.close(1), Ok(()));
     assert_eq!(desk.seats[0], Seat::default());

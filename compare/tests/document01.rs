@@ -87,7 +87,8 @@ fn case_14_empty_timetable() {
 const TIMETABLE: &str = "12\t2024-03-30T23:40:00+01:00\n14\t2024-03-31T06:00:00+02:00\n";
 const INPUT: &str = "xs:dateTime($2) lt xs:dateTime(\"2024-03-31T00:00:00Z\")\n\
     xs:dateTime($2) - xs:dateTime(\"2024-03-30T22:40:00Z\") eq xs:dayTimeDuration(\"PT5H20M\")\n";
-const OUTPUT: &str = "open\t1\nopen\t2\nhit\t1\t0\nmiss\t2\t0\nmiss\t1\t29\nhit\t2\t29\ndone\t1\t1\t0\ndone\t2\t1\t0\nidle\n";
+const OUTPUT: &str =
+    "open\t1\nopen\t2\nhit\t1\t0\t0\nmiss\t2\t0\t0\nmiss\t1\t29\t0\nhit\t2\t29\t0\ndone\t1\t1\t0\ndone\t2\t1\t0\nidle\n";
 
 #[test]
 fn the_sample() {
@@ -264,7 +265,7 @@ fn the_program_at_its_bounds() {
     assert_eq!(programs::desk(&[b'x'; 65_536], &[b' '; 4_097]), "refused\t7\n");
     assert_eq!(programs::desk(&[b'x'; 65_536], &[b' '; 4_096]), "refused\t7\nidle\n");
     let lines = programs::desk(b"\n\n2000-01-01", condition.as_bytes());
-    assert_eq!(lines, "open\t1\nunreadable\t1\t0\t1\nunreadable\t1\t1\t1\nhit\t1\t2\ndone\t1\t1\t2\nidle\n");
+    assert_eq!(lines, "open\t1\nunreadable\t1\t0\t1\nunreadable\t1\t1\t1\nhit\t1\t2\t0\ndone\t1\t1\t2\nidle\n");
 }
 
 #[test]
@@ -276,7 +277,7 @@ fn runs_of_the_program() {
         _ => Vec::new(),
     };
     let cases = [
-        ("day\tany", "open\t1\nhit\t1\t0\ndone\t1\t1\t0\nidle\n"),
+        ("day\tany", "open\t1\nhit\t1\t0\t0\ndone\t1\t1\t0\nidle\n"),
         ("day", "idle\n"),
         ("", "idle\n"),
         ("none\tany\tmore", "open\t1\ndone\t1\t0\t0\nidle\n"),

@@ -38,11 +38,11 @@ fn one_query_from_open_to_idle() {
             ("show", "desk 15 26 0"),
             (&open, "open 1"),
             ("sound", "sound"),
-            ("show", &format!("desk 15 26 1|seat 0 {}", held("1 1 0 0 0"))),
-            ("turn", "hit 1 0"),
-            ("turn", "miss 1 11"),
+            ("show", &format!("desk 15 26 1|seat 0 {}", held("1 1 0 0 0 0"))),
+            ("turn", "hit 1 0 0"),
+            ("turn", "miss 1 11 0"),
             ("turn", "unreadable 1 22 1"),
-            ("show", &format!("desk 0 26 1|seat 0 {}", held("1 1 26 1 1"))),
+            ("show", &format!("desk 0 26 1|seat 0 {}", held("1 1 26 1 1 0"))),
             ("turn", "done 1 1 1"),
             ("turn", "idle"),
             ("show", "desk 0 26 1"),
@@ -62,9 +62,9 @@ fn many_turns_write_whole_lines() {
         &[
             (&open, "open 1"),
             ("turns 0", "refused 15|"),
-            ("turns 7", "refused 15|......."),
-            ("turns 8", "wrote 8 more|hit 1 0|"),
-            ("turns 10", "wrote 10 more|miss 1 11|"),
+            ("turns 9", "refused 15|........."),
+            ("turns 10", "wrote 10 more|hit 1 0 0|"),
+            ("turns 12", "wrote 12 more|miss 1 11 0|"),
             ("turns 29", "wrote 29 more|unreadable 1 22 1|done 1 1 1|"),
             ("turns 4", "refused 15|...."),
             ("turns 5", "wrote 5 idle|idle|"),
@@ -133,6 +133,7 @@ fn every_number_is_set() {
             (&format!("seat 15 offset {greatest}"), "set"),
             (&format!("seat 15 hits {greatest}"), "set"),
             (&format!("seat 15 unreadable {greatest}"), "set"),
+            ("seat 15 place 4294967295", "set"),
             (&format!("seat 15 condition_length {greatest}"), "set"),
             ("seat 15 condition a b", "set"),
             (&format!("set last_served {greatest}"), "set"),
@@ -142,14 +143,20 @@ fn every_number_is_set() {
                 "show",
                 &format!(
                     "desk {greatest} {greatest} 4294967295|\
-                     seat 15 1 4294967295 {greatest} {greatest} {greatest} {greatest} 612062"
+                     seat 15 1 4294967295 {greatest} {greatest} {greatest} 4294967295 {greatest} 612062"
                 ),
             ),
             ("sound", "unsound"),
             ("seat 15 condition ", "set"),
             ("seat 00000000000000000015 held 00", "set"),
             ("seat 15 ticket 0", "set"),
-            ("show", &format!("desk {greatest} {greatest} 4294967295|seat 15 0 0 {greatest} {greatest} {greatest} {greatest} ")),
+            (
+                "show",
+                &format!(
+                    "desk {greatest} {greatest} 4294967295|\
+                     seat 15 0 0 {greatest} {greatest} {greatest} 4294967295 {greatest} "
+                ),
+            ),
         ],
     );
 }
@@ -157,7 +164,7 @@ fn every_number_is_set() {
 #[test]
 fn the_texts_keep_their_tabs() {
     let input = b"open\ta\tb\nseat\t3\tcondition\t\ta\t\nshow\nopen\t\n";
-    assert_eq!(hostile_desks(b"", input), "refused\t7\nset\ndesk\t15\t0\t0\nseat\t3\t0\t0\t0\t0\t0\t0\t096109\nrefused\t7\n");
+    assert_eq!(hostile_desks(b"", input), "refused\t7\nset\ndesk\t15\t0\t0\nseat\t3\t0\t0\t0\t0\t0\t0\t0\t096109\nrefused\t7\n");
 }
 
 #[test]
@@ -194,7 +201,13 @@ fn lines_that_are_no_events() {
         "seat 16 held 1",
         "seat  held 1",
         "seat 0 ticket 4294967296",
-        "seat 0 place 1",
+        "seat 0 places 1",
+        "seat 0 place",
+        "seat 0 place ",
+        "seat 0 place 4294967296",
+        "seat 0 place 1 ",
+        "seat 16 place 1",
+        "set place 1",
         "seat 0 condition",
         "idle",
         &long,
@@ -235,7 +248,9 @@ fn any_desk(random: &mut Random) -> Desk {
             1 => seat.offset = random.pick(NUMBERS),
             2 => seat.condition_length = random.pick(NUMBERS),
             3 => (seat.hits, seat.unreadable) = (random.pick(NUMBERS), random.pick(NUMBERS)),
-            4 => (seat.offset, seat.hits, seat.unreadable) = (26, random.below(27), random.below(3)),
+            4 => (seat.offset, seat.hits, seat.unreadable) = (26, 37_430 + random.below(11), random.below(3)),
+            7 => seat.place = random.pick(&[1, 2, 1_439, 1_440, 1_441, 1 << 16, u32::MAX]),
+            8 => (seat.place, seat.hits, seat.unreadable) = (random.below(1_442) as u32, random.below(1_442), random.below(3)),
             5 => seat.condition[random.below(240)] = random.below(256) as u8,
             6 => seat.held = false,
             _ => {}
@@ -258,7 +273,8 @@ fn sound_in_other_words(desk: &Desk) -> bool {
             && seat.condition_length == stored.len()
             && compare::conditions::accept(&stored).is_ok()
             && seat.offset <= desk.length
-            && seat.hits as u128 + seat.unreadable as u128 <= seat.offset as u128
+            && seat.place < 1_440
+            && seat.hits as u128 + seat.unreadable as u128 <= 1_440 * seat.offset as u128 + seat.place as u128
     };
     desk.last_served < 16 && desk.length <= 65_536 && (0..SEATS).filter(held).all(good)
 }

@@ -186,17 +186,17 @@ fn the_desk_is_kept() {
         ("open|", "refused|7".to_string()),
         ("open|xs:date($1)|eq xs:date($1)", "refused|7".to_string()),
         ("open|xs:date(\"bad\") eq xs:date($1)", "refused|1".to_string()),
-        ("turn", "hit|1|0".to_string()),
+        ("turn", "hit|1|0|0".to_string()),
         ("date|2000|1|1|none", "2000-01-01".to_string()),
         ("close|00002", "closed".to_string()),
-        ("turn", "hit|3|0".to_string()),
+        ("turn", "hit|3|0|0".to_string()),
         ("close|4294967295", "refused|13".to_string()),
         ("close|4294967296", "refused|7".to_string()),
         (open.as_str(), "open|17".to_string()),
     ]);
-    cases.extend((4..=16).map(|ticket| (("turn"), format!("hit|{ticket}|0"))));
+    cases.extend((4..=16).map(|ticket| (("turn"), format!("hit|{ticket}|0|0"))));
     cases.extend((2..=16).map(|ticket| ("close|17", if ticket == 2 { "closed" } else { "refused|13" }.to_string())));
-    cases.extend(["miss|1|11", "miss|3|11"].map(|answer| ("turn", answer.to_string())));
+    cases.extend(["miss|1|11|0", "miss|3|11|0"].map(|answer| ("turn", answer.to_string())));
     let cases: Vec<(&str, &str)> = cases.iter().map(|(call, answer)| (*call, answer.as_str())).collect();
     all(TABLE, &cases);
 }
@@ -204,7 +204,7 @@ fn the_desk_is_kept() {
 #[test]
 fn one_query_to_its_end() {
     let open = format!("open|{GOOD}");
-    let turns = ["hit|1|0", "miss|1|11", "unreadable|1|22|1", "done|1|1|1", "idle", "idle"];
+    let turns = ["hit|1|0|0", "miss|1|11|0", "unreadable|1|22|1", "done|1|1|1", "idle", "idle"];
     let mut cases = vec![(open.as_str(), "open|1")];
     cases.extend(turns.map(|answer| ("turn", answer)));
     all(TABLE, &cases);

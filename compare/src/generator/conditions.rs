@@ -1,10 +1,13 @@
 //! Conditions whose kinds fit, written by the grammar's own rules, and then all that can go wrong with them.
 
+use super::calls::near;
 use super::damage::damaged;
 use super::random::Random;
+use super::runs;
 use super::texts;
 use crate::conditions::kinds::{difference_kind, sum_kind};
 use crate::values::operations::casts;
+use crate::values::writing::write;
 use crate::values::{Kind, KINDS};
 
 /// What the conditions of one case speak about: the kinds of the timetable's columns, and a few texts of each kind,
@@ -12,6 +15,8 @@ use crate::values::{Kind, KINDS};
 pub struct Setting {
     pub columns: Vec<Kind>,
     pub pools: [Vec<String>; 5],
+    /// How many occurrences a run line of the timetable has at most; 0 where it has no such lines.
+    pub most_occurrences: usize,
 }
 
 impl Setting {
@@ -22,7 +27,28 @@ impl Setting {
         for kind in KINDS {
             pools[kind as usize] = (0..3).map(|_| pool_text(random, kind)).collect();
         }
-        Setting { columns, pools }
+        Setting { columns, pools, most_occurrences: 0 }
+    }
+
+    /// One whose timetable has run lines: the second to fifth columns are theirs, and the dateTimes lie close together.
+    pub fn with_runs(random: &mut Random, most_occurrences: usize) -> Setting {
+        let mut setting = Setting { most_occurrences, ..Setting::new(random) };
+        let mut columns = vec![random.pick(&KINDS), Kind::DateTime, Kind::DateTime, Kind::DateTime, Kind::DayTime];
+        columns.extend((0..random.below(4)).map(|_| random.pick(&KINDS)));
+        setting.columns = columns;
+        let middle = runs::middle(random);
+        setting.pools[Kind::DateTime as usize] = vec![write(&middle), near(random, &middle), near(random, &middle)];
+        setting.pools[Kind::DayTime as usize][..2].fill_with(|| runs::step_text(random));
+        setting
+    }
+
+    /// Any of the two sorts.
+    pub fn any(random: &mut Random) -> Setting {
+        match random.below(10) {
+            0..=4 => Setting::new(random),
+            5..=8 => Setting::with_runs(random, 12),
+            _ => Setting::with_runs(random, runs::MOST),
+        }
     }
 
     pub fn pooled(&self, random: &mut Random, kind: Kind) -> String {
@@ -262,6 +288,9 @@ pub fn any(random: &mut Random, setting: &Setting) -> Vec<u8> {
 
 /// A condition within the length, written with these chances of wrong kinds and bad literals.
 pub fn fitting(random: &mut Random, setting: &Setting, wrong_kinds: usize, bad_literals: usize) -> String {
+    if setting.most_occurrences > 0 && (wrong_kinds, bad_literals) == (0, 0) && random.chance(45) {
+        return runs::condition(random, setting);
+    }
     loop {
         let size = random.pick(&[2, 2, 2, 3, 3, 4, 4, 5, 6, 7]);
         let parentheses = random.pick(&[0, 10, 10, 30]);

@@ -3,6 +3,7 @@
 use super::conditions::{self, Setting};
 use super::damage::{damaged, noise};
 use super::random::Random;
+use super::runs::{self, AT_NOTED, MOST, NOTED};
 use super::texts;
 use crate::desk::MOST_TIMETABLE_BYTES;
 
@@ -31,6 +32,9 @@ pub struct Case {
 
 pub fn case(seed: u64) -> Case {
     let random = &mut Random::new(seed);
+    if random.chance(45) {
+        return with_runs(random);
+    }
     let setting = Setting::new(random);
     match random.below(1000) {
         0..=5 => Case { timetable: Timetable::Missing, conditions: input(random, &setting) },
@@ -47,6 +51,32 @@ pub fn case(seed: u64) -> Case {
             Case { timetable: Timetable::Bytes(timetable(random, &setting)), conditions }
         }
         _ => Case { timetable: Timetable::Bytes(timetable(random, &setting)), conditions: input(random, &setting) },
+    }
+}
+
+/// A timetable with run lines: many short runs, or a few that are as long as a run may be.
+fn with_runs(random: &mut Random) -> Case {
+    match random.weighted(&[62, 12, 24, 2]) {
+        0 => {
+            let setting = Setting::with_runs(random, 15);
+            Case { timetable: Timetable::Bytes(timetable(random, &setting)), conditions: input(random, &setting) }
+        }
+        1 => {
+            let setting = Setting::with_runs(random, 100);
+            let bytes = lines(random, &setting, 1, 8);
+            Case { timetable: Timetable::Bytes(bytes), conditions: input(random, &setting) }
+        }
+        2 => {
+            let setting = Setting::with_runs(random, MOST);
+            let bytes = lines(random, &setting, 1, 3);
+            Case { timetable: Timetable::Bytes(bytes), conditions: few(random, &setting) }
+        }
+        _ => {
+            let setting = Setting::with_runs(random, 10);
+            let length = random.pick(&[10_000, 65_535, 65_536]);
+            let bytes = great_timetable(random, &setting, length);
+            Case { timetable: Timetable::Bytes(bytes), conditions: few(random, &setting) }
+        }
     }
 }
 
@@ -73,18 +103,60 @@ pub fn edges(seed: u64) -> Vec<Case> {
     }
     cases.push(Case { timetable: Timetable::Missing, conditions: few(random, setting) });
     cases.push(Case { timetable: Timetable::Folder, conditions: few(random, setting) });
+    cases.extend(run_edges());
+    cases
+}
+
+/// The noted run lines, and runs at the bounds of a line, of a run and of the counts.
+fn run_edges() -> Vec<Case> {
+    let made = |lines: &[Vec<u8>], ending: &str, conditions: &[&str]| {
+        let timetable = [lines.join(&b'\n').as_slice(), ending.as_bytes()].concat();
+        Case { timetable: Timetable::Bytes(timetable), conditions: format!("{}\n", conditions.join("\n")).into_bytes() }
+    };
+    let (long, short): (Vec<_>, Vec<_>) =
+        NOTED.iter().partition(|(_, outcome)| matches!(outcome, runs::Noted::Occurrences(count) if *count > 100));
+    let tabbed = |noted: &[&(&str, runs::Noted)]| noted.iter().map(|(line, _)| runs::noted(line)).collect::<Vec<_>>();
+    let mut cases = vec![made(&tabbed(&short), "\n", AT_NOTED)];
+    for part in tabbed(&short).chunks(8) {
+        cases.push(made(part, "", &AT_NOTED[..8]));
+    }
+    for (place, line) in tabbed(&long).iter().enumerate() {
+        let conditions = [AT_NOTED[place % AT_NOTED.len()], AT_NOTED[0]];
+        cases.push(made(std::slice::from_ref(line), ["", "\n"][place % 2], &conditions));
+        cases.push(made(&[b"1\t2".to_vec(), line.clone(), b"1\t2".to_vec()], "", &[AT_NOTED[2]]));
+    }
+    let whole = runs::noted("n|every|2024-03-30T00:00:00|2024-03-30T23:59:00|PT1M");
+    let half = "xs:time(xs:dateTime($2)) lt xs:time(\"12:00:00\")";
+    // All sixteen seats at runs of the full length.
+    cases.push(made(&[whole.clone(), whole.clone()], "\n", AT_NOTED));
+    // A line that is as long as a timetable may be.
+    let filled = [whole.as_slice(), b"\t", &vec![b'x'; 65_535 - whole.len()]].concat();
+    cases.push(made(&[filled], "", &[half]));
+    // Counts of hundreds of thousands.
+    cases.push(made(&vec![whole.clone(); 150], "\n", &["xs:time(\"00:00:00\") eq xs:time(\"24:00:00\")"]));
+    cases.push(made(&vec![whole; 40], "\n", &[half, "xs:date($16) eq xs:date($1)"]));
+    // As many bad and empty runs as there is room for.
+    cases.push(made(&vec![b"\tevery".to_vec(); 9_362], "\n", &[half]));
+    let empty = runs::noted("|every|2024-03-31T00:00:00|2024-03-30T00:00:00|PT1M");
+    cases.push(made(&vec![empty; 1_000], "\n", &["xs:date($16) eq xs:date($1)", half]));
     cases
 }
 
 pub(super) fn timetable(random: &mut Random, setting: &Setting) -> Vec<u8> {
     let rows = match random.weighted(&[5, 70, 20, 5]) {
+        _ if setting.most_occurrences > 100 => random.below(5),
         0 => 0,
         1 => random.below(12),
         2 => random.below(40),
         _ => random.below(200),
     };
+    lines(random, setting, rows, rows)
+}
+
+/// A timetable of so many lines.
+fn lines(random: &mut Random, setting: &Setting, least: usize, most: usize) -> Vec<u8> {
     let mut bytes: Vec<u8> = Vec::new();
-    for _ in 0..rows {
+    for _ in 0..random.between(least as i64, most as i64) {
         bytes.extend(row(random, setting));
         bytes.push(b'\n');
     }
@@ -98,6 +170,9 @@ pub(super) fn timetable(random: &mut Random, setting: &Setting) -> Vec<u8> {
 }
 
 fn row(random: &mut Random, setting: &Setting) -> Vec<u8> {
+    if setting.most_occurrences > 0 && random.chance(75) {
+        return runs::line(random, setting);
+    }
     if random.chance(5) {
         return random.pick(&["", "", "\t", "\t\t", "\r", " "]).as_bytes().to_vec();
     }

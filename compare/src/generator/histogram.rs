@@ -1,9 +1,11 @@
 //! Counts that show how well the generated cases cover what can be answered.
 
+use crate::conditions::accept;
 use crate::hostile::{Script, MOST_EVENTS_BYTES};
 use crate::library::Session;
-use crate::lines::lines;
+use crate::lines::{fields, lines};
 use crate::programs::{answer_line, desk, MOST_CALLS_BYTES};
+use crate::runs::{is_run_line, Run};
 use std::collections::BTreeMap;
 
 #[derive(Default)]
@@ -46,16 +48,26 @@ impl Histogram {
         self.count(format!("kinds      {} {}", fields[0], kinds.join(" ")));
     }
 
-    /// The desk program's output by the words of its lines and by its numbers.
+    /// The desk program's output by the words of its lines and by its numbers, the timetable's lines by what they stand
+    /// for, and where it has runs the good conditions by the fields that they read.
     pub fn count_desk(&mut self, timetable: &[u8], conditions: &[u8]) {
         if !self.counting {
             return;
+        }
+        let sorts: Vec<String> = lines(timetable).into_iter().map(line_sort).collect();
+        let runs = sorts.iter().any(|sort| sort.starts_with("run"));
+        self.count(format!("case       {}", if runs { "with runs" } else { "without runs" }));
+        if runs {
+            sorts.into_iter().for_each(|sort| self.count(format!("line       {sort}")));
+            let good = lines(conditions).into_iter().filter(|condition| accept(condition).is_ok());
+            good.for_each(|condition| self.count(format!("condition  {}", fields_read(condition))));
         }
         for line in desk(timetable, conditions).lines() {
             let fields: Vec<&str> = line.split('\t').collect();
             let name = match fields[0] {
                 "refused" => format!("refused {:>2}", fields[1]),
                 "unreadable" => format!("unreadable {:>2}", fields[3]),
+                word @ ("hit" | "miss") => format!("{word} at place {}", if fields[3] == "0" { "0" } else { "above 0" }),
                 word => word.to_string(),
             };
             self.count(name);
@@ -106,6 +118,40 @@ impl Histogram {
         for (name, count) in &self.counts {
             eprintln!("{count:>9}  {name}");
         }
+    }
+}
+
+/// What a line of the timetable stands for.
+pub fn line_sort(line: &[u8]) -> String {
+    let fields = fields(line);
+    match Run::of(&fields) {
+        Ok(None) if fields.get(1).is_some_and(|field| field.to_ascii_lowercase().windows(4).any(|part| part == b"ever")) => {
+            "plain, almost the word".to_string()
+        }
+        Ok(None) => "plain".to_string(),
+        Ok(Some(run)) => match run.count {
+            0..=2 | 1_439 | 1_440 => format!("run of {:>5}", run.count),
+            3..=15 => "run of     3 to 15".to_string(),
+            16..=100 => "run of    16 to 100".to_string(),
+            _ => "run of   101 to 1,438".to_string(),
+        },
+        Err(number) => {
+            assert!(is_run_line(&fields));
+            format!("run refused {number:>2}")
+        }
+    }
+}
+
+/// Which of the fields that make a run a condition reads.
+fn fields_read(condition: &[u8]) -> String {
+    let text = String::from_utf8_lossy(condition);
+    let reads =
+        |name: &str| text.match_indices(name).any(|(at, _)| !text[at + 2..].starts_with(|next: char| next.is_ascii_digit()));
+    let read: Vec<&str> = ["$2", "$3", "$4", "$5"].into_iter().filter(|name| reads(name)).collect();
+    match (read.is_empty(), text.contains('$')) {
+        (true, true) => "reads other fields".to_string(),
+        (true, false) => "reads no field".to_string(),
+        _ => format!("reads {}", read.join(" ")),
     }
 }
 

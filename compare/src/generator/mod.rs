@@ -9,4 +9,5 @@ pub mod histogram;
 pub mod hostile;
 pub mod library;
 pub mod random;
+pub mod runs;
 pub mod texts;

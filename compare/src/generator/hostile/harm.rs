@@ -4,6 +4,12 @@ use super::play::Player;
 use crate::desk::{Seat, LAST_TICKET, MOST_TIMETABLE_BYTES, SEATS};
 use crate::generator::conditions::{any, fitting};
 use crate::generator::damage::{damaged, noise};
+use crate::hostile::MOST_PLACE;
+use crate::lines::fields;
+use crate::runs::{Run, MOST_OCCURRENCES};
+
+/// The most that a seat's counts come to.
+const MOST_COUNTED: usize = MOST_OCCURRENCES * (MOST_TIMETABLE_BYTES + 1);
 
 impl Player<'_> {
     pub(super) fn damage(&mut self) {
@@ -53,9 +59,9 @@ impl Player<'_> {
         self.set("set\tissued", number, self.script.desk.last_issued as usize);
     }
 
-    /// A seat's place, mostly a held one's.
-    fn place(&mut self) -> usize {
-        let held: Vec<usize> = (0..SEATS).filter(|&place| self.script.desk.seats[place].held).collect();
+    /// A seat's number, mostly a held one's.
+    fn seat(&mut self) -> usize {
+        let held: Vec<usize> = (0..SEATS).filter(|&seat| self.script.desk.seats[seat].held).collect();
         if held.is_empty() || self.random.chance(15) {
             return self.random.below(SEATS);
         }
@@ -63,27 +69,49 @@ impl Player<'_> {
     }
 
     fn damage_seat(&mut self) {
-        let place = self.place();
-        let Seat { held, ticket, offset, hits, unreadable, condition_length, .. } = self.script.desk.seats[place];
-        let (name, number, before) = match self.random.weighted(&[2, 3, 4, 2, 2, 2]) {
+        let seat = self.seat();
+        let Seat { held, ticket, offset, hits, unreadable, place, condition_length, .. } = self.script.desk.seats[seat];
+        let most = most_counted(offset, place);
+        let (name, number, before) = match self.random.weighted(&[2, 3, 4, 2, 2, 2, 5]) {
             0 => ("held", usize::from(!held), usize::from(held)),
             1 => ("ticket", self.other_ticket(), ticket as usize),
             2 => ("offset", self.other_offset(), offset),
-            3 => ("hits", self.other_count(offset.wrapping_sub(unreadable)), hits),
-            4 => ("unreadable", self.other_count(offset.wrapping_sub(hits)), unreadable),
-            _ => ("condition_length", self.other_condition_length(condition_length), condition_length),
+            3 => ("hits", self.other_count(most.wrapping_sub(unreadable)), hits),
+            4 => ("unreadable", self.other_count(most.wrapping_sub(hits)), unreadable),
+            5 => ("condition_length", self.other_condition_length(condition_length), condition_length),
+            _ => ("place", self.other_place(offset), place as usize),
         };
-        self.set(&format!("seat\t{place}\t{name}"), number, before);
+        self.set(&format!("seat\t{seat}\t{name}"), number, before);
     }
 
-    /// Both counts, so that they agree with the offset or nearly, or would in 64 bits alone.
+    /// Both counts, so that they agree with the offset and the place or nearly, or would in 64 bits alone.
     fn damage_counts(&mut self) {
-        let place = self.place();
-        let Seat { offset, hits, unreadable, .. } = self.script.desk.seats[place];
-        let first = if self.random.chance(50) { self.extreme() } else { self.random.below(offset.min(MOST_TIMETABLE_BYTES) + 1) };
-        let second = self.beside(offset.wrapping_sub(first));
-        self.set(&format!("seat\t{place}\thits"), first, hits);
-        self.set(&format!("seat\t{place}\tunreadable"), second, unreadable);
+        let seat = self.seat();
+        let Seat { offset, hits, unreadable, place, .. } = self.script.desk.seats[seat];
+        let most = most_counted(offset, place);
+        let first = if self.random.chance(50) { self.extreme() } else { self.random.below(most.min(MOST_COUNTED) + 1) };
+        let second = self.beside(most.wrapping_sub(first));
+        self.set(&format!("seat\t{seat}\thits"), first, hits);
+        self.set(&format!("seat\t{seat}\tunreadable"), second, unreadable);
+    }
+
+    /// A place near the end of the line that the offset stands at, near the bound, or far beyond.
+    fn other_place(&mut self, offset: usize) -> usize {
+        let rest = self.script.timetable.get(offset..).unwrap_or(b"");
+        let line = rest.split(|&byte| byte == b'\n').next().unwrap_or(rest);
+        let count = match Run::of(&fields(line)) {
+            Ok(Some(run)) => run.count,
+            _ => 1,
+        };
+        let place = match self.random.below(10) {
+            0..=3 => self.beside(count),
+            4 => 0,
+            5 => self.random.below(count + 1),
+            6 | 7 => self.beside(MOST_OCCURRENCES),
+            8 => self.random.below(MOST_OCCURRENCES),
+            _ => self.extreme(),
+        };
+        place.min(MOST_PLACE)
     }
 
     fn other_ticket(&mut self) -> usize {
@@ -99,9 +127,14 @@ impl Player<'_> {
 
     fn other_offset(&mut self) -> usize {
         let length = self.script.desk.length;
-        match self.random.below(5) {
+        match self.random.below(8) {
             0 => self.beside(length),
             1 => self.extreme(),
+            2 | 3 => {
+                let starts = self.script.timetable.iter().enumerate().filter(|(_, &byte)| byte == b'\n').map(|(at, _)| at + 1);
+                let starts: Vec<usize> = std::iter::once(0).chain(starts).collect();
+                self.random.pick(&starts)
+            }
             _ => self.random.below(length.min(MOST_TIMETABLE_BYTES) + 1),
         }
     }
@@ -126,8 +159,8 @@ impl Player<'_> {
 
     /// Other bytes for a condition, mostly with their own length.
     fn damage_condition(&mut self) {
-        let place = self.place();
-        let seat = self.script.desk.seats[place].clone();
+        let number = self.seat();
+        let seat = self.script.desk.seats[number].clone();
         let mut text = match self.random.below(4) {
             0 => any(self.random, self.setting),
             1 => damaged(self.random, &seat.condition[..seat.condition_length.min(seat.condition.len())]),
@@ -136,11 +169,11 @@ impl Player<'_> {
         };
         text.retain(|&byte| byte != b'\n');
         text.truncate(seat.condition.len());
-        let bytes = |text: &[u8]| [format!("seat\t{place}\tcondition\t").as_bytes(), text].concat();
+        let bytes = |text: &[u8]| [format!("seat\t{number}\tcondition\t").as_bytes(), text].concat();
         self.mending.push(bytes(trimmed(&seat.condition)));
         self.tell(bytes(&text));
         if self.random.chance(65) {
-            self.set(&format!("seat\t{place}\tcondition_length"), text.len(), seat.condition_length);
+            self.set(&format!("seat\t{number}\tcondition_length"), text.len(), seat.condition_length);
         }
     }
 
@@ -158,9 +191,9 @@ impl Player<'_> {
         if self.random.chance(30) {
             return self.fresh();
         }
-        for place in 0..SEATS {
-            if self.script.desk.seats[place].held && self.random.chance(70) {
-                self.tell(format!("seat\t{place}\theld\t0"));
+        for seat in 0..SEATS {
+            if self.script.desk.seats[seat].held && self.random.chance(70) {
+                self.tell(format!("seat\t{seat}\theld\t0"));
             }
         }
         if self.script.desk.last_served >= SEATS {
@@ -170,6 +203,11 @@ impl Player<'_> {
             self.tell(format!("set\tlength\t{}", self.script.timetable.len()));
         }
     }
+}
+
+/// The greatest sum of a seat's counts that is sound, in 64 bits.
+fn most_counted(offset: usize, place: u32) -> usize {
+    offset.wrapping_mul(MOST_OCCURRENCES).wrapping_add(place as usize)
 }
 
 /// The bytes without the zeros at their end.

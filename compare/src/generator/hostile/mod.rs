@@ -3,13 +3,14 @@
 
 pub(super) mod conditions;
 mod harm;
+pub mod places;
 mod play;
 mod ways;
 
 use super::desks::Timetable;
 use conditions::{padded, BAD, BY_DATE, BY_TIME};
 pub use play::case;
-use ways::{held, Way};
+use ways::{held, File, Way};
 
 pub struct Case {
     pub name: String,
@@ -41,7 +42,12 @@ fn tried(way: Way) -> Case {
             }
         }
     }
-    Case { name: way.name, timetable: Timetable::Bytes(if way.great { great_file() } else { TABLE.into() }), events }
+    let file = match way.file {
+        File::Table => TABLE.into(),
+        File::Great => great_file(),
+        File::Runs => places::table().into_bytes(),
+    };
+    Case { name: way.name, timetable: Timetable::Bytes(file), events }
 }
 
 /// 65,537 bytes: the table, long lines, and short ones at the end.
@@ -87,7 +93,7 @@ fn all_calls() -> Vec<String> {
     events.extend(BAD.iter().map(|(_, condition)| format!("open {condition}")));
     events.push(format!("open {}", padded(BY_DATE, 241)));
     events.extend(["show", "close 3", "close 4", "close 0", "close 4294967295", "show", "turn", "show"].map(str::to_string));
-    events.extend([0, 1, 4, 5, 31, 32, 100, 4096].map(|room| format!("turns {room}")));
+    events.extend([0, 1, 4, 5, 10, 31, 32, 100, 4096].map(|room| format!("turns {room}")));
     events.push("show".to_string());
     events
 }
@@ -95,7 +101,7 @@ fn all_calls() -> Vec<String> {
 /// Turns while nothing else has altered the desk, then Open and Close.
 fn turns_first() -> Vec<String> {
     let mut events = ["sound", "turn", "turn", "show"].map(str::to_string).to_vec();
-    events.extend([0, 5, 9, 10, 18, 20, 29, 30, 64].map(|room| format!("turns {room}")));
+    events.extend([0, 5, 9, 10, 11, 12, 18, 20, 29, 30, 64].map(|room| format!("turns {room}")));
     events.extend(["turn", "show", "turns 4096", "show", "turns 4", "turns 5"].map(str::to_string));
     events.extend(["close 9", "show", &format!("open {}", padded(BY_TIME, 240)), "close 10", "turn", "show"].map(str::to_string));
     events

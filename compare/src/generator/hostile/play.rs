@@ -12,7 +12,7 @@ use crate::hostile::{Script, MOST_EVENTS_BYTES, MOST_ROOM};
 
 pub fn case(seed: u64) -> Case {
     let random = &mut Random::new(seed);
-    let setting = &Setting::new(random);
+    let setting = &Setting::any(random);
     let timetable = match random.below(100) {
         0 => Timetable::Missing,
         1 => Timetable::Folder,
@@ -121,7 +121,7 @@ impl<'a> Player<'a> {
 
     fn turns(&mut self) {
         let room = match self.random.below(8) {
-            0 | 1 => self.random.pick(&[0, 1, 4, 5, 7, 8, 29, 30, 31, 32]),
+            0 | 1 => self.random.pick(&[0, 1, 4, 5, 7, 8, 9, 10, 29, 30, 31, 32]),
             2 => self.random.pick(&[100, 256, 1_000, MOST_ROOM - 1, MOST_ROOM]),
             _ => self.random.below(80),
         };
@@ -172,7 +172,7 @@ impl<'a> Player<'a> {
     /// A number near a power of two, near zero from either side among them.
     pub(super) fn extreme(&mut self) -> usize {
         let great: usize = self.random.pick(&[1 << 16, 1 << 31, 1 << 32, 1 << 53, 1 << 63, 0]);
-        let small = self.random.pick(&[0, 0, 1, 15, 16, 240, self.script.desk.length]);
+        let small = self.random.pick(&[0, 0, 1, 15, 16, 240, 1_439, 1_440, self.script.desk.length]);
         if self.random.chance(50) {
             return great.wrapping_add(small);
         }
@@ -266,11 +266,20 @@ const NO_EVENTS: &[&str] = &[
     "seat\t18446744073709551616\theld\t1",
     "seat\t0\tticket\t4294967296",
     "seat\t0\toffset\t18446744073709551616",
+    "seat\t0\tplace",
+    "seat\t0\tplace\t",
+    "seat\t0\tplace\t4294967296",
+    "seat\t0\tplace\t18446744073709551615",
+    "seat\t0\tplace\t-1",
+    "seat\t0\tplace\t1\t",
+    "seat\t16\tplace\t1",
+    "seat\t0\tPlace\t1",
+    "set\tplace\t1",
     "seat\t0\thits\t1\t",
     "seat\t0\tlength\t5",
     "seat\t0\tcondition",
     "seat\t00000000000000000003\tcondition\t",
     "seat\t3\tcondition\t\t\t",
-    "hit\t1\t0",
+    "hit\t1\t0\t0",
     "idle",
 ];

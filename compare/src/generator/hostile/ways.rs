@@ -2,10 +2,11 @@
 
 use super::built;
 use super::conditions::{padded, BAD, BY_DATE, NEIGHBOURS};
+use super::places;
 
-const GREATEST: u64 = u64::MAX;
-const HALF: u64 = 1 << 63;
-const WORD: u64 = 1 << 32;
+pub(super) const GREATEST: u64 = u64::MAX;
+pub(super) const HALF: u64 = 1 << 63;
+pub(super) const WORD: u64 = 1 << 32;
 const LAST_TICKET: u64 = WORD - 1;
 
 /// Events that alter the desk of `built`. In events, as here throughout, one space stands for a tab, and a letter for a
@@ -13,17 +14,27 @@ const LAST_TICKET: u64 = WORD - 1;
 /// one before `p`.
 pub struct Way {
     pub name: String,
-    /// Whether the file goes on to 65,537 bytes.
-    pub great: bool,
+    pub file: File,
     pub events: Vec<String>,
 }
 
-fn way(name: impl Into<String>, events: &[&str]) -> Way {
-    Way { name: name.into(), great: false, events: events.iter().map(|event| event.to_string()).collect() }
+/// The file that the timetable is a part of.
+#[derive(Clone, Copy, PartialEq, Eq, Debug)]
+pub enum File {
+    /// The 66 bytes of the table.
+    Table,
+    /// The table and more, 65,537 bytes.
+    Great,
+    /// The lines of `places`, among them runs.
+    Runs,
+}
+
+pub(super) fn way(name: impl Into<String>, events: &[&str]) -> Way {
+    Way { name: name.into(), file: File::Table, events: events.iter().map(|event| event.to_string()).collect() }
 }
 
 fn great(name: impl Into<String>, events: &[&str]) -> Way {
-    Way { great: true, ..way(name, events) }
+    Way { file: File::Great, ..way(name, events) }
 }
 
 /// A held seat.
@@ -37,7 +48,7 @@ pub fn held(letter: &str, ticket: u64, offset: u64, hits: u64, condition: &str) 
 }
 
 /// A condition with its own length.
-fn stored(letter: &str, condition: &str) -> [String; 2] {
+pub(super) fn stored(letter: &str, condition: &str) -> [String; 2] {
     [format!("seat {letter} condition_length {}", condition.len()), format!("seat {letter} condition {condition}")]
 }
 
@@ -51,6 +62,7 @@ pub fn ways() -> Vec<Way> {
     ways.extend(conditions());
     ways.extend(offsets());
     ways.extend(counts());
+    ways.extend(places::ways());
     ways.extend(free_seats());
     ways.extend(last_tickets());
     ways.extend(all_held());
@@ -165,13 +177,14 @@ fn offsets() -> Vec<Way> {
 fn counts() -> Vec<Way> {
     let mut ways = Vec::new();
     for offset in [0, 20, 66] {
-        for (hits, unreadable) in near_sums(offset) {
+        for (hits, unreadable) in near_sums(1_440 * offset) {
             let at = format!("seat p offset {offset}");
             let (hit, unread) = (format!("seat p hits {hits}"), format!("seat p unreadable {unreadable}"));
             ways.push(way(format!("counts-{hits}-{unreadable}-at-{offset}"), &[&at, &hit, &unread]));
         }
     }
-    for (hits, unreadable) in [(65_536, 0), (0, 65_536), (32_768, 32_768), (65_535, 0), (65_536, 1)] {
+    const MOST: u64 = 1_440 * 65_536;
+    for (hits, unreadable) in [(MOST, 0), (0, MOST), (MOST / 2, MOST / 2), (MOST - 1, 0), (MOST, 1), (65_536, 1), (MOST, MOST)] {
         let (hit, unread) = (format!("seat p hits {hits}"), format!("seat p unreadable {unreadable}"));
         let events = ["set length 65536", "part 65536", "seat p offset 65536", &hit, &unread];
         ways.push(great(format!("counts-{hits}-{unreadable}-at-65536"), &events));
@@ -179,19 +192,13 @@ fn counts() -> Vec<Way> {
     ways
 }
 
-/// Two counts whose sum is the offset or one more, or has no room in 64 bits.
-fn near_sums(offset: u64) -> Vec<(u64, u64)> {
-    let half = offset / 2;
-    let mut sums = vec![(offset, 0), (0, offset), (half, offset - half)];
-    sums.extend([
-        (offset + 1, 0),
-        (0, offset + 1),
-        (half + 1, offset - half),
-        (half, offset - half + 1),
-        (offset + 1, offset + 1),
-    ]);
-    sums.extend([(GREATEST, 0), (0, GREATEST), (GREATEST, 1), (1, GREATEST), (GREATEST, offset + 1), (GREATEST, GREATEST)]);
-    sums.extend([(HALF, HALF), (HALF, HALF + offset), (HALF, HALF - 1), (WORD, 0), (WORD, GREATEST - WORD + 1)]);
+/// Two counts whose sum is the most that there may be or one more, or has no room in 64 bits.
+fn near_sums(most: u64) -> Vec<(u64, u64)> {
+    let half = most / 2;
+    let mut sums = vec![(most, 0), (0, most), (half, most - half)];
+    sums.extend([(most + 1, 0), (0, most + 1), (half + 1, most - half), (half, most - half + 1), (most + 1, most + 1)]);
+    sums.extend([(GREATEST, 0), (0, GREATEST), (GREATEST, 1), (1, GREATEST), (GREATEST, most + 1), (GREATEST, GREATEST)]);
+    sums.extend([(HALF, HALF), (HALF, HALF + most), (HALF, HALF - 1), (WORD, 0), (WORD, GREATEST - WORD + 1)]);
     sums.sort();
     sums.dedup();
     sums
@@ -203,6 +210,7 @@ fn rubbish(letter: &str) -> Vec<String> {
     for name in ["offset", "hits", "unreadable", "condition_length"] {
         events.push(format!("seat {letter} {name} {GREATEST}"));
     }
+    events.push(format!("seat {letter} place {}", WORD - 1));
     events.push(format!("seat {letter} condition {}", "((\"\u{1}".repeat(60)));
     events
 }
@@ -212,7 +220,8 @@ fn free_seats() -> Vec<Way> {
     let mut all = every.clone();
     all.extend(built().into_iter().skip(2));
     all.extend(["p", "q", "r"].map(|letter| format!("seat {letter} unreadable 0")));
-    let named = |name: &str, events: Vec<String>| Way { name: name.to_string(), great: false, events };
+    all.extend(["p", "q", "r"].map(|letter| format!("seat {letter} place 0")));
+    let named = |name: &str, events: Vec<String>| Way { name: name.to_string(), file: File::Table, events };
     vec![
         named("rubbish-p", rubbish("p")),
         named("rubbish-f", rubbish("f")),
@@ -248,7 +257,7 @@ fn all_held() -> Vec<Way> {
     let with = |name: &str, issued: u64, more: &str| {
         let mut events = full(issued);
         events.extend((!more.is_empty()).then(|| more.to_string()));
-        Way { name: format!("all-held{name}"), great: false, events }
+        Way { name: format!("all-held{name}"), file: File::Table, events }
     };
     vec![
         with("", 16, ""),

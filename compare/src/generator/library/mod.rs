@@ -8,7 +8,7 @@ mod play;
 mod tables;
 
 use super::desks::Timetable;
-use super::hostile::{great_file, TABLE};
+use super::hostile::{great_file, places, TABLE};
 use crate::programs::MOST_CALLS_BYTES;
 pub use play::case;
 
@@ -25,6 +25,7 @@ pub fn made() -> Vec<Case> {
         cases.extend(parts(name, &calls));
     }
     cases.extend(parts("forms", &forms::forms()));
+    cases.extend(over_runs());
     cases.extend(whole_inputs());
     cases
 }
@@ -41,6 +42,24 @@ fn parts(name: &str, calls: &[String]) -> Vec<Case> {
     }
     let named = (1..).zip(inputs);
     named.map(|(part, calls)| Case { name: format!("{name}-{part}"), timetable: table(), calls }).collect()
+}
+
+/// The desk over a timetable with run lines: served to the end, and opened and closed while runs go on.
+fn over_runs() -> Vec<Case> {
+    let open = |condition: &str| format!("open\t{condition}\n");
+    let to_the_end: String = places::CONDITIONS.iter().map(|condition| open(condition)).collect();
+    let mut between = to_the_end.clone();
+    for round in 0..200 {
+        between += &"turn\n".repeat(round % 9 + 1);
+        between += &open(places::CONDITIONS[round % places::CONDITIONS.len()]);
+        between += &format!("close\t{}\n", round / 2);
+    }
+    let made = |name: &str, calls: String| Case {
+        name: format!("runs-{name}"),
+        timetable: Timetable::Bytes(places::table().into_bytes()),
+        calls: calls.into_bytes(),
+    };
+    vec![made("to-the-end", format!("{to_the_end}{}", "turn\n".repeat(9_000))), made("opened-between", between)]
 }
 
 fn table() -> Timetable {

@@ -19,7 +19,7 @@ use crate::values::{Kind, Value, KINDS, MOST_DURATION_MICROS, MOST_DURATION_MONT
 
 pub fn case(seed: u64) -> Case {
     let random = &mut Random::new(seed);
-    let setting = &Setting::new(random);
+    let setting = &Setting::any(random);
     let timetable = match random.below(100) {
         0 => Timetable::Missing,
         1 => Timetable::Folder,
