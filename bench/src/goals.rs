@@ -2,7 +2,7 @@
 
 use crate::inputs::FIRST_YEAR;
 use crate::measure::{Case, Costs};
-use crate::plan::{Plan, Series};
+use crate::plan::{Plan, Series, BEFORE};
 use crate::profile::{Part, Profile};
 use crate::report::{heading, percent, row, times};
 use crate::shares::{byte_costs, length, Shares};
@@ -13,6 +13,10 @@ const SAME: f64 = 1.1;
 const MOST_TIMES: f64 = 3.0;
 /// The most that it may take for a short test over delays, times the independent one's time.
 const MOST_TIMES_SHORT: f64 = 0.65;
+/// The most that a turn at a run may take, times that at a plain line under the same conditions.
+const MOST_TIMES_PLAIN: f64 = 2.0;
+/// The most that a turn at a plain line may take, times that of the program before.
+const MOST_TIMES_BEFORE: f64 = 1.05;
 /// The most of a turn's instructions without the walk over the years that may copy bytes.
 const MOST_COPYING: f64 = 0.02;
 
@@ -23,6 +27,9 @@ pub fn goals(plan: &Plan, shares: &Shares, profiles: Option<&[Profile; 2]>) {
     condition(plan);
     without_the_walk(plan, shares);
     short_test(plan);
+    runs(plan);
+    late_places(plan);
+    before(plan);
     copying(profiles);
     println!("\nUp to {SAME} times counts as the same. The short test is the first one over delays below, of 48 bytes.");
 }
@@ -86,6 +93,41 @@ fn short_test(plan: &Plan) {
         format!("{} times", times(ratio)),
         ratio <= MOST_TIMES_SHORT,
     );
+}
+
+fn runs(plan: &Plan) {
+    let plain = plan.last(Series::EachDeparture).costs().proved;
+    let most = plan.of(Series::Occurrences).iter().map(|case| case.costs().proved / plain).fold(0.0, f64::max);
+    goal(
+        &format!("a turn at a run at most {MOST_TIMES_PLAIN} times one at a plain line, departures of year {FIRST_YEAR}"),
+        format!("at most {} times, over runs of 2, 8 and 1,440 occurrences", times(most)),
+        most <= MOST_TIMES_PLAIN,
+    );
+}
+
+fn late_places(plan: &Plan) {
+    let ratio = grown(plan, Series::Occurrences);
+    let figure = format!("a turn at a run of 1,440 occurrences {} times one at a run of 2", times(ratio));
+    goal("a turn at a late place that is no dearer than one at an early place", figure, ratio <= SAME);
+}
+
+/// Left out where no program before is given.
+fn before(plan: &Plan) {
+    let ratio = |series| {
+        let case = plan.of(series)[0];
+        case.cost_before().map(|cost| case.costs().proved / cost)
+    };
+    if let [Some(departures), Some(delays)] = BEFORE.map(ratio) {
+        goal(
+            &format!("a turn at a plain line at most {MOST_TIMES_BEFORE} times that of the program before"),
+            format!(
+                "{} times (16 conditions over departures of year {FIRST_YEAR}), {} times (a short test over delays)",
+                times(departures),
+                times(delays)
+            ),
+            departures.max(delays) <= MOST_TIMES_BEFORE,
+        );
+    }
 }
 
 fn copying(profiles: Option<&[Profile; 2]>) {

@@ -11,6 +11,8 @@ const DELAYS: [&str; 11] = ["PT0S", "PT1M", "PT2M30S", "PT0S", "-PT30S", "PT4M",
 const STOPS: [&str; 7] = ["Kamppi", "Rautatientori", "Westendinasema", "Pasila", "Otaniemi", "Munkkiniemi", "Arabia"];
 
 const MINUTES_OF_DAY: usize = 24 * 60;
+/// The departures of the timetables of runs, and the most that one run may have.
+pub const RUN_DEPARTURES: usize = MINUTES_OF_DAY;
 /// The first departure is at 04:30 on 30 March, the last one at noon on the next day.
 const FIRST_MINUTE: usize = 4 * 60 + 30;
 const LAST_MINUTE: usize = MINUTES_OF_DAY + 12 * 60;
@@ -44,6 +46,34 @@ fn departure(place: usize, minute: usize, year: &str) -> String {
     let (day, hour, minute) = (30 + minute / MINUTES_OF_DAY, minute / 60 % 24, minute % 60);
     let (number, delay, stop) = (NUMBERS[place % 9], DELAYS[place % 11], STOPS[place % 7]);
     format!("{number}\t{year}-03-{day}T{hour:02}:{minute:02}:00{zone}\t{delay}\t{stop}\n")
+}
+
+/// So many departures of a day, one each minute, as runs of so many occurrences each: line number, `every`, first, last, step
+/// and stop.
+pub fn runs(occurrences: usize, year: &str) -> Vec<u8> {
+    let firsts = (0..RUN_DEPARTURES).step_by(occurrences);
+    let line = |(place, first): (usize, usize)| {
+        let (from, to) = (minute_of_day(first, year), minute_of_day(first + occurrences - 1, year));
+        format!("{}\tevery\t{from}\t{to}\tPT1M\t{}\n", NUMBERS[place % 9], STOPS[place % 7])
+    };
+    firsts.enumerate().map(line).collect::<String>().into_bytes()
+}
+
+/// The same departures, a line each: line number, departure and stop.
+pub fn each_departure(year: &str) -> Vec<u8> {
+    let line = |place| format!("{}\t{}\t{}\n", NUMBERS[place % 9], minute_of_day(place, year), STOPS[place % 7]);
+    (0..RUN_DEPARTURES).map(line).collect::<String>().into_bytes()
+}
+
+fn minute_of_day(minute: usize, year: &str) -> String {
+    format!("{year}-03-30T{:02}:{:02}:00+02:00", minute / 60, minute % 60)
+}
+
+/// Of what travellers ask, what looks at the second field alone (of a run the third one is its first departure) and not at a time of
+/// day (in any year such a value stands on 1972-12-31, and the walk over the years would be most of the turn).
+pub fn asked_of_second(year: &str) -> Vec<String> {
+    let wanted = |condition: &String| !condition.contains("$3") && !condition.contains("xs:time(");
+    asked(SEATS, year).into_iter().filter(wanted).collect()
 }
 
 /// One delay a line and nothing else: short lines, so that many turns fit, whose tests walk over no years.
@@ -139,6 +169,19 @@ mod tests {
                 .all(|line| line.is_empty() || line.split(|&byte| byte == b'\t').count() == 4));
         }
         assert_eq!(empty_lines().len(), MOST_TIMETABLE_BYTES);
+    }
+
+    #[test]
+    fn runs_stand_for_a_day_of_departures() {
+        assert!(each_departure(FIRST_YEAR).len() <= MOST_TIMETABLE_BYTES);
+        for occurrences in [2, 8, RUN_DEPARTURES] {
+            let runs = runs(occurrences, FIRST_YEAR);
+            assert!(runs.len() <= MOST_TIMETABLE_BYTES);
+            assert_eq!(runs.split(|&byte| byte == b'\n').count() - 1, RUN_DEPARTURES / occurrences);
+        }
+        let one = "550\tevery\t0001-03-30T00:00:00+02:00\t0001-03-30T23:59:00+02:00\tPT1M\tKamppi\n";
+        assert_eq!(runs(RUN_DEPARTURES, FIRST_YEAR), one.as_bytes());
+        assert!(asked_of_second(FIRST_YEAR).len() >= 8);
     }
 
     #[test]

@@ -1,6 +1,8 @@
 //! Measures the proved desk program against the independent one and prints tables.
 //!
-//!     bench PROVED INDEPENDENT FOLDER      the cases are written into FOLDER
+//!     bench PROVED INDEPENDENT FOLDER [BEFORE]      the cases are written into FOLDER
+//!
+//! BEFORE is the proved program as it was: a turn at a plain line is then measured of both.
 
 mod basex;
 mod goals;
@@ -21,11 +23,12 @@ use std::process::ExitCode;
 
 fn main() -> ExitCode {
     let words: Vec<String> = std::env::args().skip(1).collect();
-    let [proved, independent, work] = &words[..] else {
-        eprintln!("words: PROVED INDEPENDENT FOLDER");
+    let [proved, independent, work, before @ ..] = &words[..] else {
+        eprintln!("words: PROVED INDEPENDENT FOLDER [BEFORE]");
         return ExitCode::from(2);
     };
-    let programs = Programs { proved: proved.into(), independent: independent.into() };
+    let before = before.first().map(Into::into);
+    let programs = Programs { proved: proved.into(), independent: independent.into(), before };
     match run(&programs, Path::new(work)) {
         Ok(()) => ExitCode::SUCCESS,
         Err(error) => {
@@ -47,6 +50,8 @@ fn run(programs: &Programs, work: &Path) -> io::Result<()> {
     report::seats(&plan);
     report::timetable(&plan);
     report::condition(&plan);
+    report::runs(&plan);
+    report::before(&plan);
     report::shares(&plan, &shares);
     report::instructions(&plan, profiles.as_ref());
     report::memory(&[

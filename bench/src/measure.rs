@@ -15,13 +15,16 @@ pub const SHORT_RUNS: usize = 5;
 pub struct Programs {
     pub proved: PathBuf,
     pub independent: PathBuf,
+    /// The proved program as it was, where one is given.
+    pub before: Option<PathBuf>,
 }
 
-/// The least times of both programs.
+/// The least times of the programs.
 #[derive(Clone, Copy)]
 pub struct Times {
     pub proved: Duration,
     pub independent: Duration,
+    before: Duration,
 }
 
 /// Nanoseconds for a turn of both programs.
@@ -35,28 +38,41 @@ pub struct Costs {
 pub struct Case {
     pub folder: PathBuf,
     pub timetable_bytes: usize,
+    pub timetable_lines: usize,
     pub conditions: Vec<String>,
     /// How many turns are at a line.
     pub turns: usize,
     pub answers: String,
+    /// The program before, where it is asked too.
+    before: Option<PathBuf>,
     start_folder: PathBuf,
     times: Times,
     starts: Times,
 }
 
 impl Times {
-    const NONE: Times = Times { proved: Duration::MAX, independent: Duration::MAX };
+    const NONE: Times = Times { proved: Duration::MAX, independent: Duration::MAX, before: Duration::MAX };
 
-    fn measure(&mut self, programs: &Programs, folder: &Path) -> io::Result<()> {
+    fn measure(&mut self, programs: &Programs, before: Option<&Path>, folder: &Path) -> io::Result<()> {
         self.proved = self.proved.min(timed(&programs.proved, folder)?);
+        if let Some(before) = before {
+            self.before = self.before.min(timed(before, folder)?);
+        }
         self.independent = self.independent.min(timed(&programs.independent, folder)?);
         Ok(())
     }
 }
 
 impl Case {
-    /// Writes the case and has both programs answer it: what they write has to be the same, and every condition accepted.
-    pub fn new(programs: &Programs, folder: PathBuf, timetable: &[u8], conditions: &[String]) -> io::Result<Case> {
+    /// Writes the case and has both programs answer it: what they write has to be the same, and every condition accepted. The program
+    /// before, where it is asked too, has to write the same but for places.
+    pub fn new(
+        programs: &Programs,
+        before: Option<&Path>,
+        folder: PathBuf,
+        timetable: &[u8],
+        conditions: &[String],
+    ) -> io::Result<Case> {
         let start_folder = folder.join("start");
         write(&start_folder, b"", conditions)?;
         write(&folder, timetable, conditions)?;
@@ -66,16 +82,28 @@ impl Case {
         if opened != conditions.len() || !answers.ends_with("idle\n") {
             return Err(io::Error::other(format!("a condition is refused: {}", folder.display())));
         }
+        if let Some(before) = before {
+            if without_places(&answered(before, &folder)?) != without_places(&answers) {
+                return Err(io::Error::other(format!("the program before differs: {}", folder.display())));
+            }
+        }
         // Each condition has one line when it is opened and one when it is done, and the last line is Idle's.
         let turns = answers.lines().count() - 2 * opened - 1;
         let (timetable_bytes, conditions) = (timetable.len(), conditions.to_vec());
+        let timetable_lines = timetable.iter().filter(|&&byte| byte == b'\n').count();
         let (times, starts) = (Times::NONE, Times::NONE);
-        Ok(Case { folder, timetable_bytes, conditions, turns, answers, start_folder, times, starts })
+        let before = before.map(Path::to_path_buf);
+        Ok(Case { folder, timetable_bytes, timetable_lines, conditions, turns, answers, before, start_folder, times, starts })
     }
 
     fn measure(&mut self, programs: &Programs) -> io::Result<()> {
-        self.times.measure(programs, &self.folder)?;
-        self.starts.measure(programs, &self.start_folder)
+        self.times.measure(programs, self.before.as_deref(), &self.folder)?;
+        self.starts.measure(programs, self.before.as_deref(), &self.start_folder)
+    }
+
+    /// Whether it is run several times in each round: a short one, and one that the program before is asked too.
+    fn is_repeated(&self) -> bool {
+        self.times.proved < SHORT || self.before.is_some()
     }
 
     /// The start of each program: what it takes with an empty timetable.
@@ -85,11 +113,19 @@ impl Case {
 
     /// Nanoseconds for a turn at a line: the time of the whole run less that of the start, over the turns.
     pub fn costs(&self) -> Costs {
-        let cost = |whole: Duration, start: Duration| (whole.as_secs_f64() - start.as_secs_f64()) * 1e9 / self.turns as f64;
         Costs {
-            proved: cost(self.times.proved, self.starts.proved),
-            independent: cost(self.times.independent, self.starts.independent),
+            proved: self.cost(self.times.proved, self.starts.proved),
+            independent: self.cost(self.times.independent, self.starts.independent),
         }
+    }
+
+    /// The same of the program before, where it was asked.
+    pub fn cost_before(&self) -> Option<f64> {
+        self.before.as_ref().map(|_| self.cost(self.times.before, self.starts.before))
+    }
+
+    fn cost(&self, whole: Duration, start: Duration) -> f64 {
+        (whole.as_secs_f64() - start.as_secs_f64()) * 1e9 / self.turns as f64
     }
 }
 
@@ -100,7 +136,7 @@ pub fn measure_all<'a>(programs: &Programs, cases: impl Iterator<Item = &'a mut 
         eprintln!("round {round} of {ROUNDS}");
         for case in &mut cases {
             case.measure(programs)?;
-            let more = if case.times.proved < SHORT { SHORT_RUNS - 1 } else { 0 };
+            let more = if case.is_repeated() { SHORT_RUNS - 1 } else { 0 };
             for _ in 0..more {
                 case.measure(programs)?;
             }
@@ -128,6 +164,16 @@ fn same_answers(programs: &Programs, folder: &Path) -> io::Result<String> {
         return Err(io::Error::other(format!("the two programs differ: {}", folder.display())));
     }
     Ok(answers)
+}
+
+/// What a program writes without the place of each hit and miss, its last field of four: an older one writes none.
+fn without_places(answers: &str) -> Vec<String> {
+    let told = |line: &str| {
+        let fields: Vec<&str> = line.split('\t').collect();
+        let kept = if matches!(fields[0], "hit" | "miss") { &fields[..3] } else { &fields[..] };
+        kept.join("\t")
+    };
+    answers.lines().map(told).collect()
 }
 
 fn answered(program: &Path, folder: &Path) -> io::Result<String> {

@@ -1,6 +1,6 @@
 //! Which cases are measured.
 
-use crate::inputs::{self, FIRST_YEAR, MOST_TIMETABLE_BYTES, SEATS, YEAR};
+use crate::inputs::{self, FIRST_YEAR, MOST_TIMETABLE_BYTES, RUN_DEPARTURES, SEATS, YEAR};
 use crate::measure::{Case, Programs};
 use std::io;
 use std::path::Path;
@@ -27,6 +27,10 @@ pub enum Series {
     TestsReadOver,
     /// The tests in a condition that are evaluated.
     TestsEvaluated,
+    /// A day of departures in year 1, a line each.
+    EachDeparture,
+    /// The occurrences of a run, over the same departures.
+    Occurrences,
     /// A quarter of the departures, in which instructions are counted.
     Profiled,
     ProfiledInFirstYear,
@@ -34,7 +38,7 @@ pub enum Series {
 
 use Series::*;
 
-const ALL: [Series; 13] = [
+const ALL: [Series; 15] = [
     Asked,
     AskedInFirstYear,
     EmptyLines,
@@ -46,9 +50,14 @@ const ALL: [Series; 13] = [
     Spaces,
     TestsReadOver,
     TestsEvaluated,
+    EachDeparture,
+    Occurrences,
     Profiled,
     ProfiledInFirstYear,
 ];
+
+/// Of what the program before is asked too, the series; the first case of each.
+pub const BEFORE: [Series; 2] = [AskedInFirstYear, Spaces];
 
 pub struct Plan {
     pub cases: Vec<(Series, Case)>,
@@ -60,7 +69,8 @@ impl Plan {
         for series in ALL {
             for (place, (timetable, conditions)) in inputs_of(series).iter().enumerate() {
                 let folder = work.join(format!("{series:?}-{place}"));
-                cases.push((series, Case::new(programs, folder, timetable, conditions)?));
+                let before = programs.before.as_deref().filter(|_| place == 0 && BEFORE.contains(&series));
+                cases.push((series, Case::new(programs, before, folder, timetable, conditions)?));
             }
         }
         let plan = Plan { cases };
@@ -68,7 +78,8 @@ impl Plan {
         Ok(plan)
     }
 
-    /// Empty lines are unreadable and no others, and departures are answered alike in both years: the work is what it is meant to be.
+    /// Empty lines are unreadable and no others, departures are answered alike in both years, and the occurrences of a run as the same
+    /// departures in lines of their own: the work is what it is meant to be.
     fn check(&self) -> io::Result<()> {
         for (series, case) in &self.cases {
             let expected = if *series == EmptyLines { case.turns } else { 0 };
@@ -81,7 +92,13 @@ impl Plan {
                 return Err(io::Error::other("departures are answered differently in another year"));
             }
         }
-        Ok(())
+        let plain = words(self.last(EachDeparture));
+        match self.of(Occurrences).into_iter().find(|case| words(case) != plain) {
+            Some(case) => {
+                Err(io::Error::other(format!("a run is answered as its departures are not: {}", case.folder.display())))
+            }
+            None => Ok(()),
+        }
     }
 
     pub fn of(&self, series: Series) -> Vec<&Case> {
@@ -92,6 +109,11 @@ impl Plan {
     pub fn last(&self, series: Series) -> &Case {
         self.of(series).last().expect("no series is empty")
     }
+}
+
+/// Each answer without its ticket, offset and place.
+fn words(case: &Case) -> Vec<&str> {
+    case.answers.lines().filter_map(|line| line.split('\t').next()).collect()
 }
 
 type Input = (Vec<u8>, Vec<String>);
@@ -111,6 +133,10 @@ fn inputs_of(series: Series) -> Vec<Input> {
         Spaces => [0, 12, 72, 192].map(|spaces| (inputs::delays(), vec![inputs::with_spaces(spaces)])).into(),
         TestsReadOver => [0, 1, 2, 3].map(|count| (inputs::delays(), vec![inputs::with_tests_read_over(count)])).into(),
         TestsEvaluated => [1, 2, 3, 4].map(|count| (inputs::delays(), vec![inputs::with_tests_evaluated(count)])).into(),
+        EachDeparture => vec![(inputs::each_departure(FIRST_YEAR), inputs::asked_of_second(FIRST_YEAR))],
+        Occurrences => [2, 8, RUN_DEPARTURES]
+            .map(|occurrences| (inputs::runs(occurrences, FIRST_YEAR), inputs::asked_of_second(FIRST_YEAR)))
+            .into(),
         Profiled => vec![(inputs::departures(16_384, YEAR), all)],
         ProfiledInFirstYear => vec![(inputs::departures(16_384, FIRST_YEAR), inputs::asked(SEATS, FIRST_YEAR))],
     }

@@ -14,19 +14,21 @@ pub enum Part {
     ConditionText,
     Values,
     Computing,
+    Runs,
     Copying,
     Desk,
 }
 
-pub const PARTS: [(Part, &str); 6] = [
+pub const PARTS: [(Part, &str); 7] = [
     (Part::YearWalk, "the walk over the years: `calendar`"),
     (Part::ConditionText, "the condition's text, its symbols and grammar: `condition`, `condition_readers`, `condition_symbols`, `condition_depth`, `condition_words`"),
-    (Part::Values, "values read, fields and literals: `text`, `text_layouts`, `text_checks`, `text_scan`, `text_durations`, `numerals`"),
+    (Part::Values, "values read, fields and literals: `text`, `text_fields`, `text_layouts`, `text_checks`, `text_scan`, `text_durations`, `numerals`"),
     (
         Part::Computing,
         "comparing and computing: `operation`, `operation_arithmetic`, `operation_ordering`, `operation_adjusting`, `operation_casting`, `operation_shifting`, `operation_quantities`, `value_instants`, `value`, \
          `condition_parts`, `condition_givens`, `condition_sorts`, `condition_operators`",
     ),
+    (Part::Runs, "what a line stands for: `run_cases`, `run_times`"),
     (Part::Copying, "bytes copied: `memcpy`, `memset`"),
     (Part::Desk, "all else: seats, lines found, output lines"),
 ];
@@ -70,9 +72,18 @@ fn part_of(name: &str) -> Part {
         "calendar" => Part::YearWalk,
         "condition" | "condition_readers" | "condition_symbols" | "condition_depth" | "condition_words" => Part::ConditionText,
         "numerals" if name.contains("decimal") => Part::Desk,
-        "text" | "text_layouts" | "text_checks" | "text_scan" | "text_durations" | "numerals" => Part::Values,
-        "operation" | "operation_arithmetic" | "operation_ordering" | "operation_adjusting" | "operation_casting" | "operation_shifting" | "operation_quantities" => Part::Computing,
-        "value_instants" | "value" | "condition_parts" | "condition_givens" | "condition_sorts" | "condition_operators" => Part::Computing,
+        "run_cases" | "run_times" => Part::Runs,
+        "text" | "text_fields" | "text_layouts" | "text_checks" | "text_scan" | "text_durations" | "numerals" => Part::Values,
+        "operation"
+        | "operation_arithmetic"
+        | "operation_ordering"
+        | "operation_adjusting"
+        | "operation_casting"
+        | "operation_shifting"
+        | "operation_quantities" => Part::Computing,
+        "value_instants" | "value" | "condition_parts" | "condition_givens" | "condition_sorts" | "condition_operators" => {
+            Part::Computing
+        }
         _ if name.contains("memcpy") || name.contains("memmove") || name.contains("memset") => Part::Copying,
         _ => Part::Desk,
     }

@@ -1,9 +1,9 @@
 //! What was measured, as Markdown.
 
 use crate::basex;
-use crate::inputs::{FIRST_YEAR, YEAR};
+use crate::inputs::{FIRST_YEAR, RUN_DEPARTURES, YEAR};
 use crate::measure::{has_processor_time, Case, ROUNDS, SHORT_RUNS};
-use crate::plan::{Plan, Series};
+use crate::plan::{Plan, Series, BEFORE};
 use crate::profile::{Part, Profile, PARTS};
 use crate::shares::{byte_costs, length, Shares};
 
@@ -123,6 +123,46 @@ fn condition_rows(name: &str, cases: &[&Case]) {
         let [more_proved, more_independent] = more;
         row(&[name.to_string(), length(case).to_string(), proved, more_proved, independent, more_independent]);
     }
+}
+
+pub fn runs(plan: &Plan) {
+    let columns = ["Timetable", "Turns", "Proved", "times a plain line's", "Independent", "times a plain line's"];
+    heading(&format!("Cost of a turn at a run of departures, year {FIRST_YEAR}, ns"), &columns);
+    let plain = plan.last(Series::EachDeparture);
+    runs_row("a line for each departure", plain, plain);
+    for case in plan.of(Series::Occurrences) {
+        let occurrences = thousands((RUN_DEPARTURES / case.timetable_lines) as u64);
+        let runs = if case.timetable_lines == 1 { "run" } else { "runs" };
+        runs_row(&format!("{} {runs} of {occurrences} occurrences", case.timetable_lines), case, plain);
+    }
+    let (departures, conditions) = (thousands(RUN_DEPARTURES as u64), plain.conditions.len());
+    println!("\nThe same {departures} departures, a minute apart, and the same {conditions} conditions: those of the sixteen that look at");
+    println!("the second field alone, and at no time of day. A turn at a run reads three values more, and writes the occurrence's text.");
+}
+
+fn runs_row(name: &str, case: &Case, plain: &Case) {
+    let (costs, least) = (case.costs(), plain.costs());
+    row(&[
+        name.to_string(),
+        thousands(case.turns as u64),
+        nanoseconds(costs.proved),
+        times(costs.proved / least.proved),
+        nanoseconds(costs.independent),
+        times(costs.independent / least.independent),
+    ]);
+}
+
+/// Left out where no program before is given.
+pub fn before(plan: &Plan) {
+    let names = [format!("16 conditions over departures of year {FIRST_YEAR}"), "a short test over delays".to_string()];
+    let cases = BEFORE.map(|series| plan.of(series)[0]);
+    let [Some(departures), Some(delays)] = cases.map(Case::cost_before) else { return };
+    heading("Cost of a turn at a plain line, before and now, ns", &["Case", "Before", "Now", "Now / before"]);
+    for ((name, case), cost) in names.iter().zip(cases).zip([departures, delays]) {
+        let now = case.costs().proved;
+        row(&[name.clone(), nanoseconds(cost), nanoseconds(now), times(now / cost)]);
+    }
+    println!("\nThe proved program before and now, in turn in every round. What the two write is the same, but for the places.");
 }
 
 pub fn shares(plan: &Plan, shares: &Shares) {
