@@ -26,6 +26,12 @@ function reason(number, what) {
   return (number in reasons) ? reasons[number] : "refusal " number
 }
 
+# Of a run, which departure a turn judged; nothing where a line is one departure.
+function at_place(offset, place) {
+  if (offset in runs) return "place " place " of the run  # "
+  return place == 0 ? "" : "place " place "  # "
+}
+
 function many(count, what) { return count " " what (count == 1 ? "" : "s") }
 
 BEGIN {
@@ -38,16 +44,18 @@ BEGIN {
   reasons[8] = "over sixteen parentheses deep"
   reasons[9] = "kinds that do not fit"
   reasons[10] = "all sixteen seats are held"
+  reasons[17] = "a run whose step is not above zero"
+  reasons[18] = "a run of over 1,440 departures"
 }
 
-part == "timetable" { line[at + 0] = shown($0); at += length($0) + 1; next }
+part == "timetable" { line[at + 0] = shown($0); if ($2 == "every") runs[at + 0]; at += length($0) + 1; next }
 part == "conditions" { condition[++given] = shown($0); next }
 
 { about = "" }
 $1 == "open" { about = of[$2] = condition[++asked] }
 $1 == "refused" { about = too_long != "" ? too_long : reason($2, "literal") "  # " condition[++asked] }
-$1 == "hit" || $1 == "miss" { about = line[$3] "  # " of[$2] }
+$1 == "hit" || $1 == "miss" { about = at_place($3, $4) line[$3] "  # " of[$2] }
 $1 == "unreadable" { about = reason($4, "field") "  # " line[$3] "  # " of[$2] }
-$1 == "done" { about = many($3, "hit") ", " many($4, "unreadable line") "  # " of[$2] }
+$1 == "done" { about = many($3, "hit") ", " many($4, "unreadable turn") "  # " of[$2] }
 $1 == "idle" { about = "every accepted condition is done" }
 { print $0 "  # " about }
