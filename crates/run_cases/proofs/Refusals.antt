@@ -11,13 +11,11 @@ use Rattle.basis.specs.Choice.{pick}
 use Rattle.basis.specs.Answer.{Answer, gives, refuses}
 use Rattle.value.specs.Refusals.{badText, beyondBounds, longFraction, beyondResult, noField, badStep, tooMany}
 use Rattle.value.specs.declared.Offset.{Offset}
-use Rattle.value.specs.declared.Value.the-variants as VV
-use Rattle.timetable.specs.Rows.{Row, rowOf, withSecond}
-use Rattle.text.specs.Writing.{textOf}
+use Rattle.timetable.specs.Rows.{Row, rowOf}
 use Rattle.run_times.specs.Occurrences.{countOf}
 use Rattle.run_times.proofs.Counts.{before-or-not}
 use Rattle.run_cases.specs.Cases.{Case, rowCase, missCase, refusalCase, caseAt}
-use Rattle.run_cases.specs.StandsFor.{isRun, RunFields, timesIn, runOf, occurrenceAt, standsFor}
+use Rattle.run_cases.specs.StandsFor.{isRun, RunFields, timesIn, runOf, standsFor}
 use Rattle.run_cases.specs.Laws.{ofRunLine, RefusalsAtLine}
 use Rattle.run_cases.proofs.Places.{row-first}
 use Rattle.run_cases.proofs.Lines.{plain-line, bad-run, good-run}
@@ -38,7 +36,7 @@ module _ (zone : Offset) (line : List ℕ) where
   at-good : (r : RunFields) (p n : ℕ) → isRun line ≡ true → runOf zone line ≡ gives r → caseAt (standsFor zone line) p ≡ refusalCase n → ofRunLine n ≡ true
   at-good r p n e g h =
       let q = good-run zone line r e g in
-      ⊎-elim (λ l. no-row (withSecond (textOf (VV.DateTime (occurrenceAt r p))) (rowOf line)) n (sym (q .there p l) ∙ h))
+      ⊎-elim (λ l. no-row _ n (sym (q .there p l) ∙ h))
       (λ l. no-miss n (sym (q .further p l) ∙ h))
       (before-or-not p (countOf (timesIn zone r)))
 
