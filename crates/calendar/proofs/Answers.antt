@@ -21,7 +21,7 @@ pub too-late : (n last : ℕ) → last < dateOf n .year → datedOf n last ≡ L
 unfolding datedOf
 too-late n last h = ap (λ (b : Bool). pick b (On (dateOf n)) Later) (lt-leb (dateOf n .year) last h)
 
--- the walk of the years found the day's year, up to the last one
+-- the day's year was found, up to the last one
 pub on-from : (n last y k : ℕ) (d : Date) → k < yearDays y → total yearDays y + k ≡ n → y ≤ last
     → d ≡ dateWithin (record { number = y; left = k }) → On d ≡ datedOf n last
 on-from n last y k d hk e hy ed =
@@ -29,7 +29,7 @@ on-from n last y k d hk e hy ed =
     let hq : dateOf n .year ≤ last = year-up-to n last (omega (arith, years-next y, years-grow (y + 1) (last + 1) (omega arith))) in
     ap On q ∙ sym (on-time n last hq)
 
--- it stopped at the last year, and the day lies beyond
+-- the year is the last one, and the day lies beyond
 pub later-from : (n last y k : ℕ) → yearDays y ≤ k → total yearDays y + k ≡ n → y ≡ last → Later ≡ datedOf n last
 later-from n last y k hk e ey = sym (too-late n last (go (leb (dateOf n .year) last) refl))
   where

@@ -1,8 +1,10 @@
--- Worked cases, by computation: either side of a leap day, of a century and of the last year of four digits.
+-- Worked cases, by computation: either side of a leap day, of a century and of the last year of four digits; by the cycle,
+-- either side of its end and of a leap year's.
 use mathlib.Core.Path.{_≡_, refl}
 use Prim.Native.Nat.{_-_}
 use Rattle.calendar.specs.declared.Dated.the-variants.{On, Later}
 use Rattle.calendar.specs.Calendar.{leapRow, monthDays, total, dayNumber, periodOf, dateOf, datedOf}
+use Rattle.calendar.specs.Cycle.{beforeByCycle, yearByCycle}
 
 number-of-2000-03-01 : dayNumber 2000 3 1 ≡ 730545
 unfolding total
@@ -42,3 +44,28 @@ last-of-year-0 = refl
 after-year-0 : datedOf 366 0 ≡ Later
 unfolding periodOf dateOf datedOf
 after-year-0 = refl
+
+-- 1999-12-31 is the last day of a cycle: five cycles have 730,485 days
+before-2000 : beforeByCycle 2000 ≡ 730485
+before-2000 = refl
+
+before-2001 : beforeByCycle 2001 ≡ 730851
+before-2001 = refl
+
+before-2101 : beforeByCycle 2101 ≡ dayNumber 2101 1 1
+unfolding total
+before-2101 = refl
+
+year-of-1999-12-31 : yearByCycle 730484 ≡ 1999
+year-of-1999-12-31 = refl
+
+year-of-2000-01-01 : yearByCycle 730485 ≡ 2000
+year-of-2000-01-01 = refl
+
+year-of-2024-12-31 : yearByCycle (dayNumber 2024 12 31) ≡ 2024
+unfolding total
+year-of-2024-12-31 = refl
+
+year-of-2025-01-01 : yearByCycle (dayNumber 2025 1 1) ≡ 2025
+unfolding total
+year-of-2025-01-01 = refl

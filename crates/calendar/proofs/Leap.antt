@@ -1,8 +1,11 @@
--- A year has one of the two rows of month lengths, so 365 days or 366.
+-- A year has one of the two rows of month lengths, so 365 days or 366. The leap rule as a count of multiples, and that it repeats
+-- after 400 years.
+use mathlib.Core.Path.{_≡_, refl}
 use mathlib.Core.Bool.{Bool, true, false}
-use Prim.Native.Nat.{ℕ, _≤_, _%_}
+use Prim.Native.Nat.{ℕ, _+_, _≤_, _%_}
 use lib.Dec.{eqb, lit≤}
 use native.Mathlib.Omega.{arith}
+use borrow.Author.Tests.{eqb-true, eqb-false}
 use Rattle.basis.specs.Choice.{pick}
 use Rattle.calendar.specs.Calendar.{leapRow, yearDays}
 
@@ -23,3 +26,33 @@ year-le y = omega (arith, leap-le y)
 
 pub year-has-day : (y : ℕ) → 1 ≤ yearDays y
 year-has-day y = omega arith
+
+-- 1 for a multiple of k, 0 for any other number
+abbrev pub multiple : ℕ → ℕ → ℕ
+multiple k y = pick (eqb (y % k) 0) 1 0
+
+-- a leap day for a multiple of 4, none after all for a multiple of 100, one again for a multiple of 400
+pub leap-counts : (y : ℕ) → leapRow y + multiple 100 y ≡ multiple 4 y + multiple 400 y
+leap-counts y = go (eqb (y % 400) 0) (eqb (y % 100) 0) (eqb (y % 4) 0) refl refl refl
+  where
+    by-400 : y % 400 ≡ 0 → (y % 100 ≡ 0 → ⊥) → ⊥
+    by-400 h g = omega arith
+
+    by-100 : y % 100 ≡ 0 → (y % 4 ≡ 0 → ⊥) → ⊥
+    by-100 h g = omega arith
+
+    go : (a b d : Bool) → eqb (y % 400) 0 ≡ a → eqb (y % 100) 0 ≡ b → eqb (y % 4) 0 ≡ d
+        → pick a 1 (pick b 0 (pick d 1 0)) + pick b 1 0 ≡ pick d 1 0 + pick a 1 0
+    go true true true ea eb ed = refl
+    go false true true ea eb ed = refl
+    go false false true ea eb ed = refl
+    go false false false ea eb ed = refl
+    go true false d ea eb ed = absurd (by-400 (eqb-true _ _ ea) (eqb-false _ _ eb))
+    go a true false ea eb ed = absurd (by-100 (eqb-true _ _ eb) (eqb-false _ _ ed))
+
+pub leap-repeats : (y : ℕ) → leapRow (y + 400) ≡ leapRow y
+leap-repeats y =
+    let by-400 : (y + 400) % 400 ≡ y % 400 = omega arith in
+    let by-100 : (y + 400) % 100 ≡ y % 100 = omega arith in
+    let by-4 : (y + 400) % 4 ≡ y % 4 = omega arith in
+    λ i. pick (eqb (by-400 i) 0) 1 (pick (eqb (by-100 i) 0) 0 (pick (eqb (by-4 i) 0) 1 0))

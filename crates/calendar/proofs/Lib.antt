@@ -4,5 +4,6 @@ pub mod Months
 pub mod Years
 pub mod Order
 pub mod Dates
+pub mod Cycle
 pub mod Answers
 pub mod Cases

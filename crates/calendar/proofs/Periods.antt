@@ -28,6 +28,12 @@ module _ (f : ℕ → ℕ) where
   total-ge h zero = omega arith
   total-ge h (suc n) = omega (arith, h n, total-ge h n)
 
+  -- the first m periods and then n more
+  pub total-adds : (m n : ℕ) → total f (m + n) ≡ total f m + total (λ (k : ℕ). f (m + k)) n
+  unfolding total
+  total-adds m zero = ap (total f) (add-zero m) ∙ sym (add-zero (total f m))
+  total-adds m (suc n) = rw (add-suc m n) (omega (arith, total-adds m n))
+
   grows-by : (m k : ℕ) → total f m ≤ total f (m + k)
   unfolding total
   grows-by m zero = rw (add-zero m) (omega arith)

@@ -15,6 +15,14 @@ const MONTHS: [[u8; MONTH_COUNT]; 2] = [
 
 const ORDINARY_YEAR: u64 = 365;
 
+const LEAP_YEAR: u64 = 366;
+
+// The calendar repeats every 400 years. Such a cycle has 97 leap years, so 146,097 days. Cycles are counted from year 0,
+// so that each begins with a leap year, as the one from 2000 to 2399 does. specs/Cycle.antt has what is proved of them.
+const CYCLE_YEARS: u16 = 400;
+
+const CYCLE_DAYS: u64 = 146_097;
+
 pub struct Date {
     pub year: u16,
     pub month: u8,
@@ -55,17 +63,16 @@ pub fn year_days(year: u16) -> u64
     ORDINARY_YEAR + leap_row(year) as u64
 }
 
-// The days of all years before one.
+// The days of all years before one: of the whole cycles, and of the y years before it in its own cycle. Each of these has
+// 365 days, and by the leap rule the multiples of 4 have a day more, those of 100 have not, those of 400 have again. A
+// division that is rounded up counts the multiples below y, 0 among them.
 fn before_year(year: u16) -> u64
     ensures { λ r. ⌜ r ≡ total yearDays year ⌝ }
 {
-    let mut n: u64 = 0;
-    let mut y: u16 = 0;
-    while y < year {
-        n += year_days(y);
-        y += 1;
-    }
-    n
+    let cycles = (year / CYCLE_YEARS) as u64;
+    let y = (year % CYCLE_YEARS) as u64;
+    let leap_days = (y + 3) / 4 - (y + 99) / 100 + (y + 399) / 400;
+    cycles * CYCLE_DAYS + ORDINARY_YEAR * y + leap_days
 }
 
 // The days of all months before one, in its year.
@@ -89,27 +96,35 @@ pub fn day_number(d: Date) -> u64
     before_year(d.year) + before_month(d.year, d.month) + (d.day - 1) as u64
 }
 
-// A day by its number within a year. Where the walk stopped at the last year, the number may be beyond that year.
+// A day by its number within a year. Where the year is the last one, the number may be beyond that year.
 struct YearDay {
     year: u16,
     left: u64,
 }
 
+// The year of a day number, as far as the last one. With 366 days for each year of its cycle the year comes out right or
+// one too early: the 303 ordinary years of a whole cycle have a day less each, and 303 days are less than a year.
 fn year_of(n: u64, last: u16) -> YearDay
     ensures { λ r. ⌜ (total yearDays (r .year) + r .left ≡ n) × (r .year ≤ last) × (yearDays (r .year) ≤ r .left → r .year ≡ last) ⌝ }
 {
-    let mut year: u16 = 0;
-    let mut left = n;
-    // The test comes before the sum: no year follows 65535.
-    while year < last {
-        let len = year_days(year);
-        if left < len {
-            return YearDay { year, left };
-        }
-        left -= len;
-        year += 1;
+    let start = before_year(last);
+    if start <= n {
+        return YearDay {
+            year: last,
+            left: n - start,
+        };
     }
-    YearDay { year, left }
+    let cycles = (n / CYCLE_DAYS) as u16;
+    let early = cycles * CYCLE_YEARS + (n % CYCLE_DAYS / LEAP_YEAR) as u16;
+    let left = n - before_year(early);
+    let len = year_days(early);
+    if left < len {
+        return YearDay { year: early, left };
+    }
+    YearDay {
+        year: early + 1,
+        left: left - len,
+    }
 }
 
 fn date_in(year: u16, n: u64) -> Date

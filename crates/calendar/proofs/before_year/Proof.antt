@@ -1,53 +1,57 @@
-use mathlib.Core.Path.{_≡_, refl, ap, _∙_}
-use Prim.Native.Nat.{_≤_, _-_}
-use native.Mathlib.Omega.{arith}
 use borrow.Author.Needs.{needs}
-use Rattle.calendar.specs.Calendar.{total, yearDays}
-use Rattle.calendar.proofs.Leap.{leap-le}
-use Rattle.calendar.proofs.Years.{years-le, years-next}
+use Rattle.calendar.proofs.Cycle.{sum-by-cycle}
 use Rattle.calendar.proofs.before_year.Statement.{statement}
 use Rattle.calendar.proofs.before_year.Tie as tie
 
-abbrev Inv-loop : tie.InvT-loop
-Inv-loop year n₀ y₀ n y = (y ≤ year) × (n ≡ total yearDays y)
+cast-cycles : tie.Need-cast-cycles
+cast-cycles c = search needs
 
-abbrev μ-loop : tie.MeasureT-loop
-μ-loop year n₀ y₀ n y = year - y
+cast-y : tie.Need-cast-y
+cast-y c = search needs
 
-loop-holds : tie.Need-loop-holds Inv-loop μ-loop
-unfolding total
-loop-holds c = (search needs, refl)
+add-leap-days : tie.Need-add-leap-days
+add-leap-days c = search needs
 
-year-days-requires : tie.Need-year-days-requires Inv-loop μ-loop
-year-days-requires c κs = search needs
+add-leap-days-2 : tie.Need-add-leap-days-2
+add-leap-days-2 c = search needs
 
-add-n : tie.Need-add-n Inv-loop μ-loop
-add-n c = omega (arith, years-le (c .before .before .loop .y), leap-le (c .before .before .loop .y))
+sub-leap-days : tie.Need-sub-leap-days
+sub-leap-days c = search needs
 
-add-y : tie.Need-add-y Inv-loop μ-loop
-add-y c = omega arith
+add-leap-days-3 : tie.Need-add-leap-days-3
+add-leap-days-3 c = search needs
 
-loop-less : tie.Need-loop-less Inv-loop μ-loop
-loop-less c = omega arith
+add-leap-days-4 : tie.Need-add-leap-days-4
+add-leap-days-4 c = search needs
 
-loop-again : tie.Need-loop-again Inv-loop μ-loop
-loop-again c = (omega arith, omega (arith, years-next (c .before .before .loop .y)))
+mul-result : tie.Need-mul-result
+mul-result c = search needs
 
-returns : tie.Need-returns Inv-loop μ-loop
-returns c =
-    let e : c .before .loop .y ≡ c .before .before .args .year = omega arith in
-    c .before .loop .inv .1 ∙ ap (total yearDays) e
+mul-result-2 : tie.Need-mul-result-2
+mul-result-2 c = search needs
+
+add-result : tie.Need-add-result
+add-result c = search needs
+
+add-result-2 : tie.Need-add-result-2
+add-result-2 c = search needs
+
+returns : tie.Need-returns
+returns c = sum-by-cycle (c .args .year)
 
 pub before-year-spec : {M : Type 1} → statement M
 before-year-spec =
     tie.close
     (tie.spec
-    Inv-loop
-    μ-loop
-    loop-holds
-    year-days-requires
-    add-n
-    add-y
-    loop-less
-    loop-again
+    cast-cycles
+    cast-y
+    add-leap-days
+    add-leap-days-2
+    sub-leap-days
+    add-leap-days-3
+    add-leap-days-4
+    mul-result
+    mul-result-2
+    add-result
+    add-result-2
     returns)

@@ -1,50 +1,77 @@
-use mathlib.Core.Path.{_≡_}
-use Prim.Native.Nat.{_+_, _-_, _≤_}
+use Prim.Native.Nat.{_+_}
 use native.Mathlib.Omega.{arith}
 use borrow.Author.Needs.{needs}
-use Rattle.calendar.specs.Calendar.{total, yearDays}
-use Rattle.calendar.proofs.Periods.{total-zero}
+use Rattle.calendar.specs.Cycle.{earlyYear}
+use Rattle.calendar.proofs.Cycle.{early-before, early-starts, early-ends}
 use Rattle.calendar.proofs.Years.{years-next}
 use Rattle.calendar.proofs.year_of.Statement.{statement}
 use Rattle.calendar.proofs.year_of.Tie as tie
 
-abbrev Inv-loop : tie.InvT-loop
-Inv-loop n last year₀ left₀ year left = (total yearDays year + left ≡ n) × (year ≤ last)
+before-year-requires : tie.Need-before-year-requires
+before-year-requires c κs = search needs
 
-abbrev μ-loop : tie.MeasureT-loop
-μ-loop n last year₀ left₀ year left = last - year
-
-loop-holds : tie.Need-loop-holds Inv-loop μ-loop
-loop-holds c = (omega (arith, total-zero yearDays), search needs)
-
-year-days-requires : tie.Need-year-days-requires Inv-loop μ-loop
-year-days-requires c κs = search needs
-
-returns : tie.Need-returns Inv-loop μ-loop
+returns : tie.Need-returns
 returns c = (omega arith, omega arith, λ h. omega arith)
 
-add-year : tie.Need-add-year Inv-loop μ-loop
-add-year c = omega arith
+cast-cycles : tie.Need-cast-cycles
+cast-cycles c =
+    let a = c .before .before .args in
+    omega (arith, early-before (a .n) (a .last) (omega arith))
 
-loop-less : tie.Need-loop-less Inv-loop μ-loop
-loop-less c = omega arith
+mul-early : tie.Need-mul-early
+mul-early c =
+    let a = c .before .before .args in
+    omega (arith, early-before (a .n) (a .last) (omega arith))
 
-loop-again : tie.Need-loop-again Inv-loop μ-loop
-loop-again c = (omega (arith, years-next (c .before .before .before .loop .year)), omega arith)
+cast-early : tie.Need-cast-early
+cast-early c = search needs
 
-returns-2 : tie.Need-returns-2 Inv-loop μ-loop
-returns-2 c = (omega arith, omega arith, λ h. omega arith)
+add-early : tie.Need-add-early
+add-early c =
+    let a = c .before .before .args in
+    omega (arith, early-before (a .n) (a .last) (omega arith))
+
+before-year-requires-2 : tie.Need-before-year-requires-2
+before-year-requires-2 c κs = search needs
+
+sub-left : tie.Need-sub-left
+sub-left c = omega (arith, early-starts (c .before .before .before .args .n))
+
+year-days-requires : tie.Need-year-days-requires
+year-days-requires c κs = search needs
+
+returns-2 : tie.Need-returns-2
+returns-2 c =
+    let a = c .before .before .before .before .before .args in
+    (omega (arith, early-starts (a .n)), omega (arith, early-before (a .n) (a .last) (omega arith)), λ h. omega arith)
+
+add-t11 : tie.Need-add-t11
+add-t11 c =
+    let a = c .before .before .before .before .before .args in
+    omega (arith, early-before (a .n) (a .last) (omega arith))
+
+returns-3 : tie.Need-returns-3
+returns-3 c =
+    let a = c .before .before .before .before .before .args in
+    let y = earlyYear (a .n) in (
+      omega (arith, early-starts (a .n), years-next y),
+      omega (arith, early-before (a .n) (a .last) (omega arith)),
+      λ h. omega (arith, early-starts (a .n), early-ends (a .n), years-next y, years-next (y + 1)),
+    )
 
 pub year-of-spec : {M : Type 1} → statement M
 year-of-spec =
     tie.close
     (tie.spec
-    Inv-loop
-    μ-loop
-    loop-holds
-    year-days-requires
+    before-year-requires
     returns
-    add-year
-    loop-less
-    loop-again
-    returns-2)
+    cast-cycles
+    mul-early
+    cast-early
+    add-early
+    before-year-requires-2
+    sub-left
+    year-days-requires
+    returns-2
+    add-t11
+    returns-3)
