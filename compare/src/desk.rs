@@ -83,14 +83,19 @@ impl Desk {
             return Err(NOT_SOUND);
         }
         accept(condition)?;
+        let number = self.take_seat(condition)?;
+        Ok(self.seats[number].ticket)
+    }
+
+    /// Opens a condition that is known to pass the checks, on a desk that is known to be sound. Gives the seat's number.
+    pub(crate) fn take_seat(&mut self, condition: &[u8]) -> Result<usize, Refusal> {
         let free = self.seats.iter().position(|seat| !seat.held).ok_or(ALL_SEATS_HELD)?;
         if self.last_issued == LAST_TICKET {
             return Err(NO_TICKET_LEFT);
         }
         self.last_issued += 1;
-        let ticket = self.last_issued;
-        self.seats[free] = Seat::opened(ticket, condition);
-        Ok(ticket)
+        self.seats[free] = Seat::opened(self.last_issued, condition);
+        Ok(free)
     }
 
     pub fn close(&mut self, ticket: u32) -> Result<(), Refusal> {
@@ -114,6 +119,15 @@ impl Desk {
 
     /// A turn of a desk that is known to be sound and of this timetable's length.
     pub(crate) fn serve(&mut self, timetable: &[u8]) -> Turn {
+        self.serve_by(timetable, |_, seat, fields| holds(&seat.tree()?, fields))
+    }
+
+    /// The same, where `judge` says whether the condition of a seat, given with its number, holds at a line's fields.
+    pub(crate) fn serve_by(
+        &mut self,
+        timetable: &[u8],
+        judge: impl FnOnce(usize, &Seat, &[&[u8]]) -> Result<bool, Refusal>,
+    ) -> Turn {
         let mut round = (1..=SEATS).map(|step| (self.last_served + step) % SEATS);
         let Some(number) = round.find(|&number| self.seats[number].held) else {
             return Turn::Idle;
@@ -125,7 +139,7 @@ impl Desk {
             *seat = Seat::default();
             return done;
         }
-        seat.judge_next(timetable)
+        seat.judge_next(timetable, |seat, fields| judge(number, seat, fields))
     }
 }
 
@@ -166,13 +180,13 @@ impl Seat {
     }
 
     /// One turn at the line that the offset stands at; the timetable does not end there.
-    fn judge_next(&mut self, timetable: &[u8]) -> Turn {
+    fn judge_next(&mut self, timetable: &[u8], judge: impl FnOnce(&Seat, &[&[u8]]) -> Result<bool, Refusal>) -> Turn {
         let (ticket, offset, place) = (self.ticket, self.offset, self.place);
         let rest = &timetable[offset..];
         let line = rest.split(|&byte| byte == b'\n').next().unwrap_or(rest);
         let fields = fields(line);
         let run = Run::of(&fields);
-        let judged = run.and_then(|run| self.judge(run, &fields));
+        let judged = run.and_then(|run| self.judge_place(run, &fields, judge));
         if run.is_ok_and(|run| (place as usize) + 1 < places(run)) {
             self.place += 1;
         } else {
@@ -194,19 +208,23 @@ impl Seat {
     }
 
     /// A good line at the seat's place. One that does not reach the place is missed, whatever the condition says.
-    fn judge(&self, run: Option<Run>, fields: &[&[u8]]) -> Result<bool, Refusal> {
+    fn judge_place(
+        &self,
+        run: Option<Run>,
+        fields: &[&[u8]],
+        judge: impl FnOnce(&Seat, &[&[u8]]) -> Result<bool, Refusal>,
+    ) -> Result<bool, Refusal> {
         let place = self.place as usize;
         if place >= places(run) {
             return Ok(false);
         }
-        let tree = self.tree()?;
         let Some(run) = run else {
-            return holds(&tree, fields);
+            return judge(self, fields);
         };
         let text = run.text_at(place);
         let mut fields = fields.to_vec();
         fields[1] = text.as_bytes();
-        holds(&tree, &fields)
+        judge(self, &fields)
     }
 }
 

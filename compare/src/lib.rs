@@ -10,6 +10,7 @@ pub mod hostile;
 pub mod library;
 pub mod lines;
 pub mod programs;
+pub mod read_once;
 pub mod runs;
 pub mod values;
 

@@ -4,6 +4,7 @@ use crate::conditions::accept;
 use crate::conditions::evaluation::holds;
 use crate::desk::{Desk, Turn, MOST_TIMETABLE_BYTES};
 use crate::lines::{fields, lines};
+use crate::read_once::ReadOnce;
 use crate::values::operations::{add, adjust, cast, compare, components, multiply, subtract, unzone};
 use crate::values::reading::{number, read};
 use crate::values::writing::write;
@@ -121,9 +122,25 @@ fn judged(line: &[u8]) -> String {
     }
 }
 
-/// The desk program: opens the conditions in order, then takes turns until Idle.
+/// The desk program.
 pub fn desk(timetable: &[u8], input: &[u8]) -> String {
-    let mut desk = match Desk::fresh(timetable.len()) {
+    desk_by(Desk::fresh, Desk::open, Desk::serve, timetable, input)
+}
+
+/// The same with a desk that reads each condition's text once.
+pub fn desk_read_once(timetable: &[u8], input: &[u8]) -> String {
+    desk_by(ReadOnce::fresh, ReadOnce::open, ReadOnce::serve, timetable, input)
+}
+
+/// Opens the conditions in order, then takes turns until Idle, on a desk of any sort by its calls.
+fn desk_by<D>(
+    fresh: fn(usize) -> Result<D, Refusal>,
+    open: fn(&mut D, &[u8]) -> Result<u32, Refusal>,
+    serve: fn(&mut D, &[u8]) -> Turn,
+    timetable: &[u8],
+    input: &[u8],
+) -> String {
+    let mut desk = match fresh(timetable.len()) {
         Ok(desk) => desk,
         Err(number) => return refused(number),
     };
@@ -132,13 +149,13 @@ pub fn desk(timetable: &[u8], input: &[u8]) -> String {
     }
     let mut output = String::new();
     for condition in lines(input) {
-        output += &match desk.open(condition) {
+        output += &match open(&mut desk, condition) {
             Ok(ticket) => format!("open\t{ticket}\n"),
             Err(number) => refused(number),
         };
     }
     loop {
-        let turn = desk.serve(timetable);
+        let turn = serve(&mut desk, timetable);
         output += &turn_line(turn);
         if turn == Turn::Idle {
             return output;

@@ -3,11 +3,28 @@
 use super::tree::Expression;
 use crate::values::operations::{add, cast, compare, multiply, subtract};
 use crate::values::reading::read;
-use crate::values::Value;
+use crate::values::{Kind, Value};
 use crate::{Refusal, KINDS_DO_NOT_FIT, TOO_FEW_FIELDS};
 
+/// What a tree has of a literal: its text, which is read whenever the value is asked for, or the value itself.
+pub trait Literal {
+    fn value(&self, kind: Kind) -> Result<Value, Refusal>;
+}
+
+impl Literal for Vec<u8> {
+    fn value(&self, kind: Kind) -> Result<Value, Refusal> {
+        read(kind, self)
+    }
+}
+
+impl Literal for Value {
+    fn value(&self, _: Kind) -> Result<Value, Refusal> {
+        Ok(*self)
+    }
+}
+
 /// Whether a condition holds. Only for a tree whose kinds fit.
-pub fn holds(tree: &Expression, fields: &[&[u8]]) -> Result<bool, Refusal> {
+pub fn holds<L: Literal>(tree: &Expression<L>, fields: &[&[u8]]) -> Result<bool, Refusal> {
     match tree {
         Expression::Or(left, right) => Ok(holds(left, fields)? || holds(right, fields)?),
         Expression::And(left, right) => Ok(holds(left, fields)? && holds(right, fields)?),
@@ -20,9 +37,9 @@ pub fn holds(tree: &Expression, fields: &[&[u8]]) -> Result<bool, Refusal> {
     }
 }
 
-fn value(tree: &Expression, fields: &[&[u8]]) -> Result<Value, Refusal> {
+fn value<L: Literal>(tree: &Expression<L>, fields: &[&[u8]]) -> Result<Value, Refusal> {
     match tree {
-        Expression::Literal(kind, text) => read(*kind, text),
+        Expression::Literal(kind, literal) => literal.value(*kind),
         Expression::Field(kind, number) => read(*kind, fields.get(number - 1).ok_or(TOO_FEW_FIELDS)?),
         Expression::Cast(kind, inner) => cast(&value(inner, fields)?, *kind),
         Expression::Product(left, factor) => multiply(&value(left, fields)?, *factor),

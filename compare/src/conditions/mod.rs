@@ -6,6 +6,7 @@ pub mod lexer;
 pub mod parser;
 pub mod tree;
 
+use crate::values::Value;
 use crate::{Refusal, NO_GRAMMAR, TOO_DEEP};
 use tree::Expression;
 
@@ -14,6 +15,18 @@ pub const MOST_DEPTH: i64 = 16;
 
 /// All of Open's checks on a condition's text, in their order.
 pub fn accept(text: &[u8]) -> Result<Expression, Refusal> {
+    let tree = accept_kinds(text)?;
+    tree.check_literals()?;
+    Ok(tree)
+}
+
+/// The same checks, where the literals' values are kept in place of their texts.
+pub fn accept_values(text: &[u8]) -> Result<Expression<Value>, Refusal> {
+    accept_kinds(text)?.read_literals()
+}
+
+/// The checks that come before the literals'.
+fn accept_kinds(text: &[u8]) -> Result<Expression, Refusal> {
     if text.is_empty() || text.len() > MOST_BYTES {
         return Err(NO_GRAMMAR);
     }
@@ -22,7 +35,6 @@ pub fn accept(text: &[u8]) -> Result<Expression, Refusal> {
     }
     let tree = parser::parse(&lexer::symbols(text)?)?;
     kinds::check_whole(&tree)?;
-    tree.check_literals()?;
     Ok(tree)
 }
 

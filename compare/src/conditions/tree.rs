@@ -1,6 +1,6 @@
 //! What a condition says. Parentheses leave no trace: the tree's form says what they grouped.
 
-use crate::values::{reading, Kind};
+use crate::values::{reading, Kind, Value};
 use crate::Refusal;
 use std::cmp::Ordering;
 
@@ -39,17 +39,18 @@ impl Comparison {
     }
 }
 
+/// A literal is kept as its text, or as its value in a tree whose literals have been read.
 #[derive(Clone, PartialEq, Eq, Debug)]
-pub enum Expression {
-    Literal(Kind, Vec<u8>),
+pub enum Expression<L = Vec<u8>> {
+    Literal(Kind, L),
     Field(Kind, usize),
-    Cast(Kind, Box<Expression>),
-    Product(Box<Expression>, i128),
-    Sum(Box<Expression>, Box<Expression>),
-    Difference(Box<Expression>, Box<Expression>),
-    Test(Box<Expression>, Comparison, Box<Expression>),
-    And(Box<Expression>, Box<Expression>),
-    Or(Box<Expression>, Box<Expression>),
+    Cast(Kind, Box<Expression<L>>),
+    Product(Box<Expression<L>>, i128),
+    Sum(Box<Expression<L>>, Box<Expression<L>>),
+    Difference(Box<Expression<L>>, Box<Expression<L>>),
+    Test(Box<Expression<L>>, Comparison, Box<Expression<L>>),
+    And(Box<Expression<L>>, Box<Expression<L>>),
+    Or(Box<Expression<L>>, Box<Expression<L>>),
 }
 
 impl Expression {
@@ -68,5 +69,21 @@ impl Expression {
                 right.check_literals()
             }
         }
+    }
+
+    /// The same tree with the literals' values; refused as `check_literals` refuses it.
+    pub fn read_literals(self) -> Result<Expression<Value>, Refusal> {
+        let read = |inner: Box<Expression>| inner.read_literals().map(Box::new);
+        Ok(match self {
+            Expression::Literal(kind, text) => Expression::Literal(kind, reading::read(kind, &text)?),
+            Expression::Field(kind, number) => Expression::Field(kind, number),
+            Expression::Cast(kind, inner) => Expression::Cast(kind, read(inner)?),
+            Expression::Product(left, factor) => Expression::Product(read(left)?, factor),
+            Expression::Sum(left, right) => Expression::Sum(read(left)?, read(right)?),
+            Expression::Difference(left, right) => Expression::Difference(read(left)?, read(right)?),
+            Expression::Test(left, comparison, right) => Expression::Test(read(left)?, comparison, read(right)?),
+            Expression::And(left, right) => Expression::And(read(left)?, read(right)?),
+            Expression::Or(left, right) => Expression::Or(read(left)?, read(right)?),
+        })
     }
 }
