@@ -7,12 +7,14 @@
 //!                                        timetable.tsv and events, and those of the desks built in every way into DIR/NAME
 //!     generate library SEED COUNT DIR    writes random sessions of library_example into DIR/1, DIR/2, .., each with its
 //!                                        timetable.tsv and calls, and the tables of calls into DIR/NAME
-//!     generate edges DIR                 writes calculator inputs at the bounds of a whole input
+//!     generate edges DIR                 writes calculator inputs at the bounds of a whole input, and the table of calls at
+//!                                        the calendar's cycle
 //!
 //! With --histogram after these, what the cases cover is printed to standard error.
 
 use compare::generator::desks::{self, Case, Timetable};
-use compare::generator::{calls, histogram::Histogram, hostile, library, random::Random};
+use compare::generator::{calls, cycle, histogram::Histogram, hostile, inputs, library, random::Random};
+use compare::lines::lines;
 use std::fs;
 use std::io::{self, BufWriter, Write};
 use std::path::Path;
@@ -33,7 +35,7 @@ fn main() -> ExitCode {
         ["desks", seed, count, dir] => generate_desks(number(seed), number(count), Path::new(dir), &mut histogram),
         ["hostile", seed, count, dir] => generate_hostile(number(seed), number(count), Path::new(dir), &mut histogram),
         ["library", seed, count, dir] => generate_library(number(seed), number(count), Path::new(dir), &mut histogram),
-        ["edges", dir] => generate_edges(Path::new(dir)),
+        ["edges", dir] => generate_edges(Path::new(dir), &mut histogram),
         _ => Err(io::Error::other(WORDS)),
     };
     if let Err(error) = done {
@@ -125,9 +127,22 @@ fn generate_desks(seed: u64, count: u64, dir: &Path, histogram: &mut Histogram) 
     Ok(())
 }
 
-/// Empty input, input without a final newline, and inputs of 65,536 bytes and one beside it.
-fn generate_edges(dir: &Path) -> io::Result<()> {
+fn generate_edges(dir: &Path, histogram: &mut Histogram) -> io::Result<()> {
     fs::create_dir_all(dir)?;
+    write_bounds(dir)?;
+    for (name, calls) in cycle::calls::parts() {
+        for (name, input) in inputs::named(name, &calls) {
+            for line in lines(&input) {
+                histogram.count_call(line);
+            }
+            fs::write(dir.join(name), input)?;
+        }
+    }
+    Ok(())
+}
+
+/// Empty input, input without a final newline, and inputs of 65,536 bytes and one beside it.
+fn write_bounds(dir: &Path) -> io::Result<()> {
     let call = b"add\txs:date\t2000-01-31\txs:yearMonthDuration\tP1M";
     fs::write(dir.join("empty"), b"")?;
     fs::write(dir.join("newline"), b"\n")?;

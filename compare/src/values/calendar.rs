@@ -1,7 +1,7 @@
 //! The proleptic Gregorian calendar without a walk over years. A year is taken to begin in March, so that the leap day
 //! is its last day; 400 such years always have 146,097 days.
 
-const DAYS_IN_400_YEARS: i64 = 146_097;
+pub const DAYS_IN_400_YEARS: i64 = 146_097;
 /// Days from 0000-03-01 to 1970-01-01.
 const DAYS_TO_1970: i64 = 719_468;
 

@@ -17,7 +17,7 @@ pub fn write(value: &Value) -> String {
     }
 }
 
-fn date_text(days: i64) -> String {
+pub fn date_text(days: i64) -> String {
     let Civil { year, month, day } = civil_from_days(days);
     format!("{year:04}-{month:02}-{day:02}")
 }

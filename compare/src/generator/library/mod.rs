@@ -9,7 +9,7 @@ mod tables;
 
 use super::desks::Timetable;
 use super::hostile::{great_file, places, TABLE};
-use crate::programs::MOST_CALLS_BYTES;
+use super::inputs;
 pub use play::case;
 
 pub struct Case {
@@ -32,16 +32,7 @@ pub fn made() -> Vec<Case> {
 
 /// The calls, written with `|` for a tab, in as many inputs as they need.
 fn parts(name: &str, calls: &[String]) -> Vec<Case> {
-    let mut inputs: Vec<Vec<u8>> = vec![Vec::new()];
-    for call in calls {
-        let line = format!("{}\n", call.replace('|', "\t")).into_bytes();
-        if inputs[inputs.len() - 1].len() + line.len() > MOST_CALLS_BYTES {
-            inputs.push(Vec::new());
-        }
-        inputs.last_mut().expect("there is one").extend(line);
-    }
-    let named = (1..).zip(inputs);
-    named.map(|(part, calls)| Case { name: format!("{name}-{part}"), timetable: table(), calls }).collect()
+    inputs::named(name, calls).into_iter().map(|(name, calls)| Case { name, timetable: table(), calls }).collect()
 }
 
 /// The desk over a timetable with run lines: served to the end, and opened and closed while runs go on.

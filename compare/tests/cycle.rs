@@ -1,0 +1,88 @@
+//! The 400-year cycle: the independent calendar against a plain count over it, and what the generated cases have of it.
+
+mod common;
+
+use common::answer;
+use compare::generator::cycle::{self, calls, YEARS};
+use compare::generator::inputs;
+use compare::programs::MOST_CALLS_BYTES;
+use compare::values::LAST_YEAR;
+use std::collections::BTreeSet;
+
+fn part(name: &str) -> Vec<String> {
+    let parts = calls::parts();
+    parts.into_iter().find(|(other, _)| *other == name).expect("there is such a part").1
+}
+
+fn is_leap(year: i64) -> bool {
+    year % 4 == 0 && (year % 100 != 0 || year % 400 == 0)
+}
+
+fn year_length(year: i64) -> i64 {
+    if is_leap(year) {
+        366
+    } else {
+        365
+    }
+}
+
+fn days_text(days: i64) -> String {
+    match days {
+        0 => "PT0S".to_string(),
+        1.. => format!("P{days}D"),
+        _ => format!("-P{}D", -days),
+    }
+}
+
+#[test]
+fn every_year_begins_and_ends_where_a_plain_count_says() {
+    let mut before = 0;
+    let mut after: i64 = (1..=LAST_YEAR).map(year_length).sum();
+    for (year, calls) in (1..).zip(part("cycle-years").chunks(4)) {
+        after -= year_length(year);
+        let expected = [days_text(before), days_text(-after), format!("{year:04}-12-31"), format!("{year:04}-01-01")];
+        assert_eq!(calls.iter().map(|call| answer(call)).collect::<Vec<String>>(), expected, "{year}");
+        before += year_length(year);
+    }
+    assert_eq!((before, after), (3_652_059, 0));
+}
+
+#[test]
+fn a_sum_goes_as_far_as_its_difference_says() {
+    let mut compared = 0;
+    for call in part("cycle-sums").iter().filter(|call| call.starts_with("add|xs:date|")) {
+        let fields: Vec<&str> = call.split('|').collect();
+        let sum = answer(call);
+        if !sum.starts_with("refused") {
+            assert_eq!(answer(&format!("subtract|date|{sum}|date|{}", fields[2])), fields[4], "{call}");
+            compared += 1;
+        }
+    }
+    assert!(compared > 9_000, "{compared}");
+}
+
+/// Every call of the table is one, and only the calendar's ends refuse any.
+#[test]
+fn the_table_is_of_calls_within_inputs() {
+    let mut names = BTreeSet::new();
+    for (name, calls) in calls::parts() {
+        for call in &calls {
+            let answer = answer(call);
+            let at_the_end = call.contains("9999-12-31T24:00:00") && answer == "refused 2";
+            assert!(!answer.starts_with("refused") || answer == "refused 4" || at_the_end, "{call}: {answer}");
+        }
+        for (name, input) in inputs::named(name, &calls) {
+            assert!(input.len() <= MOST_CALLS_BYTES && names.insert(name));
+        }
+    }
+}
+
+/// 1 January, 28 and 29 February, 1 March, 30 and 31 December.
+#[test]
+fn the_days_are_those_of_each_year() {
+    for &year in YEARS {
+        let days = cycle::days_of(year);
+        assert_eq!(days.len(), if is_leap(year) { 6 } else { 5 }, "{year}");
+        assert_eq!(days[days.len() - 1] - days[0] + 1, year_length(year), "{year}");
+    }
+}
