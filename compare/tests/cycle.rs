@@ -4,8 +4,10 @@ mod common;
 
 use common::answer;
 use compare::generator::cycle::{self, calls, YEARS};
+use compare::generator::histogram::line_sort;
 use compare::generator::inputs;
-use compare::programs::MOST_CALLS_BYTES;
+use compare::lines::lines;
+use compare::programs::{desk, MOST_CALLS_BYTES};
 use compare::values::LAST_YEAR;
 use std::collections::BTreeSet;
 
@@ -84,5 +86,28 @@ fn the_days_are_those_of_each_year() {
         let days = cycle::days_of(year);
         assert_eq!(days.len(), if is_leap(year) { 6 } else { 5 }, "{year}");
         assert_eq!(days[days.len() - 1] - days[0] + 1, year_length(year), "{year}");
+    }
+}
+
+/// The conditions whose answer the columns settle hold at every line, and the others at some.
+#[test]
+fn the_desk_cases_hit() {
+    for case in cycle::desks::cases() {
+        let timetable = case.timetable.bytes();
+        let output = desk(timetable, &case.conditions);
+        assert!(!output.contains("refused"));
+        let done: Vec<Vec<usize>> = output
+            .lines()
+            .filter_map(|line| line.strip_prefix("done\t"))
+            .map(|numbers| numbers.split('\t').map(|number| number.parse().unwrap()).collect())
+            .collect();
+        assert_eq!(done.len(), lines(&case.conditions).len());
+        assert!(done.iter().all(|done| done[1] > 0));
+        let sorts: Vec<String> = lines(timetable).into_iter().map(line_sort).collect();
+        if sorts.iter().all(|sort| sort == "plain") {
+            assert!([6, 7, 8, 10, 11, 12].iter().all(|ticket| done[ticket - 1][1..] == [sorts.len(), 0]));
+        } else {
+            assert!(sorts.iter().all(|sort| sort.starts_with("run of") && sort != "run of     0"));
+        }
     }
 }

@@ -1,6 +1,7 @@
 //! Whole cases of the desk program: a timetable and a file of conditions.
 
 use super::conditions::{self, Setting};
+use super::cycle;
 use super::damage::{damaged, noise};
 use super::random::Random;
 use super::runs::{self, AT_NOTED, MOST, NOTED};
@@ -28,6 +29,18 @@ impl Timetable {
 pub struct Case {
     pub timetable: Timetable,
     pub conditions: Vec<u8>,
+}
+
+impl Case {
+    /// A timetable of these lines, with an ending after the last, and a file of these conditions.
+    pub fn of_lines(lines: &[impl AsRef<[u8]>], ending: &str, conditions: &[impl AsRef<[u8]>]) -> Case {
+        let timetable = [joined(lines).as_slice(), ending.as_bytes()].concat();
+        Case { timetable: Timetable::Bytes(timetable), conditions: [joined(conditions).as_slice(), b"\n"].concat() }
+    }
+}
+
+fn joined(lines: &[impl AsRef<[u8]>]) -> Vec<u8> {
+    lines.iter().map(AsRef::as_ref).collect::<Vec<&[u8]>>().join(&b'\n')
 }
 
 pub fn case(seed: u64) -> Case {
@@ -80,7 +93,8 @@ fn with_runs(random: &mut Random) -> Case {
     }
 }
 
-/// Cases at the bounds of the whole timetable and of the whole input, which chance alone would seldom make.
+/// Cases at the bounds of the whole timetable, of the whole input and of runs, and at the calendar's cycle, which chance
+/// alone would seldom make.
 pub fn edges(seed: u64) -> Vec<Case> {
     let random = &mut Random::new(seed);
     let setting = &Setting::new(random);
@@ -104,41 +118,38 @@ pub fn edges(seed: u64) -> Vec<Case> {
     cases.push(Case { timetable: Timetable::Missing, conditions: few(random, setting) });
     cases.push(Case { timetable: Timetable::Folder, conditions: few(random, setting) });
     cases.extend(run_edges());
+    cases.extend(cycle::desks::cases());
     cases
 }
 
 /// The noted run lines, and runs at the bounds of a line, of a run and of the counts.
 fn run_edges() -> Vec<Case> {
-    let made = |lines: &[Vec<u8>], ending: &str, conditions: &[&str]| {
-        let timetable = [lines.join(&b'\n').as_slice(), ending.as_bytes()].concat();
-        Case { timetable: Timetable::Bytes(timetable), conditions: format!("{}\n", conditions.join("\n")).into_bytes() }
-    };
     let (long, short): (Vec<_>, Vec<_>) =
         NOTED.iter().partition(|(_, outcome)| matches!(outcome, runs::Noted::Occurrences(count) if *count > 100));
     let tabbed = |noted: &[&(&str, runs::Noted)]| noted.iter().map(|(line, _)| runs::noted(line)).collect::<Vec<_>>();
-    let mut cases = vec![made(&tabbed(&short), "\n", AT_NOTED)];
+    let mut cases = vec![Case::of_lines(&tabbed(&short), "\n", AT_NOTED)];
     for part in tabbed(&short).chunks(8) {
-        cases.push(made(part, "", &AT_NOTED[..8]));
+        cases.push(Case::of_lines(part, "", &AT_NOTED[..8]));
     }
     for (place, line) in tabbed(&long).iter().enumerate() {
         let conditions = [AT_NOTED[place % AT_NOTED.len()], AT_NOTED[0]];
-        cases.push(made(std::slice::from_ref(line), ["", "\n"][place % 2], &conditions));
-        cases.push(made(&[b"1\t2".to_vec(), line.clone(), b"1\t2".to_vec()], "", &[AT_NOTED[2]]));
+        cases.push(Case::of_lines(std::slice::from_ref(line), ["", "\n"][place % 2], &conditions));
+        cases.push(Case::of_lines(&[b"1\t2".to_vec(), line.clone(), b"1\t2".to_vec()], "", &[AT_NOTED[2]]));
     }
     let whole = runs::noted("n|every|2024-03-30T00:00:00|2024-03-30T23:59:00|PT1M");
     let half = "xs:time(xs:dateTime($2)) lt xs:time(\"12:00:00\")";
     // All sixteen seats at runs of the full length.
-    cases.push(made(&[whole.clone(), whole.clone()], "\n", AT_NOTED));
+    cases.push(Case::of_lines(&[whole.clone(), whole.clone()], "\n", AT_NOTED));
     // A line that is as long as a timetable may be.
     let filled = [whole.as_slice(), b"\t", &vec![b'x'; 65_535 - whole.len()]].concat();
-    cases.push(made(&[filled], "", &[half]));
+    cases.push(Case::of_lines(&[filled], "", &[half]));
     // Counts of hundreds of thousands.
-    cases.push(made(&vec![whole.clone(); 150], "\n", &["xs:time(\"00:00:00\") eq xs:time(\"24:00:00\")"]));
-    cases.push(made(&vec![whole; 40], "\n", &[half, "xs:date($16) eq xs:date($1)"]));
+    cases.push(Case::of_lines(&vec![whole.clone(); 150], "\n", &["xs:time(\"00:00:00\") eq xs:time(\"24:00:00\")"]));
+    cases.push(Case::of_lines(&vec![whole; 40], "\n", &[half, "xs:date($16) eq xs:date($1)"]));
     // As many bad and empty runs as there is room for.
-    cases.push(made(&vec![b"\tevery".to_vec(); 9_362], "\n", &[half]));
+    cases.push(Case::of_lines(&vec![b"\tevery".to_vec(); 9_362], "\n", &[half]));
     let empty = runs::noted("|every|2024-03-31T00:00:00|2024-03-30T00:00:00|PT1M");
-    cases.push(made(&vec![empty; 1_000], "\n", &["xs:date($16) eq xs:date($1)", half]));
+    cases.push(Case::of_lines(&vec![empty; 1_000], "\n", &["xs:date($16) eq xs:date($1)", half]));
     cases
 }
 

@@ -2,6 +2,7 @@
 //! of the cycle, of one of its centuries or of a leap year: here are the years, the days and the counts of days there.
 
 pub mod calls;
+pub mod desks;
 
 use crate::values::calendar::{days_from_civil, month_length, Civil, DAYS_IN_400_YEARS};
 
