@@ -3,12 +3,14 @@
 mod common;
 
 use common::answer;
-use compare::generator::cycle::{self, calls, YEARS};
+use compare::generator::cycle::{self, calls, LENGTHS, YEARS};
 use compare::generator::histogram::line_sort;
-use compare::generator::inputs;
+use compare::generator::{inputs, random::Random, texts};
 use compare::lines::lines;
 use compare::programs::{desk, MOST_CALLS_BYTES};
-use compare::values::LAST_YEAR;
+use compare::values::calendar::civil_from_days;
+use compare::values::reading::read;
+use compare::values::{Kind, Value, LAST_YEAR, MICROS_A_DAY};
 use std::collections::BTreeSet;
 
 fn part(name: &str) -> Vec<String> {
@@ -110,4 +112,22 @@ fn the_desk_cases_hit() {
             assert!(sorts.iter().all(|sort| sort.starts_with("run of") && sort != "run of     0"));
         }
     }
+}
+
+/// Random texts come to each of the years and to each of the lengths.
+#[test]
+fn texts_choose_the_cycle() {
+    let random = &mut Random::new(17);
+    let (mut years, mut lengths) = (BTreeSet::new(), BTreeSet::new());
+    for _ in 0..10_000 {
+        if let (_, Value::Date { day, .. }) = texts::good_value(random, Kind::Date) {
+            years.insert(civil_from_days(day).year);
+        }
+        let text = texts::good(random, Kind::DayTime);
+        if let Ok(Value::DayTime(micros)) = read(Kind::DayTime, text.as_bytes()) {
+            lengths.extend((micros % MICROS_A_DAY == 0).then_some((micros / MICROS_A_DAY) as i64));
+        }
+    }
+    assert!(YEARS.iter().all(|year| years.contains(year)));
+    assert!(LENGTHS.iter().all(|days| lengths.contains(days) && lengths.contains(&-days)));
 }

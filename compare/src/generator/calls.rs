@@ -1,12 +1,13 @@
 //! Calls for the calculator, most of them meaningful.
 
+use super::cycle;
 use super::damage::{damaged, noise};
 use super::random::Random;
 use super::texts;
 use crate::conditions::kinds::{difference_kind, sum_kind};
 use crate::values::operations::{add, adjust, casts, subtract};
 use crate::values::writing::write;
-use crate::values::{Kind, Value, KINDS, MOST_DURATION_MICROS, MOST_DURATION_MONTHS};
+use crate::values::{Kind, Value, KINDS, MICROS_A_DAY, MOST_DURATION_MICROS, MOST_DURATION_MONTHS};
 
 /// One call without its newline.
 pub fn call(random: &mut Random) -> Vec<u8> {
@@ -164,7 +165,7 @@ fn fitting_kinds(random: &mut Random, fit: fn(Kind, Kind) -> Option<Kind>) -> (K
 }
 
 /// A duration to be added to the value (`direction` 1) or taken from it (-1), often so that the result stands at the
-/// kind's first or last value or one beside it.
+/// kind's first or last value, at a day of the calendar's cycle, or beside one of these.
 fn step_text(random: &mut Random, value: &Value, kind: Kind, direction: i128) -> String {
     if random.chance(55) {
         return texts::good(random, kind);
@@ -178,7 +179,7 @@ fn step_text(random: &mut Random, value: &Value, kind: Kind, direction: i128) ->
         (Value::YearMonth(months), Kind::YearMonth) => {
             (if last { MOST_DURATION_MONTHS } else { -MOST_DURATION_MONTHS }) - months + beside.signum()
         }
-        (_, Kind::DayTime) => micros_to_end(value, last) + beside,
+        (_, Kind::DayTime) => micros_to_turn(random, value, last) + beside,
         (_, _) => months_to_end(value, last) + beside.signum(),
     };
     let bound = if kind == Kind::DayTime { MOST_DURATION_MICROS } else { MOST_DURATION_MONTHS };
@@ -186,6 +187,16 @@ fn step_text(random: &mut Random, value: &Value, kind: Kind, direction: i128) ->
         return texts::good(random, kind);
     }
     texts::duration_text(random, kind, direction * number)
+}
+
+/// Local microseconds to a day of the cycle, or to an end; for a time, which has no day, always to an end.
+fn micros_to_turn(random: &mut Random, value: &Value, last: bool) -> i128 {
+    let start = cycle::day(random) as i128 * MICROS_A_DAY;
+    match *value {
+        Value::DateTime { micro, .. } if random.chance(50) => start - micro,
+        Value::Date { day, .. } if random.chance(50) => start - day as i128 * MICROS_A_DAY,
+        _ => micros_to_end(value, last),
+    }
 }
 
 /// Local microseconds to the last or first dateTime; for a time to the end or start of its day.
@@ -271,11 +282,11 @@ fn adjustment(random: &mut Random) -> Vec<u8> {
     two(random, "adjust", (kind, text.into_bytes()), (zone_kind, zone.into_bytes()))
 }
 
-/// The same value moved to within 28 hours of the first or last dateTime, in some zone.
+/// The same value moved to within 28 hours of the first or last dateTime or of a day of the cycle, in some zone.
 fn near_end(random: &mut Random, value: &Value) -> String {
     let last = random.chance(50);
     let hours = random.between(0, 28 * 60) as i128 * 60_000_000;
-    let step = micros_to_end(value, last) + if last { -hours } else { hours };
+    let step = micros_to_turn(random, value, last) + if last { -hours } else { hours };
     let moved = subtract(value, &Value::DayTime(-step)).unwrap_or(*value);
     let bare = crate::values::operations::unzone(&moved).unwrap_or(moved);
     format!("{}{}", write(&bare), if value.kind().is_duration() { String::new() } else { texts::zone(random) })

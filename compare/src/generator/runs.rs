@@ -3,11 +3,13 @@
 
 use super::calls::{any_text, near};
 use super::conditions::Setting;
+use super::cycle;
 use super::damage::noise;
 use super::random::Random;
 use super::texts;
 use crate::runs::Run;
 pub use crate::runs::MOST_OCCURRENCES as MOST;
+use crate::values::calendar::DAYS_IN_400_YEARS;
 use crate::values::operations::{add, cast};
 use crate::values::reading::read;
 use crate::values::writing::write;
@@ -37,8 +39,12 @@ const STEPS: &[i128] = &[
     86_400_000_001,
     90_061_000_001,
     604_800_000_000,
-    31_536_000_000_000,
-    219_196_800_000_000,
+    365 * MICROS_A_DAY,
+    366 * MICROS_A_DAY,
+    1_461 * MICROS_A_DAY,
+    2_537 * MICROS_A_DAY,
+    36_524 * MICROS_A_DAY,
+    DAYS_IN_400_YEARS as i128 * MICROS_A_DAY,
     100_000_000_000_000_000,
     MOST_DURATION_MICROS,
 ];
@@ -47,7 +53,7 @@ const STEPS: &[i128] = &[
 const OTHER_WORDS: &[&str] =
     &[" every", "every ", "Every", "EVERY", "every\r", "ever", "everyy", "e very", "\"every\"", "every\0", "", "\u{feff}every"];
 
-/// A dateTime that the runs of a case lie about: often near the first or the last of the calendar.
+/// A dateTime that the runs of a case lie about: often near the first or the last of the calendar or a day of its cycle.
 pub(super) fn middle(random: &mut Random) -> Value {
     let (_, value) = texts::good_value(random, Kind::DateTime);
     let Value::DateTime { micro, zone } = value else {
@@ -57,7 +63,11 @@ pub(super) fn middle(random: &mut Random) -> Value {
     match random.below(10) {
         0 => Value::DateTime { micro: calendar_start() + minutes, zone },
         1 | 2 => Value::DateTime { micro: calendar_end() - MICROS_A_MINUTE - minutes, zone },
-        3..=6 => Value::DateTime { micro: micro - micro.rem_euclid(MICROS_A_MINUTE), zone },
+        3 | 4 => {
+            let next_day = (cycle::day(random) + 1) as i128 * MICROS_A_DAY;
+            Value::DateTime { micro: calendar_start().max(next_day - MICROS_A_MINUTE - minutes), zone }
+        }
+        5..=7 => Value::DateTime { micro: micro - micro.rem_euclid(MICROS_A_MINUTE), zone },
         _ => value,
     }
 }

@@ -1,8 +1,10 @@
 //! Texts of values: most of them good, many near a bound.
 
+use super::cycle;
 use super::random::Random;
 use crate::values::calendar::month_length;
 use crate::values::reading::read;
+use crate::values::writing::date_text;
 use crate::values::{Kind, Value, MOST_DURATION_MICROS, MOST_DURATION_MONTHS};
 
 /// A text that reads as a value of the kind, almost always.
@@ -31,13 +33,16 @@ fn year(random: &mut Random) -> i64 {
         0 => random.between(1990, 2030),
         1 => random.pick(&[1, 1, 1, 2, 3, 4]),
         2 => random.pick(&[9999, 9999, 9999, 9998, 9997, 9996]),
-        3 => random.pick(&[1600, 1700, 1800, 1900, 2000, 2100, 2400, 1582, 1904, 1970, 1972, 1999]),
-        4 => random.pick(&[4, 5, 8, 99, 100, 101, 399, 400, 401, 999, 1000, 1001]),
+        3 => random.pick(cycle::YEARS),
+        4 => random.pick(&[100, 200, 400, 999, 1000, 1001, 1600, 1700, 1900, 2000, 2100, 2400]),
         _ => random.between(1, 9999),
     }
 }
 
 fn date(random: &mut Random) -> String {
+    if random.chance(10) {
+        return date_text(cycle::day(random));
+    }
     let year = year(random);
     let month = if random.chance(50) { random.pick(&[1, 2, 2, 3, 12]) } else { random.between(1, 12) };
     let last = month_length(year, month);
@@ -135,6 +140,11 @@ fn day_time(random: &mut Random) -> String {
     if random.chance(12) {
         let near = MOST_DURATION_MICROS - random.pick(&[0, 0, 1, 2, 999_999, 1_000_000, 86_400_000_000]);
         return format!("{}{}", sign(random), day_time_form(random, near));
+    }
+    if random.chance(12) {
+        let days = cycle::count(random) as i128 * 86_400_000_000;
+        let clock = random.pick(&[0, 0, 0, 1, 86_399_999_999]);
+        return format!("{}{}", sign(random), day_time_form(random, days + clock));
     }
     let magnitude = match random.weighted(&[20, 20, 20, 25, 15]) {
         0 => random.between(0, 100) as i128 * 60_000_000,

@@ -4,6 +4,7 @@
 pub mod calls;
 pub mod desks;
 
+use super::random::Random;
 use crate::values::calendar::{days_from_civil, month_length, Civil, DAYS_IN_400_YEARS};
 
 /// Years at those ends and beside them, at both ends of the calendar, and such as timetables have.
@@ -32,4 +33,15 @@ pub fn days() -> Vec<i64> {
 pub fn counts() -> Vec<i64> {
     let beside = LENGTHS.iter().flat_map(|days| [days - 1, *days, days + 1]);
     [1].into_iter().chain(beside).collect()
+}
+
+/// One of the days.
+pub fn day(random: &mut Random) -> i64 {
+    let year = random.pick(YEARS);
+    random.pick(&days_of(year))
+}
+
+/// One of the lengths or a count beside it, sometimes several times over.
+pub fn count(random: &mut Random) -> i64 {
+    (random.pick(LENGTHS) + random.pick(&[0, 0, 0, 1, -1])) * random.pick(&[1, 1, 1, 2, 3])
 }
