@@ -1,36 +1,35 @@
 //! The goals, the figure of each and whether it is met.
 
-use crate::inputs::FIRST_YEAR;
-use crate::measure::{Case, Costs};
+use crate::inputs::{FIRST_YEAR, YEAR};
+use crate::measure::Case;
 use crate::plan::{Plan, Series, BEFORE};
 use crate::profile::{Part, Profile};
 use crate::report::{heading, percent, row, times};
-use crate::shares::{byte_costs, length, Shares};
+use crate::shares::{byte_costs, length};
 
 /// What counts as the same: a cost may be so many times another and still not have grown.
 const SAME: f64 = 1.1;
-/// The most that the proved program may take without the walk over the years, times the independent one's time.
-const MOST_TIMES: f64 = 3.0;
 /// The most that it may take for a short test over delays, times the independent one's time.
 const MOST_TIMES_SHORT: f64 = 0.65;
 /// The most that a turn at a run may take, times that at a plain line under the same conditions.
 const MOST_TIMES_PLAIN: f64 = 2.0;
 /// The most that a turn at a plain line may take, times that of the program before.
 const MOST_TIMES_BEFORE: f64 = 1.05;
-/// The most of a turn's instructions without the walk over the years that may copy bytes.
+/// The most of a turn's instructions that may copy bytes.
 const MOST_COPYING: f64 = 0.02;
 
-pub fn goals(plan: &Plan, shares: &Shares, profiles: Option<&[Profile; 2]>) {
+pub fn goals(plan: &Plan, profile: Option<&Profile>) {
     heading("Goals", &["Goal", "Figure", "Met"]);
     seats(plan);
     timetable(plan);
     condition(plan);
-    without_the_walk(plan, shares);
+    years(plan);
+    independent(plan);
     short_test(plan);
     runs(plan);
     late_places(plan);
     before(plan);
-    copying(profiles);
+    copying(profile);
     println!("\nUp to {SAME} times counts as the same. The short test is the first one over delays below, of 48 bytes.");
 }
 
@@ -76,18 +75,22 @@ fn above_line(cases: &[&Case]) -> f64 {
     last.costs().proved / expected
 }
 
-fn without_the_walk(plan: &Plan, shares: &Shares) {
-    let ratio = shares.rest() / plan.last(Series::Asked).costs().independent;
+fn years(plan: &Plan) {
+    let ratio = plan.last(Series::Asked).costs().proved / plan.last(Series::AskedInFirstYear).costs().proved;
     goal(
-        &format!("without the walk over the years at most {MOST_TIMES} times the independent program's time, 16 conditions over departures"),
-        format!("{}{} times", if shares.exact { "" } else { "at most " }, times(ratio)),
-        ratio <= MOST_TIMES,
+        &format!("departures of {YEAR} at most {SAME} times the time of year {FIRST_YEAR}, 16 conditions"),
+        format!("{} times", times(ratio)),
+        ratio <= SAME,
     );
 }
 
+fn independent(plan: &Plan) {
+    let ratio = plan.last(Series::Asked).costs().to_independent();
+    goal("below the independent program's time, 16 conditions over departures", format!("{} times", times(ratio)), ratio < 1.0);
+}
+
 fn short_test(plan: &Plan) {
-    let Costs { proved, independent } = plan.of(Series::Spaces)[0].costs();
-    let ratio = proved / independent;
+    let ratio = plan.of(Series::Spaces)[0].costs().to_independent();
     goal(
         &format!("a short test over delays at most {MOST_TIMES_SHORT} times the independent program's time"),
         format!("{} times", times(ratio)),
@@ -99,7 +102,7 @@ fn runs(plan: &Plan) {
     let plain = plan.last(Series::EachDeparture).costs().proved;
     let most = plan.of(Series::Occurrences).iter().map(|case| case.costs().proved / plain).fold(0.0, f64::max);
     goal(
-        &format!("a turn at a run at most {MOST_TIMES_PLAIN} times one at a plain line, departures of year {FIRST_YEAR}"),
+        &format!("a turn at a run at most {MOST_TIMES_PLAIN} times one at a plain line"),
         format!("at most {} times, over runs of 2, 8 and 1,440 occurrences", times(most)),
         most <= MOST_TIMES_PLAIN,
     );
@@ -130,14 +133,15 @@ fn before(plan: &Plan) {
     }
 }
 
-fn copying(profiles: Option<&[Profile; 2]>) {
+fn copying(profile: Option<&Profile>) {
     let most = percent(MOST_COPYING);
-    let name = format!("bytes copied (`memcpy`, `memset`) at most {most} of a turn's instructions without the walk over the years, 16 conditions over departures");
-    match profiles {
+    let name =
+        format!("bytes copied (`memcpy`, `memset`) at most {most} of a turn's instructions, 16 conditions over departures");
+    match profile {
         None => row(&[name.as_str(), "valgrind is not there", "not measured"].map(str::to_string)),
-        Some([_, early]) => {
-            let share = early.share_without_the_walk(Part::Copying);
-            goal(&name, format!("{} (year {FIRST_YEAR})", percent(share)), share <= MOST_COPYING);
+        Some(profile) => {
+            let share = profile.share(Part::Copying);
+            goal(&name, percent(share), share <= MOST_COPYING);
         }
     }
 }

@@ -15,7 +15,6 @@ mod shares;
 
 use measure::{measure_all, peak_memory, Case, Programs};
 use plan::{Plan, Series};
-use profile::{profile, Profile};
 use shares::Shares;
 use std::io;
 use std::path::Path;
@@ -41,31 +40,24 @@ fn main() -> ExitCode {
 fn run(programs: &Programs, work: &Path) -> io::Result<()> {
     let mut plan = Plan::new(programs, work)?;
     measure_all(programs, plan.cases.iter_mut().map(|(_, case)| case))?;
-    let profiles = profiles(programs, &plan)?;
+    let profile = profile::profile(&programs.proved, &plan.last(Series::Profiled).folder)?;
     let queries: io::Result<Vec<Option<f64>>> = plan.of(Series::Asked).into_iter().map(basex::query_time).collect();
-    let shares = Shares::new(&plan, profiles.as_ref());
     report::method(&plan);
-    goals::goals(&plan, &shares, profiles.as_ref());
+    goals::goals(&plan, profile.as_ref());
     report::turns_a_second(&plan);
     report::seats(&plan);
     report::timetable(&plan);
     report::condition(&plan);
     report::runs(&plan);
     report::before(&plan);
-    report::shares(&plan, &shares);
-    report::instructions(&plan, profiles.as_ref());
+    report::shares(&Shares::new(&plan));
+    report::instructions(&plan, profile.as_ref());
     report::memory(&[
         ("16 conditions over departures", memory(programs, plan.last(Series::Asked))?),
         ("16 conditions over 65,536 empty lines", memory(programs, plan.last(Series::EmptyLines))?),
     ]);
     report::basex(&plan, &queries?);
     Ok(())
-}
-
-fn profiles(programs: &Programs, plan: &Plan) -> io::Result<Option<[Profile; 2]>> {
-    let late = profile(&programs.proved, &plan.last(Series::Profiled).folder)?;
-    let early = profile(&programs.proved, &plan.last(Series::ProfiledInFirstYear).folder)?;
-    Ok(late.zip(early).map(|(late, early)| [late, early]))
 }
 
 fn memory(programs: &Programs, case: &Case) -> io::Result<[u64; 2]> {

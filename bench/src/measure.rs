@@ -50,6 +50,13 @@ pub struct Case {
     starts: Times,
 }
 
+impl Costs {
+    /// How many times the independent program's time the proved one takes.
+    pub fn to_independent(&self) -> f64 {
+        self.proved / self.independent
+    }
+}
+
 impl Times {
     const NONE: Times = Times { proved: Duration::MAX, independent: Duration::MAX, before: Duration::MAX };
 

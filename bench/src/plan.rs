@@ -27,18 +27,17 @@ pub enum Series {
     TestsReadOver,
     /// The tests in a condition that are evaluated.
     TestsEvaluated,
-    /// A day of departures in year 1, a line each.
+    /// A day of departures, a line each.
     EachDeparture,
     /// The occurrences of a run, over the same departures.
     Occurrences,
     /// A quarter of the departures, in which instructions are counted.
     Profiled,
-    ProfiledInFirstYear,
 }
 
 use Series::*;
 
-const ALL: [Series; 15] = [
+const ALL: [Series; 14] = [
     Asked,
     AskedInFirstYear,
     EmptyLines,
@@ -53,7 +52,6 @@ const ALL: [Series; 15] = [
     EachDeparture,
     Occurrences,
     Profiled,
-    ProfiledInFirstYear,
 ];
 
 /// Of what the program before is asked too, the series; the first case of each.
@@ -87,10 +85,8 @@ impl Plan {
                 return Err(io::Error::other(format!("not {expected} unreadable lines: {}", case.folder.display())));
             }
         }
-        for (late, early) in [(Asked, AskedInFirstYear), (Profiled, ProfiledInFirstYear)] {
-            if self.last(late).answers != self.last(early).answers {
-                return Err(io::Error::other("departures are answered differently in another year"));
-            }
+        if self.last(Asked).answers != self.last(AskedInFirstYear).answers {
+            return Err(io::Error::other("departures are answered differently in another year"));
         }
         let plain = words(self.last(EachDeparture));
         match self.of(Occurrences).into_iter().find(|case| words(case) != plain) {
@@ -133,12 +129,9 @@ fn inputs_of(series: Series) -> Vec<Input> {
         Spaces => [0, 12, 72, 192].map(|spaces| (inputs::delays(), vec![inputs::with_spaces(spaces)])).into(),
         TestsReadOver => [0, 1, 2, 3].map(|count| (inputs::delays(), vec![inputs::with_tests_read_over(count)])).into(),
         TestsEvaluated => [1, 2, 3, 4].map(|count| (inputs::delays(), vec![inputs::with_tests_evaluated(count)])).into(),
-        EachDeparture => vec![(inputs::each_departure(FIRST_YEAR), inputs::asked_of_second(FIRST_YEAR))],
-        Occurrences => [2, 8, RUN_DEPARTURES]
-            .map(|occurrences| (inputs::runs(occurrences, FIRST_YEAR), inputs::asked_of_second(FIRST_YEAR)))
-            .into(),
+        EachDeparture => vec![(inputs::each_departure(), inputs::asked_of_second())],
+        Occurrences => [2, 8, RUN_DEPARTURES].map(|occurrences| (inputs::runs(occurrences), inputs::asked_of_second())).into(),
         Profiled => vec![(inputs::departures(16_384, YEAR), all)],
-        ProfiledInFirstYear => vec![(inputs::departures(16_384, FIRST_YEAR), inputs::asked(SEATS, FIRST_YEAR))],
     }
 }
 

@@ -10,17 +10,16 @@ use std::process::Stdio;
 /// The parts of the work, by the crates whose functions do it. What the compiler placed within another function counts there.
 #[derive(Clone, Copy, PartialEq, Eq)]
 pub enum Part {
-    YearWalk,
     ConditionText,
     Values,
     Computing,
+    Calendar,
     Runs,
     Copying,
     Desk,
 }
 
 pub const PARTS: [(Part, &str); 7] = [
-    (Part::YearWalk, "the walk over the years: `calendar`"),
     (Part::ConditionText, "the condition's text, its symbols and grammar: `condition`, `condition_readers`, `condition_symbols`, `condition_depth`, `condition_words`"),
     (Part::Values, "values read, fields and literals: `text`, `text_fields`, `text_layouts`, `text_checks`, `text_scan`, `text_durations`, `numerals`"),
     (
@@ -28,6 +27,7 @@ pub const PARTS: [(Part, &str); 7] = [
         "comparing and computing: `operation`, `operation_arithmetic`, `operation_ordering`, `operation_adjusting`, `operation_casting`, `operation_shifting`, `operation_quantities`, `value_instants`, `value`, \
          `condition_parts`, `condition_givens`, `condition_sorts`, `condition_operators`",
     ),
+    (Part::Calendar, "days and dates: `calendar`"),
     (Part::Runs, "what a line stands for: `run_cases`, `run_times`"),
     (Part::Copying, "bytes copied: `memcpy`, `memset`"),
     (Part::Desk, "all else: seats, lines found, output lines"),
@@ -43,13 +43,12 @@ impl Profile {
         self.counts.iter().filter(|(name, _)| part_of(name) == part).map(|(_, count)| count).sum()
     }
 
-    pub fn total(&self) -> u64 {
+    fn total(&self) -> u64 {
         self.counts.values().sum()
     }
 
-    /// Of all instructions but those of the walk over the years.
-    pub fn share_without_the_walk(&self, part: Part) -> f64 {
-        self.of(part) as f64 / (self.total() - self.of(Part::YearWalk)) as f64
+    pub fn share(&self, part: Part) -> f64 {
+        self.of(part) as f64 / self.total() as f64
     }
 }
 
@@ -69,7 +68,7 @@ pub fn profile(program: &Path, folder: &Path) -> io::Result<Option<Profile>> {
 fn part_of(name: &str) -> Part {
     let krate = name.split("::").next().unwrap_or("");
     match krate {
-        "calendar" => Part::YearWalk,
+        "calendar" => Part::Calendar,
         "condition" | "condition_readers" | "condition_symbols" | "condition_depth" | "condition_words" => Part::ConditionText,
         "numerals" if name.contains("decimal") => Part::Desk,
         "run_cases" | "run_times" => Part::Runs,
@@ -129,8 +128,8 @@ mod tests {
         let profile = Profile { counts: own_counts(file) };
         assert_eq!(profile.total(), 37);
         assert_eq!(profile.of(Part::ConditionText), 6);
-        assert_eq!(profile.of(Part::YearWalk), 30);
+        assert_eq!(profile.of(Part::Calendar), 30);
         assert_eq!(profile.of(Part::Copying), 1);
-        assert_eq!(profile.share_without_the_walk(Part::Copying), 1.0 / 7.0);
+        assert_eq!(profile.share(Part::Copying), 1.0 / 37.0);
     }
 }

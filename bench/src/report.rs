@@ -1,10 +1,10 @@
 //! What was measured, as Markdown.
 
 use crate::basex;
-use crate::inputs::{FIRST_YEAR, RUN_DEPARTURES, YEAR};
+use crate::inputs::{FIRST_YEAR, RUN_DEPARTURES};
 use crate::measure::{has_processor_time, Case, ROUNDS, SHORT_RUNS};
 use crate::plan::{Plan, Series, BEFORE};
-use crate::profile::{Part, Profile, PARTS};
+use crate::profile::{Profile, PARTS};
 use crate::shares::{byte_costs, length, Shares};
 
 pub fn method(plan: &Plan) {
@@ -73,7 +73,7 @@ fn asked_name(case: &Case) -> String {
 fn turns_row(name: &str, case: &Case) {
     let costs = case.costs();
     let a_second = [costs.proved, costs.independent].map(|cost| thousands((1e9 / cost) as u64));
-    let figures = [vec![thousands(case.turns as u64)], a_second.to_vec(), vec![times(costs.proved / costs.independent)]];
+    let figures = [vec![thousands(case.turns as u64)], a_second.to_vec(), vec![times(costs.to_independent())]];
     row(&[vec![name.to_string()], figures.concat()].concat());
 }
 
@@ -127,7 +127,7 @@ fn condition_rows(name: &str, cases: &[&Case]) {
 
 pub fn runs(plan: &Plan) {
     let columns = ["Timetable", "Turns", "Proved", "times a plain line's", "Independent", "times a plain line's"];
-    heading(&format!("Cost of a turn at a run of departures, year {FIRST_YEAR}, ns"), &columns);
+    heading("Cost of a turn at a run of departures, ns", &columns);
     let plain = plan.last(Series::EachDeparture);
     runs_row("a line for each departure", plain, plain);
     for case in plan.of(Series::Occurrences) {
@@ -137,7 +137,7 @@ pub fn runs(plan: &Plan) {
     }
     let (departures, conditions) = (thousands(RUN_DEPARTURES as u64), plain.conditions.len());
     println!("\nThe same {departures} departures, a minute apart, and the same {conditions} conditions: those of the sixteen that look at");
-    println!("the second field alone, and at no time of day. A turn at a run reads three values more, and writes the occurrence's text.");
+    println!("the second field alone. A turn at a run reads three values more, and writes the occurrence's text.");
 }
 
 fn runs_row(name: &str, case: &Case, plain: &Case) {
@@ -165,57 +165,33 @@ pub fn before(plan: &Plan) {
     println!("\nThe proved program before and now, in turn in every round. What the two write is the same, but for the places.");
 }
 
-pub fn shares(plan: &Plan, shares: &Shares) {
-    let columns = ["Part", "ns", "Share", "Share without the walk", "How it was got"];
+pub fn shares(shares: &Shares) {
+    let columns = ["Part", "ns", "Share", "How it was got"];
     heading("Where the time of a proved turn goes, 16 conditions over departures", &columns);
-    let early = nanoseconds(plan.last(Series::AskedInFirstYear).costs().proved);
-    let walk = match shares.exact {
-        true => format!(
-            "a turn in year {YEAR} less the same in year {FIRST_YEAR} ({early} ns), times callgrind's instructions of the walk in year \
-             {YEAR} over those that year {FIRST_YEAR} saves: times of day stand on 1972-12-31 in both"
-        ),
-        false => format!(
-            "a turn in year {YEAR} less the same in year {FIRST_YEAR} ({early} ns); the walk of times of day, which stand on 1972-12-31 \
-             in both, is not in it: that takes valgrind"
-        ),
-    };
     let text = format!(
         "{:.1} ns a byte, from the tests above that are read and not evaluated, times {:.0} bytes, the sixteen conditions' average; \
          the values of literals, read at each turn too, are not in it",
         shares.text_byte, shares.text_bytes
     );
-    let share = |part: f64, whole: f64| format!("{:.0}%", 100.0 * part / whole);
-    let line = |name: &str, cost: f64, without: String, how: String| {
-        row(&[name.to_string(), nanoseconds(cost), share(cost, shares.whole), without, how])
+    let line = |name: &str, cost: f64, how: String| {
+        row(&[name.to_string(), nanoseconds(cost), format!("{:.0}%", 100.0 * cost / shares.whole), how])
     };
-    line("the whole turn", shares.whole, String::new(), format!("year {YEAR}"));
-    line("the walk over the years, crate `calendar`", shares.walk, String::new(), walk);
-    line("all else", shares.rest(), "100%".to_string(), "the rest".to_string());
-    line("in it: the condition's text read, its symbols and grammar", shares.text(), share(shares.text(), shares.rest()), text);
+    line("the whole turn", shares.whole, "as above".to_string());
+    line("in it: the condition's text read, its symbols and grammar", shares.text(), text);
 }
 
-pub fn instructions(plan: &Plan, profiles: Option<&[Profile; 2]>) {
-    let [late_title, early_title] = [YEAR, FIRST_YEAR].map(|year| format!("Year {year}"));
-    let columns = ["Part", &late_title, "Share", &early_title, "Share without the walk"];
+pub fn instructions(plan: &Plan, profile: Option<&Profile>) {
     let title = "Instructions of a proved turn, 16 conditions over departures";
-    let Some([late, early]) = profiles else {
+    let Some(profile) = profile else {
         println!("\n### {title}\n\nNot counted: valgrind is not there.");
         return;
     };
-    heading(title, &columns);
-    let turns = plan.last(Series::Profiled).turns as u64;
+    heading(title, &["Part", "Instructions", "Share"]);
+    let profiled = plan.last(Series::Profiled);
     for (part, name) in PARTS {
-        let without = if part == Part::YearWalk { String::new() } else { percent(early.share_without_the_walk(part)) };
-        let [in_late, in_early] = [late.of(part), early.of(part)];
-        row(&[
-            name.to_string(),
-            thousands(in_late / turns),
-            percent(in_late as f64 / late.total() as f64),
-            thousands(in_early / turns),
-            without,
-        ]);
+        row(&[name.to_string(), thousands(profile.of(part) / profiled.turns as u64), percent(profile.share(part))]);
     }
-    let conditions = plan.last(Series::Profiled).conditions.concat();
+    let conditions = profiled.conditions.concat();
     let (literals, fields) = (conditions.matches('"').count() / 2, conditions.matches('$').count());
     println!("\nCounted by callgrind over a quarter of the departures, start included, by the crate of the function; what the compiler placed within");
     println!("another crate's function counts there. The sixteen conditions hold {literals} literals and {fields} fields.");
