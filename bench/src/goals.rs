@@ -2,7 +2,7 @@
 
 use crate::inputs::{FIRST_YEAR, YEAR};
 use crate::measure::Case;
-use crate::plan::{Plan, Series, BEFORE};
+use crate::plan::{Plan, Series};
 use crate::profile::{Part, Profile};
 use crate::report::{heading, percent, row, times};
 use crate::shares::{byte_costs, length};
@@ -116,21 +116,17 @@ fn late_places(plan: &Plan) {
 
 /// Left out where no program before is given.
 fn before(plan: &Plan) {
-    let ratio = |series| {
-        let case = plan.of(series)[0];
-        case.cost_before().map(|cost| case.costs().proved / cost)
-    };
-    if let [Some(departures), Some(delays)] = BEFORE.map(ratio) {
-        goal(
-            &format!("a turn at a plain line at most {MOST_TIMES_BEFORE} times that of the program before"),
-            format!(
-                "{} times (16 conditions over departures of year {FIRST_YEAR}), {} times (a short test over delays)",
-                times(departures),
-                times(delays)
-            ),
-            departures.max(delays) <= MOST_TIMES_BEFORE,
-        );
+    let compared = plan.before_and_now();
+    if compared.is_empty() {
+        return;
     }
+    let figures: Vec<String> =
+        compared.iter().map(|(name, [before, now])| format!("{} times ({name})", times(now / before))).collect();
+    goal(
+        &format!("a turn at a plain line at most {MOST_TIMES_BEFORE} times that of the program before"),
+        figures.join(", "),
+        compared.iter().all(|(_, [before, now])| now / before <= MOST_TIMES_BEFORE),
+    );
 }
 
 fn copying(profile: Option<&Profile>) {

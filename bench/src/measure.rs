@@ -71,8 +71,8 @@ impl Times {
 }
 
 impl Case {
-    /// Writes the case and has both programs answer it: what they write has to be the same, and every condition accepted. The program
-    /// before, where it is asked too, has to write the same but for places.
+    /// Writes the case and has the programs answer it, the one before among them where it is asked too: what they write has to be the
+    /// same, and every condition accepted.
     pub fn new(
         programs: &Programs,
         before: Option<&Path>,
@@ -83,16 +83,11 @@ impl Case {
         let start_folder = folder.join("start");
         write(&start_folder, b"", conditions)?;
         write(&folder, timetable, conditions)?;
-        same_answers(programs, &start_folder)?;
-        let answers = same_answers(programs, &folder)?;
+        same_answers(programs, before, &start_folder)?;
+        let answers = same_answers(programs, before, &folder)?;
         let opened = answers.lines().filter(|line| line.starts_with("open\t")).count();
         if opened != conditions.len() || !answers.ends_with("idle\n") {
             return Err(io::Error::other(format!("a condition is refused: {}", folder.display())));
-        }
-        if let Some(before) = before {
-            if without_places(&answered(before, &folder)?) != without_places(&answers) {
-                return Err(io::Error::other(format!("the program before differs: {}", folder.display())));
-            }
         }
         // Each condition has one line when it is opened and one when it is done, and the last line is Idle's.
         let turns = answers.lines().count() - 2 * opened - 1;
@@ -165,22 +160,17 @@ pub fn command(program: &Path, folder: &Path) -> io::Result<Command> {
     Ok(command)
 }
 
-fn same_answers(programs: &Programs, folder: &Path) -> io::Result<String> {
+/// What the programs write, which is the same byte for byte.
+fn same_answers(programs: &Programs, before: Option<&Path>, folder: &Path) -> io::Result<String> {
     let answers = answered(&programs.proved, folder)?;
-    if answers != answered(&programs.independent, folder)? {
-        return Err(io::Error::other(format!("the two programs differ: {}", folder.display())));
+    let others = [Some(programs.independent.as_path()), before];
+    for program in others.into_iter().flatten() {
+        if answered(program, folder)? != answers {
+            let (proved, program) = (programs.proved.display(), program.display());
+            return Err(io::Error::other(format!("{proved} and {program} differ: {}", folder.display())));
+        }
     }
     Ok(answers)
-}
-
-/// What a program writes without the place of each hit and miss, its last field of four: an older one writes none.
-fn without_places(answers: &str) -> Vec<String> {
-    let told = |line: &str| {
-        let fields: Vec<&str> = line.split('\t').collect();
-        let kept = if matches!(fields[0], "hit" | "miss") { &fields[..3] } else { &fields[..] };
-        kept.join("\t")
-    };
-    answers.lines().map(told).collect()
 }
 
 fn answered(program: &Path, folder: &Path) -> io::Result<String> {

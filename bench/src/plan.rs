@@ -54,8 +54,12 @@ const ALL: [Series; 14] = [
     Profiled,
 ];
 
-/// Of what the program before is asked too, the series; the first case of each.
-pub const BEFORE: [Series; 2] = [AskedInFirstYear, Spaces];
+/// Of what the program before is asked too: the series, the place within it, and what it is called.
+const BEFORE: [(Series, usize, &str); 3] = [
+    (Asked, 2, "16 conditions over departures"),
+    (AskedInFirstYear, 0, "16 conditions over departures of year 0001"),
+    (Spaces, 0, "a short test over delays"),
+];
 
 pub struct Plan {
     pub cases: Vec<(Series, Case)>,
@@ -67,7 +71,8 @@ impl Plan {
         for series in ALL {
             for (place, (timetable, conditions)) in inputs_of(series).iter().enumerate() {
                 let folder = work.join(format!("{series:?}-{place}"));
-                let before = programs.before.as_deref().filter(|_| place == 0 && BEFORE.contains(&series));
+                let is_asked_before = BEFORE.iter().any(|&(own, at, _)| (own, at) == (series, place));
+                let before = programs.before.as_deref().filter(|_| is_asked_before);
                 cases.push((series, Case::new(programs, before, folder, timetable, conditions)?));
             }
         }
@@ -99,6 +104,15 @@ impl Plan {
 
     pub fn of(&self, series: Series) -> Vec<&Case> {
         self.cases.iter().filter(|(own, _)| *own == series).map(|(_, case)| case).collect()
+    }
+
+    /// What the program before is asked too, with the nanoseconds of a turn before and now; empty where no such program is given.
+    pub fn before_and_now(&self) -> Vec<(&'static str, [f64; 2])> {
+        let costs = |(series, place, name): (Series, usize, &'static str)| {
+            let case = self.of(series)[place];
+            Some((name, [case.cost_before()?, case.costs().proved]))
+        };
+        BEFORE.into_iter().filter_map(costs).collect()
     }
 
     /// The greatest case of a series.

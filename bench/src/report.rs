@@ -3,7 +3,7 @@
 use crate::basex;
 use crate::inputs::{FIRST_YEAR, RUN_DEPARTURES};
 use crate::measure::{has_processor_time, Case, ROUNDS, SHORT_RUNS};
-use crate::plan::{Plan, Series, BEFORE};
+use crate::plan::{Plan, Series};
 use crate::profile::{Profile, PARTS};
 use crate::shares::{byte_costs, length, Shares};
 
@@ -154,15 +154,15 @@ fn runs_row(name: &str, case: &Case, plain: &Case) {
 
 /// Left out where no program before is given.
 pub fn before(plan: &Plan) {
-    let names = [format!("16 conditions over departures of year {FIRST_YEAR}"), "a short test over delays".to_string()];
-    let cases = BEFORE.map(|series| plan.of(series)[0]);
-    let [Some(departures), Some(delays)] = cases.map(Case::cost_before) else { return };
-    heading("Cost of a turn at a plain line, before and now, ns", &["Case", "Before", "Now", "Now / before"]);
-    for ((name, case), cost) in names.iter().zip(cases).zip([departures, delays]) {
-        let now = case.costs().proved;
-        row(&[name.clone(), nanoseconds(cost), nanoseconds(now), times(now / cost)]);
+    let compared = plan.before_and_now();
+    if compared.is_empty() {
+        return;
     }
-    println!("\nThe proved program before and now, in turn in every round. What the two write is the same, but for the places.");
+    heading("Cost of a turn at a plain line, before and now, ns", &["Case", "Before", "Now", "Now / before"]);
+    for (name, [before, now]) in compared {
+        row(&[name.to_string(), nanoseconds(before), nanoseconds(now), times(now / before)]);
+    }
+    println!("\nThe proved program before and now, in turn in every round. What the two write is the same, byte for byte.");
 }
 
 pub fn shares(shares: &Shares) {
