@@ -1,8 +1,8 @@
 //! Measures the proved desk program against the independent one and prints tables.
 //!
-//!     bench PROVED INDEPENDENT FOLDER [BEFORE]      the cases are written into FOLDER
+//!     bench PROVED INDEPENDENT READ_ONCE FOLDER [BEFORE]      the cases are written into FOLDER
 //!
-//! BEFORE is the proved program as it was: a turn at a plain line is then measured of both.
+//! READ_ONCE is the independent program with each condition's text read once, when it is opened. BEFORE is the proved program as it was: a turn at a plain line is then measured of both.
 
 mod basex;
 mod goals;
@@ -22,12 +22,12 @@ use std::process::ExitCode;
 
 fn main() -> ExitCode {
     let words: Vec<String> = std::env::args().skip(1).collect();
-    let [proved, independent, work, before @ ..] = &words[..] else {
-        eprintln!("words: PROVED INDEPENDENT FOLDER [BEFORE]");
+    let [proved, independent, read_once, work, before @ ..] = &words[..] else {
+        eprintln!("words: PROVED INDEPENDENT READ_ONCE FOLDER [BEFORE]");
         return ExitCode::from(2);
     };
     let before = before.first().map(Into::into);
-    let programs = Programs { proved: proved.into(), independent: independent.into(), before };
+    let programs = Programs { proved: proved.into(), independent: independent.into(), read_once: read_once.into(), before };
     match run(&programs, Path::new(work)) {
         Ok(()) => ExitCode::SUCCESS,
         Err(error) => {

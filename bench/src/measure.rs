@@ -1,4 +1,4 @@
-//! Both programs run over the same cases, in turn; the least time of each is kept.
+//! The programs run over the same cases, in turn; the least time of each is kept.
 
 use std::fs::{self, File};
 use std::io::{self, Read};
@@ -15,6 +15,8 @@ pub const SHORT_RUNS: usize = 5;
 pub struct Programs {
     pub proved: PathBuf,
     pub independent: PathBuf,
+    /// The independent program with each condition's text read once, when it is opened.
+    pub read_once: PathBuf,
     /// The proved program as it was, where one is given.
     pub before: Option<PathBuf>,
 }
@@ -24,14 +26,16 @@ pub struct Programs {
 pub struct Times {
     pub proved: Duration,
     pub independent: Duration,
+    read_once: Duration,
     before: Duration,
 }
 
-/// Nanoseconds for a turn of both programs.
+/// Nanoseconds for a turn of each program.
 #[derive(Clone, Copy)]
 pub struct Costs {
     pub proved: f64,
     pub independent: f64,
+    pub read_once: f64,
 }
 
 /// A timetable and conditions in a folder of their own, and the same conditions with an empty timetable in another.
@@ -51,14 +55,25 @@ pub struct Case {
 }
 
 impl Costs {
+    /// In the order of the tables' columns.
+    pub fn each(&self) -> [f64; 3] {
+        [self.proved, self.independent, self.read_once]
+    }
+
     /// How many times the independent program's time the proved one takes.
     pub fn to_independent(&self) -> f64 {
         self.proved / self.independent
     }
+
+    /// The same of the variant that reads the text once.
+    pub fn to_read_once(&self) -> f64 {
+        self.proved / self.read_once
+    }
 }
 
 impl Times {
-    const NONE: Times = Times { proved: Duration::MAX, independent: Duration::MAX, before: Duration::MAX };
+    const NONE: Times =
+        Times { proved: Duration::MAX, independent: Duration::MAX, read_once: Duration::MAX, before: Duration::MAX };
 
     fn measure(&mut self, programs: &Programs, before: Option<&Path>, folder: &Path) -> io::Result<()> {
         self.proved = self.proved.min(timed(&programs.proved, folder)?);
@@ -66,6 +81,7 @@ impl Times {
             self.before = self.before.min(timed(before, folder)?);
         }
         self.independent = self.independent.min(timed(&programs.independent, folder)?);
+        self.read_once = self.read_once.min(timed(&programs.read_once, folder)?);
         Ok(())
     }
 }
@@ -116,22 +132,24 @@ impl Case {
     /// Nanoseconds for a turn at a line: the time of the whole run less that of the start, over the turns.
     pub fn costs(&self) -> Costs {
         Costs {
-            proved: self.cost(self.times.proved, self.starts.proved),
-            independent: self.cost(self.times.independent, self.starts.independent),
+            proved: self.cost(|times| times.proved),
+            independent: self.cost(|times| times.independent),
+            read_once: self.cost(|times| times.read_once),
         }
     }
 
     /// The same of the program before, where it was asked.
     pub fn cost_before(&self) -> Option<f64> {
-        self.before.as_ref().map(|_| self.cost(self.times.before, self.starts.before))
+        self.before.as_ref().map(|_| self.cost(|times| times.before))
     }
 
-    fn cost(&self, whole: Duration, start: Duration) -> f64 {
-        (whole.as_secs_f64() - start.as_secs_f64()) * 1e9 / self.turns as f64
+    fn cost(&self, of: impl Fn(&Times) -> Duration) -> f64 {
+        let [whole, start] = [&self.times, &self.starts].map(|times| of(times).as_secs_f64());
+        (whole - start) * 1e9 / self.turns as f64
     }
 }
 
-/// Measures all cases: proved, independent, proved, independent and so on.
+/// Measures all cases, the programs in turn.
 pub fn measure_all<'a>(programs: &Programs, cases: impl Iterator<Item = &'a mut Case>) -> io::Result<()> {
     let mut cases: Vec<&mut Case> = cases.collect();
     for round in 1..=ROUNDS {
@@ -163,7 +181,7 @@ pub fn command(program: &Path, folder: &Path) -> io::Result<Command> {
 /// What the programs write, which is the same byte for byte.
 fn same_answers(programs: &Programs, before: Option<&Path>, folder: &Path) -> io::Result<String> {
     let answers = answered(&programs.proved, folder)?;
-    let others = [Some(programs.independent.as_path()), before];
+    let others = [Some(programs.independent.as_path()), Some(programs.read_once.as_path()), before];
     for program in others.into_iter().flatten() {
         if answered(program, folder)? != answers {
             let (proved, program) = (programs.proved.display(), program.display());

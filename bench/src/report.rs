@@ -12,11 +12,15 @@ pub fn method(plan: &Plan) {
     let starts = plan.last(Series::Asked).starts();
     let [proved, independent] = [starts.proved, starts.independent].map(|start| start.as_secs_f64() * 1e3);
     let short = ROUNDS * SHORT_RUNS;
-    println!("Both programs are built for release and run in turn over the same files. Before anything is measured, what they write is");
+    println!(
+        "The programs are built for release and run in turn over the same files. Before anything is measured, what they write is"
+    );
     println!("compared byte for byte. A time is {clock}, its output thrown away: the least of {ROUNDS} runs,");
     println!("of {short} where a run is short. The cost of a turn is the time of the whole run less that with an empty timetable (sixteen");
-    println!("conditions: {proved:.1} ms proved, {independent:.1} ms independent), over the turns at lines. Both programs read the condition's text");
-    println!("at each turn; the independent one also makes all of Open's checks of it again.");
+    println!("conditions: {proved:.1} ms proved, {independent:.1} ms independent), over the turns at lines. The proved program and the");
+    println!("independent one read the condition's text at each turn; the latter also makes all of Open's checks of it again. \"Text read");
+    println!("once\" is the independent program changed so that it reads each condition, with its literals, once, when it is opened: what");
+    println!("that would leave of a turn, and the mark that a desk which settles a condition at opening has to beat.");
 }
 
 pub fn heading(title: &str, columns: &[&str]) {
@@ -49,8 +53,15 @@ fn thousands(number: u64) -> String {
 }
 
 pub fn turns_a_second(plan: &Plan) {
-    let columns =
-        ["Case", "Turns at lines", "Proved, turns a second", "Independent, turns a second", "Time proved / independent"];
+    let columns = [
+        "Case",
+        "Turns at lines",
+        "Proved",
+        "Independent",
+        "Independent, text read once",
+        "Time proved / independent",
+        "Time proved / text read once",
+    ];
     heading("Turns a second", &columns);
     for case in plan.of(Series::Asked) {
         turns_row(&asked_name(case), case);
@@ -72,9 +83,9 @@ fn asked_name(case: &Case) -> String {
 
 fn turns_row(name: &str, case: &Case) {
     let costs = case.costs();
-    let a_second = [costs.proved, costs.independent].map(|cost| thousands((1e9 / cost) as u64));
-    let figures = [vec![thousands(case.turns as u64)], a_second.to_vec(), vec![times(costs.to_independent())]];
-    row(&[vec![name.to_string()], figures.concat()].concat());
+    let a_second = costs.each().map(|cost| thousands((1e9 / cost) as u64));
+    let ratios = [costs.to_independent(), costs.to_read_once()].map(times);
+    row(&[vec![name.to_string(), thousands(case.turns as u64)], a_second.to_vec(), ratios.to_vec()].concat());
 }
 
 pub fn seats(plan: &Plan) {
@@ -103,7 +114,8 @@ pub fn timetable(plan: &Plan) {
 }
 
 pub fn condition(plan: &Plan) {
-    let columns = ["Made longer by", "Bytes", "Proved", "for each byte more", "Independent", "for each byte more"];
+    let more = "for each byte more";
+    let columns = ["Made longer by", "Bytes", "Proved", more, "Independent", more, "Text read once", more];
     heading("Cost of a turn and the condition's length, one condition over delays, ns", &columns);
     condition_rows("spaces between two symbols", &plan.of(Series::Spaces));
     condition_rows("tests that are read and not evaluated", &plan.of(Series::TestsReadOver));
@@ -113,20 +125,18 @@ pub fn condition(plan: &Plan) {
 fn condition_rows(name: &str, cases: &[&Case]) {
     for (place, case) in cases.iter().enumerate() {
         let more = match place {
-            0 => [String::new(), String::new()],
-            _ => {
-                let costs = byte_costs(cases[place - 1], case);
-                [costs.proved, costs.independent].map(|cost| format!("{cost:.1}"))
-            }
+            0 => Default::default(),
+            _ => byte_costs(cases[place - 1], case).each().map(|cost| format!("{cost:.1}")),
         };
-        let [proved, independent] = [case.costs().proved, case.costs().independent].map(nanoseconds);
-        let [more_proved, more_independent] = more;
-        row(&[name.to_string(), length(case).to_string(), proved, more_proved, independent, more_independent]);
+        let pairs = case.costs().each().map(nanoseconds).into_iter().zip(more);
+        let cells = pairs.flat_map(|(cost, more)| [cost, more]).collect();
+        row(&[vec![name.to_string(), length(case).to_string()], cells].concat());
     }
 }
 
 pub fn runs(plan: &Plan) {
-    let columns = ["Timetable", "Turns", "Proved", "times a plain line's", "Independent", "times a plain line's"];
+    let plainly = "times a plain line's";
+    let columns = ["Timetable", "Turns", "Proved", plainly, "Independent", plainly, "Text read once", plainly];
     heading("Cost of a turn at a run of departures, ns", &columns);
     let plain = plan.last(Series::EachDeparture);
     runs_row("a line for each departure", plain, plain);
@@ -141,15 +151,9 @@ pub fn runs(plan: &Plan) {
 }
 
 fn runs_row(name: &str, case: &Case, plain: &Case) {
-    let (costs, least) = (case.costs(), plain.costs());
-    row(&[
-        name.to_string(),
-        thousands(case.turns as u64),
-        nanoseconds(costs.proved),
-        times(costs.proved / least.proved),
-        nanoseconds(costs.independent),
-        times(costs.independent / least.independent),
-    ]);
+    let costs = case.costs().each().into_iter().zip(plain.costs().each());
+    let cells = costs.flat_map(|(cost, least)| [nanoseconds(cost), times(cost / least)]).collect();
+    row(&[vec![name.to_string(), thousands(case.turns as u64)], cells].concat());
 }
 
 /// Left out where no program before is given.

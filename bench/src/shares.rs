@@ -37,5 +37,9 @@ pub fn length(case: &Case) -> usize {
 pub fn byte_costs(shorter: &Case, longer: &Case) -> Costs {
     let bytes = (length(longer) - length(shorter)) as f64;
     let (less, more) = (shorter.costs(), longer.costs());
-    Costs { proved: (more.proved - less.proved) / bytes, independent: (more.independent - less.independent) / bytes }
+    Costs {
+        proved: (more.proved - less.proved) / bytes,
+        independent: (more.independent - less.independent) / bytes,
+        read_once: (more.read_once - less.read_once) / bytes,
+    }
 }
