@@ -2,7 +2,7 @@
 
 use crate::inputs::{FIRST_YEAR, YEAR};
 use crate::measure::Case;
-use crate::plan::{Plan, Series};
+use crate::plan::{Plan, Series, ALL_ASKED, ALL_IN_FIRST_YEAR, SHORT_TEST};
 use crate::profile::{Part, Profile};
 use crate::report::{heading, percent, row, times};
 use crate::shares::{byte_costs, length};
@@ -76,7 +76,7 @@ fn above_line(cases: &[&Case]) -> f64 {
 }
 
 fn years(plan: &Plan) {
-    let ratio = plan.last(Series::Asked).costs().proved / plan.last(Series::AskedInFirstYear).costs().proved;
+    let ratio = plan.case(ALL_ASKED).costs().proved / plan.case(ALL_IN_FIRST_YEAR).costs().proved;
     goal(
         &format!("departures of {YEAR} at most {SAME} times the time of year {FIRST_YEAR}, 16 conditions"),
         format!("{} times", times(ratio)),
@@ -85,12 +85,12 @@ fn years(plan: &Plan) {
 }
 
 fn independent(plan: &Plan) {
-    let ratio = plan.last(Series::Asked).costs().to_independent();
+    let ratio = plan.case(ALL_ASKED).costs().to_independent();
     goal("below the independent program's time, 16 conditions over departures", format!("{} times", times(ratio)), ratio < 1.0);
 }
 
 fn short_test(plan: &Plan) {
-    let ratio = plan.of(Series::Spaces)[0].costs().to_independent();
+    let ratio = plan.case(SHORT_TEST).costs().to_independent();
     goal(
         &format!("a short test over delays at most {MOST_TIMES_SHORT} times the independent program's time"),
         format!("{} times", times(ratio)),

@@ -14,7 +14,7 @@ mod report;
 mod shares;
 
 use measure::{measure_all, peak_memory, Case, Programs};
-use plan::{Plan, Series};
+use plan::{Named, Plan, Series, ALL_ASKED, OVER_EMPTY_LINES, PEER};
 use shares::Shares;
 use std::io;
 use std::path::Path;
@@ -41,7 +41,7 @@ fn run(programs: &Programs, work: &Path) -> io::Result<()> {
     let mut plan = Plan::new(programs, work)?;
     measure_all(programs, plan.cases.iter_mut().map(|(_, case)| case))?;
     let profile = profile::profile(&programs.proved, &plan.last(Series::Profiled).folder)?;
-    let queries: io::Result<Vec<Option<f64>>> = plan.of(Series::Asked).into_iter().map(basex::query_time).collect();
+    let queries: io::Result<Vec<Option<f64>>> = PEER.map(|named| basex::query_time(plan.case(named))).into_iter().collect();
     report::method(&plan);
     goals::goals(&plan, profile.as_ref());
     report::turns_a_second(&plan);
@@ -52,14 +52,13 @@ fn run(programs: &Programs, work: &Path) -> io::Result<()> {
     report::before(&plan);
     report::shares(&Shares::new(&plan));
     report::instructions(&plan, profile.as_ref());
-    report::memory(&[
-        ("16 conditions over departures", memory(programs, plan.last(Series::Asked))?),
-        ("16 conditions over 65,536 empty lines", memory(programs, plan.last(Series::EmptyLines))?),
-    ]);
+    let memory = |named: Named| Ok((named.name, peaks(programs, plan.case(named))?));
+    let rows: io::Result<Vec<_>> = [ALL_ASKED, OVER_EMPTY_LINES].into_iter().map(memory).collect();
+    report::memory(&rows?);
     report::basex(&plan, &queries?);
     Ok(())
 }
 
-fn memory(programs: &Programs, case: &Case) -> io::Result<[u64; 2]> {
+fn peaks(programs: &Programs, case: &Case) -> io::Result<[u64; 2]> {
     Ok([peak_memory(&programs.proved, &case.folder)?, peak_memory(&programs.independent, &case.folder)?])
 }

@@ -54,12 +54,32 @@ const ALL: [Series; 14] = [
     Profiled,
 ];
 
-/// Of what the program before is asked too: the series, the place within it, and what it is called.
-const BEFORE: [(Series, usize, &str); 3] = [
-    (Asked, 2, "16 conditions over departures"),
-    (AskedInFirstYear, 0, "16 conditions over departures of year 0001"),
-    (Spaces, 0, "a short test over delays"),
-];
+/// A case that the tables call by a name: its series, and its place there.
+#[derive(Clone, Copy)]
+pub struct Named {
+    pub name: &'static str,
+    series: Series,
+    place: usize,
+}
+
+const fn named(name: &'static str, series: Series, place: usize) -> Named {
+    Named { name, series, place }
+}
+
+pub const ONE_ASKED: Named = named("1 condition over departures", Asked, 0);
+pub const FOUR_ASKED: Named = named("4 conditions over departures", Asked, 1);
+pub const ALL_ASKED: Named = named("16 conditions over departures", Asked, 2);
+pub const ALL_IN_FIRST_YEAR: Named = named("16 conditions over departures of year 0001", AskedInFirstYear, 0);
+pub const OVER_EMPTY_LINES: Named = named("16 conditions over 65,536 empty lines", EmptyLines, 0);
+pub const LONG: Named = named("16 conditions of 240 bytes over departures", LongConditions, 0);
+pub const DEEP: Named = named("16 conditions of 240 bytes, 16 deep, over departures", DeepConditions, 0);
+pub const SHORT_TEST: Named = named("a short test over delays", Spaces, 0);
+
+/// What the peer is asked.
+pub const PEER: [Named; 3] = [ONE_ASKED, FOUR_ASKED, ALL_ASKED];
+
+/// What the program before is asked too.
+const BEFORE: [Named; 3] = [ALL_ASKED, ALL_IN_FIRST_YEAR, SHORT_TEST];
 
 pub struct Plan {
     pub cases: Vec<(Series, Case)>,
@@ -71,7 +91,7 @@ impl Plan {
         for series in ALL {
             for (place, (timetable, conditions)) in inputs_of(series).iter().enumerate() {
                 let folder = work.join(format!("{series:?}-{place}"));
-                let is_asked_before = BEFORE.iter().any(|&(own, at, _)| (own, at) == (series, place));
+                let is_asked_before = BEFORE.iter().any(|named| (named.series, named.place) == (series, place));
                 let before = programs.before.as_deref().filter(|_| is_asked_before);
                 cases.push((series, Case::new(programs, before, folder, timetable, conditions)?));
             }
@@ -90,7 +110,7 @@ impl Plan {
                 return Err(io::Error::other(format!("not {expected} unreadable lines: {}", case.folder.display())));
             }
         }
-        if self.last(Asked).answers != self.last(AskedInFirstYear).answers {
+        if self.case(ALL_ASKED).answers != self.case(ALL_IN_FIRST_YEAR).answers {
             return Err(io::Error::other("departures are answered differently in another year"));
         }
         let plain = words(self.last(EachDeparture));
@@ -108,11 +128,15 @@ impl Plan {
 
     /// What the program before is asked too, with the nanoseconds of a turn before and now; empty where no such program is given.
     pub fn before_and_now(&self) -> Vec<(&'static str, [f64; 2])> {
-        let costs = |(series, place, name): (Series, usize, &'static str)| {
-            let case = self.of(series)[place];
-            Some((name, [case.cost_before()?, case.costs().proved]))
+        let costs = |named: Named| {
+            let case = self.case(named);
+            Some((named.name, [case.cost_before()?, case.costs().proved]))
         };
         BEFORE.into_iter().filter_map(costs).collect()
+    }
+
+    pub fn case(&self, named: Named) -> &Case {
+        self.of(named.series)[named.place]
     }
 
     /// The greatest case of a series.

@@ -1,15 +1,15 @@
 //! What was measured, as Markdown.
 
 use crate::basex;
-use crate::inputs::{FIRST_YEAR, RUN_DEPARTURES};
+use crate::inputs::RUN_DEPARTURES;
 use crate::measure::{has_processor_time, Case, ROUNDS, SHORT_RUNS};
-use crate::plan::{Plan, Series};
+use crate::plan::{Plan, Series, ALL_ASKED, ALL_IN_FIRST_YEAR, DEEP, FOUR_ASKED, LONG, ONE_ASKED, OVER_EMPTY_LINES, PEER};
 use crate::profile::{Profile, PARTS};
 use crate::shares::{byte_costs, length, Shares};
 
 pub fn method(plan: &Plan) {
     let clock = if has_processor_time() { "the time that the program had the processor" } else { "elapsed time" };
-    let starts = plan.last(Series::Asked).starts();
+    let starts = plan.case(ALL_ASKED).starts();
     let [proved, independent] = [starts.proved, starts.independent].map(|start| start.as_secs_f64() * 1e3);
     let short = ROUNDS * SHORT_RUNS;
     println!(
@@ -63,29 +63,15 @@ pub fn turns_a_second(plan: &Plan) {
         "Time proved / text read once",
     ];
     heading("Turns a second", &columns);
-    for case in plan.of(Series::Asked) {
-        turns_row(&asked_name(case), case);
+    for named in [ONE_ASKED, FOUR_ASKED, ALL_ASKED, ALL_IN_FIRST_YEAR, OVER_EMPTY_LINES, LONG, DEEP] {
+        let case = plan.case(named);
+        let costs = case.costs();
+        let a_second = costs.each().map(|cost| thousands((1e9 / cost) as u64));
+        let ratios = [costs.to_independent(), costs.to_read_once()].map(times);
+        row(&[vec![named.name.to_string(), thousands(case.turns as u64)], a_second.to_vec(), ratios.to_vec()].concat());
     }
-    turns_row(&format!("16 conditions over departures of year {FIRST_YEAR}"), plan.last(Series::AskedInFirstYear));
-    turns_row("16 conditions over 65,536 empty lines", plan.last(Series::EmptyLines));
-    turns_row("16 conditions of 240 bytes over departures", plan.last(Series::LongConditions));
-    turns_row("16 conditions of 240 bytes, 16 deep, over departures", plan.last(Series::DeepConditions));
-    println!("\nDepartures: 65,536 bytes, {} lines such as", thousands(plan.of(Series::Asked)[0].turns as u64));
+    println!("\nDepartures: 65,536 bytes, {} lines such as", thousands(plan.case(ONE_ASKED).turns as u64));
     println!("`550→2024-03-30T04:30:00+02:00→PT0S→Kamppi`. The conditions are those that `bench/src/inputs.rs` lists.");
-}
-
-fn asked_name(case: &Case) -> String {
-    match case.conditions.len() {
-        1 => "1 condition over departures".to_string(),
-        count => format!("{count} conditions over departures"),
-    }
-}
-
-fn turns_row(name: &str, case: &Case) {
-    let costs = case.costs();
-    let a_second = costs.each().map(|cost| thousands((1e9 / cost) as u64));
-    let ratios = [costs.to_independent(), costs.to_read_once()].map(times);
-    row(&[vec![name.to_string(), thousands(case.turns as u64)], a_second.to_vec(), ratios.to_vec()].concat());
 }
 
 pub fn seats(plan: &Plan) {
@@ -218,9 +204,15 @@ pub fn basex(plan: &Plan, queries: &[Option<f64>]) {
         return;
     }
     heading(title, &["Case", "BaseX, turns a second", "Time BaseX / proved", "Time BaseX / independent"]);
-    for (case, milliseconds) in plan.of(Series::Asked).iter().zip(queries.iter().flatten()) {
+    for (named, milliseconds) in PEER.iter().zip(queries.iter().flatten()) {
+        let case = plan.case(*named);
         let (cost, costs) = (milliseconds * 1e6 / case.turns as f64, case.costs());
-        row(&[asked_name(case), thousands((1e9 / cost) as u64), times(cost / costs.proved), times(cost / costs.independent)]);
+        row(&[
+            named.name.to_string(),
+            thousands((1e9 / cost) as u64),
+            times(cost / costs.proved),
+            times(cost / costs.independent),
+        ]);
     }
     println!("\nOne query that counts the hits of each condition; its counts are the desk's. Elapsed time, the average of the first {}", basex::RUNS);
     println!("runs within one start of BaseX: the start is left out, the reading of the query and of the timetable is not.");

@@ -1,7 +1,7 @@
 //! How much of a proved turn is the reading of the condition's text.
 
 use crate::measure::{Case, Costs};
-use crate::plan::{Plan, Series};
+use crate::plan::{Plan, Series, ALL_ASKED};
 
 /// Nanoseconds of a turn of the sixteen conditions over departures.
 pub struct Shares {
@@ -14,7 +14,7 @@ pub struct Shares {
 
 impl Shares {
     pub fn new(plan: &Plan) -> Shares {
-        let asked = plan.last(Series::Asked);
+        let asked = plan.case(ALL_ASKED);
         let read_over = plan.of(Series::TestsReadOver);
         Shares {
             whole: asked.costs().proved,
