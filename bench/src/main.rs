@@ -4,17 +4,17 @@
 //!
 //! READ_ONCE is the independent program with each condition's text read once, when it is opened. BEFORE is the proved program as it was: a turn at a plain line is then measured of both.
 
-mod basex;
 mod goals;
 mod inputs;
 mod measure;
+mod peers;
 mod plan;
 mod profile;
 mod report;
 mod shares;
 
 use measure::{measure_all, peak_memory, Case, Programs};
-use plan::{Named, Plan, Series, ALL_ASKED, OVER_EMPTY_LINES, PEER};
+use plan::{Named, Plan, Series, ALL_ASKED, ASKED_OF_PEERS, OVER_EMPTY_LINES};
 use shares::Shares;
 use std::io;
 use std::path::Path;
@@ -41,7 +41,7 @@ fn run(programs: &Programs, work: &Path) -> io::Result<()> {
     let mut plan = Plan::new(programs, work)?;
     measure_all(programs, plan.cases.iter_mut().map(|(_, case)| case))?;
     let profile = profile::profile(&programs.proved, &plan.last(Series::Profiled).folder)?;
-    let queries: io::Result<Vec<Option<f64>>> = PEER.map(|named| basex::query_time(plan.case(named))).into_iter().collect();
+    let peers = peers::measure(&ASKED_OF_PEERS.map(|named| plan.case(named)));
     report::method(&plan);
     goals::goals(&plan, profile.as_ref());
     report::turns_a_second(&plan);
@@ -55,7 +55,7 @@ fn run(programs: &Programs, work: &Path) -> io::Result<()> {
     let memory = |named: Named| Ok((named.name, peaks(programs, plan.case(named))?));
     let rows: io::Result<Vec<_>> = [ALL_ASKED, OVER_EMPTY_LINES].into_iter().map(memory).collect();
     report::memory(&rows?);
-    report::basex(&plan, &queries?);
+    report::peers(&plan, &peers?);
     Ok(())
 }
 

@@ -49,7 +49,7 @@ pub struct Case {
     pub answers: String,
     /// The program before, where it is asked too.
     before: Option<PathBuf>,
-    start_folder: PathBuf,
+    pub start_folder: PathBuf,
     times: Times,
     starts: Times,
 }

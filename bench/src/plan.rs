@@ -75,8 +75,8 @@ pub const LONG: Named = named("16 conditions of 240 bytes over departures", Long
 pub const DEEP: Named = named("16 conditions of 240 bytes, 16 deep, over departures", DeepConditions, 0);
 pub const SHORT_TEST: Named = named("a short test over delays", Spaces, 0);
 
-/// What the peer is asked.
-pub const PEER: [Named; 3] = [ONE_ASKED, FOUR_ASKED, ALL_ASKED];
+/// What the peers are asked: cases with so many turns that machine code warms up over them.
+pub const ASKED_OF_PEERS: [Named; 3] = [ALL_ASKED, LONG, DEEP];
 
 /// What the program before is asked too.
 const BEFORE: [Named; 3] = [ALL_ASKED, ALL_IN_FIRST_YEAR, SHORT_TEST];

@@ -1,9 +1,11 @@
 //! What was measured, as Markdown.
 
-use crate::basex;
 use crate::inputs::RUN_DEPARTURES;
 use crate::measure::{has_processor_time, Case, ROUNDS, SHORT_RUNS};
-use crate::plan::{Plan, Series, ALL_ASKED, ALL_IN_FIRST_YEAR, DEEP, FOUR_ASKED, LONG, ONE_ASKED, OVER_EMPTY_LINES, PEER};
+use crate::peers::{Figures, RUNS};
+use crate::plan::{
+    Plan, Series, ALL_ASKED, ALL_IN_FIRST_YEAR, ASKED_OF_PEERS, DEEP, FOUR_ASKED, LONG, ONE_ASKED, OVER_EMPTY_LINES,
+};
 use crate::profile::{Profile, PARTS};
 use crate::shares::{byte_costs, length, Shares};
 
@@ -197,23 +199,20 @@ pub fn memory(rows: &[(&str, [u64; 2])]) {
     );
 }
 
-pub fn basex(plan: &Plan, queries: &[Option<f64>]) {
-    let title = "BaseX, an XQuery processor";
-    if queries.contains(&None) {
-        println!("\n### {title}\n\nNot measured: BaseX is not there.");
-        return;
+pub fn peers(plan: &Plan, peers: &[Figures]) {
+    heading("Peers: XQuery processors", &["Peer", "Case", "ns a turn", "Times the proved program's"]);
+    for Figures { name, costs } in peers {
+        let Some(costs) = costs else {
+            row(&[name, "not installed", "", ""].map(str::to_string));
+            continue;
+        };
+        for (named, cost) in ASKED_OF_PEERS.iter().zip(costs) {
+            let ratio = cost / plan.case(*named).costs().proved;
+            row(&[name.clone(), named.name.to_string(), nanoseconds(*cost), times(ratio)]);
+        }
     }
-    heading(title, &["Case", "BaseX, turns a second", "Time BaseX / proved", "Time BaseX / independent"]);
-    for (named, milliseconds) in PEER.iter().zip(queries.iter().flatten()) {
-        let case = plan.case(*named);
-        let (cost, costs) = (milliseconds * 1e6 / case.turns as f64, case.costs());
-        row(&[
-            named.name.to_string(),
-            thousands((1e9 / cost) as u64),
-            times(cost / costs.proved),
-            times(cost / costs.independent),
-        ]);
-    }
-    println!("\nOne query that counts the hits of each condition; its counts are the desk's. Elapsed time, the average of the first {}", basex::RUNS);
-    println!("runs within one start of BaseX: the start is left out, the reading of the query and of the timetable is not.");
+    println!("\nA query counts the hits of each condition, and its counts are the desk's. The conditions are taken as they stand, but for");
+    println!("their fields: `$2` is written `$f[2]`, since no name in XQuery begins with a digit. A value without zone counts as UTC. Elapsed");
+    println!("time, the least of {RUNS} runs within one start of the peer, in which its machine code grows warm, less the least of {RUNS} runs of the");
+    println!("same query over an empty timetable, over the turns: the start, the reading of the query and the warming up are left out.");
 }
