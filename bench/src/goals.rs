@@ -1,10 +1,10 @@
 //! The goals, the figure of each and whether it is met.
 
 use crate::inputs::{FIRST_YEAR, YEAR};
+use crate::markdown::{heading, paragraph, percent, row, times};
 use crate::measure::Case;
 use crate::plan::{Plan, Series, ALL_ASKED, ALL_IN_FIRST_YEAR, SHORT_TEST};
 use crate::profile::{Part, Profile};
-use crate::report::{heading, percent, row, times};
 use crate::shares::{byte_costs, length};
 
 /// What counts as the same: a cost may be so many times another and still not have grown.
@@ -30,7 +30,7 @@ pub fn goals(plan: &Plan, profile: Option<&Profile>) {
     late_places(plan);
     before(plan);
     copying(profile);
-    println!("\nUp to {SAME} times counts as the same. The short test is the first one over delays below, of 48 bytes.");
+    paragraph(&format!("Up to {SAME} times counts as the same. The short test is the first one over delays below, of 48 bytes."));
 }
 
 fn goal(name: &str, figure: String, met: bool) {

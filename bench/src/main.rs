@@ -6,6 +6,7 @@
 
 mod goals;
 mod inputs;
+mod markdown;
 mod measure;
 mod peers;
 mod plan;

@@ -1,6 +1,7 @@
 //! What was measured, as Markdown.
 
 use crate::inputs::RUN_DEPARTURES;
+use crate::markdown::{heading, nanoseconds, paragraph, percent, row, tenths, thousands, times};
 use crate::measure::{has_processor_time, Case, ROUNDS, SHORT_RUNS};
 use crate::peers::{Figures, RUNS};
 use crate::plan::{
@@ -14,44 +15,15 @@ pub fn method(plan: &Plan) {
     let starts = plan.case(ALL_ASKED).starts();
     let [proved, independent] = [starts.proved, starts.independent].map(|start| start.as_secs_f64() * 1e3);
     let short = ROUNDS * SHORT_RUNS;
-    println!(
-        "The programs are built for release and run in turn over the same files. Before anything is measured, what they write is"
-    );
-    println!("compared byte for byte. A time is {clock}, its output thrown away: the least of {ROUNDS} runs,");
-    println!("of {short} where a run is short. The cost of a turn is the time of the whole run less that with an empty timetable (sixteen");
-    println!("conditions: {proved:.1} ms proved, {independent:.1} ms independent), over the turns at lines. The proved program and the");
-    println!("independent one read the condition's text at each turn; the latter also makes all of Open's checks of it again. \"Text read");
-    println!("once\" is the independent program changed so that it reads each condition, with its literals, once, when it is opened: what");
-    println!("that would leave of a turn, and the mark that a desk which settles a condition at opening has to beat.");
-}
-
-pub fn heading(title: &str, columns: &[&str]) {
-    println!("\n### {title}\n");
-    println!("| {} |", columns.join(" | "));
-    println!("|{}", "---|".repeat(columns.len()));
-}
-
-pub fn row(cells: &[String]) {
-    println!("| {} |", cells.join(" | "));
-}
-
-pub fn times(ratio: f64) -> String {
-    format!("{ratio:.2}")
-}
-
-pub fn percent(share: f64) -> String {
-    format!("{:.1}%", 100.0 * share)
-}
-
-fn nanoseconds(cost: f64) -> String {
-    thousands(cost.round() as u64)
-}
-
-fn thousands(number: u64) -> String {
-    match number {
-        0..=999 => number.to_string(),
-        _ => format!("{},{:03}", thousands(number / 1_000), number % 1_000),
-    }
+    paragraph(&format!(
+        "The programs are built for release and run in turn over the same files. Before anything is measured, what they write is \
+         compared byte for byte. A time is {clock}, its output thrown away: the least of {ROUNDS} runs, of {short} where a run is short. \
+         The cost of a turn is the time of the whole run less that with an empty timetable (sixteen conditions: {proved:.1} ms proved, \
+         {independent:.1} ms independent), over the turns at lines. The proved program and the independent one read the condition's text \
+         at each turn; the latter also makes all of Open's checks of it again. \"Text read once\" is the independent program changed so \
+         that it reads each condition, with its literals, once, when it is opened: what that would leave of a turn, and the mark that a \
+         desk which settles a condition at opening has to beat."
+    ));
 }
 
 pub fn turns_a_second(plan: &Plan) {
@@ -72,8 +44,11 @@ pub fn turns_a_second(plan: &Plan) {
         let ratios = [costs.to_independent(), costs.to_read_once()].map(times);
         row(&[vec![named.name.to_string(), thousands(case.turns as u64)], a_second.to_vec(), ratios.to_vec()].concat());
     }
-    println!("\nDepartures: 65,536 bytes, {} lines such as", thousands(plan.case(ONE_ASKED).turns as u64));
-    println!("`550→2024-03-30T04:30:00+02:00→PT0S→Kamppi`. The conditions are those that `bench/src/inputs.rs` lists.");
+    let lines = thousands(plan.case(ONE_ASKED).turns as u64);
+    paragraph(&format!(
+        "Departures: 65,536 bytes, {lines} lines such as `550→2024-03-30T04:30:00+02:00→PT0S→Kamppi`. The conditions are those that \
+         `bench/src/inputs.rs` lists."
+    ));
 }
 
 pub fn seats(plan: &Plan) {
@@ -85,10 +60,10 @@ pub fn seats(plan: &Plan) {
         row(&[vec![delays.conditions.len().to_string()], cells.to_vec()].concat());
     }
     let lines = thousands(plan.of(Series::SeatsOverDelays)[0].turns as u64);
-    println!("\nEvery seat holds the same condition. Delays: {lines} lines of one delay each and a test that compares no dates. Departures: the");
-    println!(
-        "first of the sixteen conditions. The proved program checks the desk's soundness once for each 4,096 bytes of output."
-    );
+    paragraph(&format!(
+        "Every seat holds the same condition. Delays: {lines} lines of one delay each and a test that compares no dates. Departures: the \
+         first of the sixteen conditions. The proved program checks the desk's soundness once for each 4,096 bytes of output."
+    ));
 }
 
 pub fn timetable(plan: &Plan) {
@@ -114,7 +89,7 @@ fn condition_rows(name: &str, cases: &[&Case]) {
     for (place, case) in cases.iter().enumerate() {
         let more = match place {
             0 => Default::default(),
-            _ => byte_costs(cases[place - 1], case).each().map(|cost| format!("{cost:.1}")),
+            _ => byte_costs(cases[place - 1], case).each().map(tenths),
         };
         let pairs = case.costs().each().map(nanoseconds).into_iter().zip(more);
         let cells = pairs.flat_map(|(cost, more)| [cost, more]).collect();
@@ -134,8 +109,10 @@ pub fn runs(plan: &Plan) {
         runs_row(&format!("{} {runs} of {occurrences} occurrences", case.timetable_lines), case, plain);
     }
     let (departures, conditions) = (thousands(RUN_DEPARTURES as u64), plain.conditions.len());
-    println!("\nThe same {departures} departures, a minute apart, and the same {conditions} conditions: those of the sixteen that look at");
-    println!("the second field alone. A turn at a run reads three values more, and writes the occurrence's text.");
+    paragraph(&format!(
+        "The same {departures} departures, a minute apart, and the same {conditions} conditions: those of the sixteen that look at the \
+         second field alone. A turn at a run reads three values more, and writes the occurrence's text."
+    ));
 }
 
 fn runs_row(name: &str, case: &Case, plain: &Case) {
@@ -154,7 +131,7 @@ pub fn before(plan: &Plan) {
     for (name, [before, now]) in compared {
         row(&[name.to_string(), nanoseconds(before), nanoseconds(now), times(now / before)]);
     }
-    println!("\nThe proved program before and now, in turn in every round. What the two write is the same, byte for byte.");
+    paragraph("The proved program before and now, in turn in every round. What the two write is the same, byte for byte.");
 }
 
 pub fn shares(shares: &Shares) {
@@ -185,8 +162,10 @@ pub fn instructions(plan: &Plan, profile: Option<&Profile>) {
     }
     let conditions = profiled.conditions.concat();
     let (literals, fields) = (conditions.matches('"').count() / 2, conditions.matches('$').count());
-    println!("\nCounted by callgrind over a quarter of the departures, start included, by the crate of the function; what the compiler placed within");
-    println!("another crate's function counts there. The sixteen conditions hold {literals} literals and {fields} fields.");
+    paragraph(&format!(
+        "Counted by callgrind over a quarter of the departures, start included, by the crate of the function; what the compiler placed \
+         within another crate's function counts there. The sixteen conditions hold {literals} literals and {fields} fields."
+    ));
 }
 
 pub fn memory(rows: &[(&str, [u64; 2])]) {
@@ -194,8 +173,8 @@ pub fn memory(rows: &[(&str, [u64; 2])]) {
     for (name, peaks) in rows {
         row(&[vec![name.to_string()], peaks.map(thousands).to_vec()].concat());
     }
-    println!(
-        "\nThe kernel's high-water mark, `VmHWM` of `/proc/PID/status`, read while the program waits for its output to be taken."
+    paragraph(
+        "The kernel's high-water mark, `VmHWM` of `/proc/PID/status`, read while the program waits for its output to be taken.",
     );
 }
 
@@ -211,8 +190,10 @@ pub fn peers(plan: &Plan, peers: &[Figures]) {
             row(&[name.clone(), named.name.to_string(), nanoseconds(*cost), times(ratio)]);
         }
     }
-    println!("\nA query counts the hits of each condition, and its counts are the desk's. The conditions are taken as they stand, but for");
-    println!("their fields: `$2` is written `$f[2]`, since no name in XQuery begins with a digit. A value without zone counts as UTC. Elapsed");
-    println!("time, the least of {RUNS} runs within one start of the peer, in which its machine code grows warm, less the least of {RUNS} runs of the");
-    println!("same query over an empty timetable, over the turns: the start, the reading of the query and the warming up are left out.");
+    paragraph(&format!(
+        "A query counts the hits of each condition, and its counts are the desk's. The conditions are taken as they stand, but for their \
+         fields: `$2` is written `$f[2]`, since no name in XQuery begins with a digit. A value without zone counts as UTC. Elapsed time, \
+         the least of {RUNS} runs within one start of the peer, by which its machine code is warm, less the least of {RUNS} runs of the \
+         same query over an empty timetable, over the turns: the start, the reading of the query and the warming up are left out."
+    ));
 }
