@@ -6,10 +6,10 @@ use Prim.Native.Nat.{ℕ, zero, suc, _+_, _-_, _*_, _/_, _%_, _≤_, _<_}
 use native.Mathlib.Nat.{zero-add, zero-mul, suc-add, mod-lt, div-add-mod, add-div-right, mul-add-div, div-eq-of-lt}
 use native.Mathlib.Omega.{arith}
 use lib.Dec.{eqb, leb, ltb}
-use borrow.Author.Tests.{eqb-true, eqb-false, leb-true, leb-false, ltb-true, ltb-false}
+use borrow.Author.Tests.{eqb-true, eqb-false, leb-true, leb-false, ltb-true, ltb-false, lt-ltb, le-ltb}
 use Rattle.basis.specs.Choice.{pick}
 use Rattle.calendar.specs.Calendar.{leapRow, yearDays, total, dateOf, periodOf, Period}
-use Rattle.calendar.specs.Cycle.{cycleYears, cycleDays, AnyCycle, LeapDays, beforeByCycle, SumByCycle, leapYearDays, earlyYear, yearByCycle, HoldsDay, YearByCycle, OneYear, WalkByCycle}
+use Rattle.calendar.specs.Cycle.{cycleYears, cycleDays, AnyCycle, ordinaryYearDays, LeapDays, beforeByCycle, SumByCycle, leapYearDays, earlyYear, EarlyYear, yearByCycle, HoldsDay, YearByCycle, OneYear, WalkByCycle}
 use Rattle.calendar.proofs.Leap.{multiple, leap-counts, leap-repeats, year-le}
 use Rattle.calendar.proofs.Periods.{total-zero, total-suc, total-adds, total-le, below, one-period, Found}
 use Rattle.calendar.proofs.Years.{years-le, years-next, years-grow, year-found}
@@ -31,7 +31,7 @@ pub any-cycle : AnyCycle
 any-cycle y = omega (arith, total-adds yearDays y cycleYears, cycle-on y)
 
 -- whole cycles, then the years after them
-pub whole-cycles : (c y : ℕ) → total yearDays (c * cycleYears + y) ≡ c * cycleDays + total yearDays y
+whole-cycles : (c y : ℕ) → total yearDays (c * cycleYears + y) ≡ c * cycleDays + total yearDays y
 whole-cycles zero y = simp (zero-mul, zero-add)
 whole-cycles (suc c) y =
     let e : suc c * cycleYears + y ≡ c * cycleYears + y + cycleYears = omega arith in
@@ -88,7 +88,7 @@ leap-days y =
     omega
     (arith, counts-add y, fewer y, multiples-counted 4 (omega arith) y, multiples-counted 100 (omega arith) y, multiples-counted 400 (omega arith) y)
 
-days-and-leap-days : (y : ℕ) → 365 * y + total leapRow y ≡ total yearDays y
+days-and-leap-days : (y : ℕ) → ordinaryYearDays * y + total leapRow y ≡ total yearDays y
 unfolding total
 days-and-leap-days zero = refl
 days-and-leap-days (suc y) = omega (arith, days-and-leap-days y)
@@ -102,7 +102,7 @@ sum-by-cycle y =
 -- ---- the year of a day number
 
 -- 366 days for each year are not too few
-pub early-starts : (n : ℕ) → total yearDays (earlyYear n) ≤ n
+early-starts : (n : ℕ) → total yearDays (earlyYear n) ≤ n
 early-starts n = omega (arith, whole-cycles (n / cycleDays) (n % cycleDays / leapYearDays), years-le (n % cycleDays / leapYearDays))
 
 -- of a cycle's years the first k fall short of 366 days each by no more than all 400 do, 303 days
@@ -120,7 +120,7 @@ early-by-one d h = go (leb (d / leapYearDays + 2) cycleYears) refl
     go true t = omega (arith, short-by (d / leapYearDays + 2) (leb-true _ _ t))
     go false t = omega (arith, first-cycle, years-grow cycleYears (d / leapYearDays + 2) (omega (arith, leb-false (d / leapYearDays + 2) cycleYears t)))
 
-pub early-ends : (n : ℕ) → n < total yearDays (earlyYear n + 1 + 1)
+early-ends : (n : ℕ) → n < total yearDays (earlyYear n + 1 + 1)
 early-ends n =
     let c : ℕ = n / cycleDays in
     let d : ℕ = n % cycleDays in
@@ -128,26 +128,40 @@ early-ends n =
     let t : total yearDays (earlyYear n + 1 + 1) ≡ c * cycleDays + total yearDays (d / leapYearDays + 2) = ap (total yearDays) e ∙ whole-cycles c (d / leapYearDays + 2) in
     omega (arith, early-by-one d (omega arith))
 
+pub early-year : EarlyYear
+early-year n = (early-starts n, early-ends n)
+
 -- a day before a last year has an early year before it too
 pub early-before : (n last : ℕ) → n < total yearDays last → earlyYear n < last
 early-before n last h = below yearDays (earlyYear n) last 0 (omega (arith, early-starts n))
 
+-- which of the two years is found, by what `before_year` and `year_days` say
+left-of : (n : ℕ) → n - beforeByCycle (earlyYear n) ≡ n - total yearDays (earlyYear n)
+left-of n = ap (λ (x : ℕ). n - x) (sum-by-cycle (earlyYear n))
+
+pub found-early : (n : ℕ) → n - total yearDays (earlyYear n) < yearDays (earlyYear n) → yearByCycle n ≡ earlyYear n
+found-early n h =
+    ap (λ (b : Bool). pick b (earlyYear n) (earlyYear n + 1))
+    (lt-ltb (n - beforeByCycle (earlyYear n)) (yearDays (earlyYear n)) (rw (left-of n) h))
+
+pub found-next : (n : ℕ) → yearDays (earlyYear n) ≤ n - total yearDays (earlyYear n) → yearByCycle n ≡ earlyYear n + 1
+found-next n h =
+    ap (λ (b : Bool). pick b (earlyYear n) (earlyYear n + 1))
+    (le-ltb (n - beforeByCycle (earlyYear n)) (yearDays (earlyYear n)) (rw (left-of n) h))
+
 pub year-by-cycle : YearByCycle
-year-by-cycle n = go (ltb (n - beforeByCycle y) (yearDays y)) refl
+year-by-cycle n = go (ltb (n - total yearDays y) (yearDays y)) refl
   where
     y : ℕ
     y = earlyYear n
 
-    left : n - beforeByCycle y ≡ n - total yearDays y
-    left = ap (λ (x : ℕ). n - x) (sum-by-cycle y)
-
-    go : (b : Bool) → ltb (n - beforeByCycle y) (yearDays y) ≡ b → HoldsDay (pick b y (y + 1)) n
+    go : (b : Bool) → ltb (n - total yearDays y) (yearDays y) ≡ b → HoldsDay (yearByCycle n) n
     go true t =
-        let h : n - total yearDays y < yearDays y = rw left at (ltb-true (n - beforeByCycle y) (yearDays y) t) in
-        record { starts = early-starts n; ends = omega (arith, years-next y, early-starts n) }
+        let h : n - total yearDays y < yearDays y = ltb-true _ _ t in
+        rw (found-early n h) (record { starts = early-starts n; ends = omega (arith, years-next y, early-starts n) })
     go false t =
-        let h : yearDays y ≤ n - total yearDays y = rw left at (ltb-false (n - beforeByCycle y) (yearDays y) t) in
-        record { starts = omega (arith, years-next y, early-starts n); ends = early-ends n }
+        let h : yearDays y ≤ n - total yearDays y = ltb-false _ _ t in
+        rw (found-next n h) (record { starts = omega (arith, years-next y, early-starts n); ends = early-ends n })
 
 pub one-year : OneYear
 one-year y z n h g =

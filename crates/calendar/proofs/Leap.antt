@@ -1,5 +1,5 @@
--- A year has one of the two rows of month lengths, so 365 days or 366. The leap rule as a count of multiples, and that it repeats
--- after 400 years.
+-- A year has one of the two rows of month lengths, so 365 days or 366. The leap rule as a count of multiples, and that it
+-- repeats after a cycle.
 use mathlib.Core.Path.{_≡_, refl}
 use mathlib.Core.Bool.{Bool, true, false}
 use Prim.Native.Nat.{ℕ, _+_, _≤_, _%_}
@@ -8,6 +8,7 @@ use native.Mathlib.Omega.{arith}
 use borrow.Author.Tests.{eqb-true, eqb-false}
 use Rattle.basis.specs.Choice.{pick}
 use Rattle.calendar.specs.Calendar.{leapRow, yearDays}
+use Rattle.calendar.specs.Cycle.{cycleYears}
 
 rows : (a b d : Bool) → pick a 1 (pick b 0 (pick d 1 0)) ≤ 1
 rows true b d = lit≤ tt
@@ -50,9 +51,9 @@ leap-counts y = go (eqb (y % 400) 0) (eqb (y % 100) 0) (eqb (y % 4) 0) refl refl
     go true false d ea eb ed = absurd (by-400 (eqb-true _ _ ea) (eqb-false _ _ eb))
     go a true false ea eb ed = absurd (by-100 (eqb-true _ _ eb) (eqb-false _ _ ed))
 
-pub leap-repeats : (y : ℕ) → leapRow (y + 400) ≡ leapRow y
+pub leap-repeats : (y : ℕ) → leapRow (y + cycleYears) ≡ leapRow y
 leap-repeats y =
-    let by-400 : (y + 400) % 400 ≡ y % 400 = omega arith in
-    let by-100 : (y + 400) % 100 ≡ y % 100 = omega arith in
-    let by-4 : (y + 400) % 4 ≡ y % 4 = omega arith in
+    let by-400 : (y + cycleYears) % 400 ≡ y % 400 = omega arith in
+    let by-100 : (y + cycleYears) % 100 ≡ y % 100 = omega arith in
+    let by-4 : (y + cycleYears) % 4 ≡ y % 4 = omega arith in
     λ i. pick (eqb (by-400 i) 0) 1 (pick (eqb (by-100 i) 0) 0 (pick (eqb (by-4 i) 0) 1 0))

@@ -1,6 +1,6 @@
--- Document 02, h: "A new editor cannot see the 400-year cycle in it; write it with that cycle's divisions."
--- Calendar.antt goes year by year, and so do the contracts; the code divides. On this page the divisions as the code makes
--- them, and the theorems that they come to the same. No contract cites it.
+-- For editors: the cycle of 400 years. Document 02, h: "A new editor cannot see the 400-year cycle in it; write it with
+-- that cycle's divisions." Calendar.antt goes year by year, and the contracts cite it. This page has the divisions as the
+-- code makes them, and the theorems that they come to the same; no promise rests on it.
 use mathlib.Core.Path.{_≡_}
 use Prim.Native.Nat.{ℕ, _+_, _-_, _*_, _/_, _%_, _≤_, _<_}
 use lib.Dec.{ltb}
@@ -20,6 +20,9 @@ AnyCycle = (y : ℕ) → total (λ (k : ℕ). yearDays (y + k)) cycleYears ≡ c
 
 -- ---- the days before a year
 
+abbrev pub ordinaryYearDays : ℕ
+ordinaryYearDays = 365
+
 -- the leap days before year y: one for each multiple of 4, none after all for one of 100, one again for one of 400. A
 -- division that is rounded up counts the multiples below y, 0 among them.
 abbrev pub leapDays : ℕ → ℕ
@@ -31,7 +34,7 @@ LeapDays = (y : ℕ) → leapDays y ≡ total leapRow y
 
 -- the days of the whole cycles before a year, and of the years before it in its own cycle
 abbrev pub beforeByCycle : ℕ → ℕ
-beforeByCycle y = y / cycleYears * cycleDays + 365 * (y % cycleYears) + leapDays (y % cycleYears)
+beforeByCycle y = y / cycleYears * cycleDays + ordinaryYearDays * (y % cycleYears) + leapDays (y % cycleYears)
 
 -- they are the sum over the years; proved as `sum-by-cycle`
 abbrev pub SumByCycle : Type 0
@@ -46,7 +49,11 @@ leapYearDays = 366
 abbrev pub earlyYear : ℕ → ℕ
 earlyYear n = n / cycleDays * cycleYears + n % cycleDays / leapYearDays
 
--- that year, or the next one if the day is past its end
+-- it is the right year or the one before it: day n is not before it, nor past the year after it; proved as `early-year`
+abbrev pub EarlyYear : Type 0
+EarlyYear = (n : ℕ) → (total yearDays (earlyYear n) ≤ n) × (n < total yearDays (earlyYear n + 1 + 1))
+
+-- the year found: that one, or the next if the day is past its end
 abbrev pub yearByCycle : ℕ → ℕ
 yearByCycle n = pick (ltb (n - beforeByCycle (earlyYear n)) (yearDays (earlyYear n))) (earlyYear n) (earlyYear n + 1)
 

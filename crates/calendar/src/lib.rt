@@ -64,8 +64,9 @@ pub fn year_days(year: u16) -> u64
 }
 
 // The days of all years before one: of the whole cycles, and of the y years before it in its own cycle. Each of these has
-// 365 days, and by the leap rule the multiples of 4 have a day more, those of 100 have not, those of 400 have again. A
-// division that is rounded up counts the multiples below y, 0 among them.
+// 365 days, and by the leap rule a multiple of 4 has a day more, one of 100 has not, and one of 400, the cycle's first
+// year, has again. 400 is a multiple of 4 and 100, so that y tells them as the year does. A division that is rounded up
+// counts the multiples below y, 0 among them.
 fn before_year(year: u16) -> u64
     ensures { λ r. ⌜ r ≡ total yearDays year ⌝ }
 {
@@ -114,6 +115,7 @@ fn year_of(n: u64, last: u16) -> YearDay
             left: n - start,
         };
     }
+    // The day lies before the last year, so the early year does too: it fits a u16, and a year follows it.
     let cycles = (n / CYCLE_DAYS) as u16;
     let early = cycles * CYCLE_YEARS + (n % CYCLE_DAYS / LEAP_YEAR) as u16;
     let left = n - before_year(early);
