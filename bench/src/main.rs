@@ -2,7 +2,8 @@
 //!
 //!     bench PROVED INDEPENDENT READ_ONCE FOLDER [BEFORE]      the cases are written into FOLDER
 //!
-//! READ_ONCE is the independent program with each condition's text read once, when it is opened. BEFORE is the proved program as it was: a turn at a plain line is then measured of both.
+//! READ_ONCE is the independent program with each condition's text read once, when it is opened. BEFORE is the proved
+//! program as it was: a turn at a plain line is then measured of both.
 
 mod goals;
 mod inputs;
