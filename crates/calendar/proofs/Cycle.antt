@@ -106,7 +106,7 @@ early-starts : (n : ℕ) → total yearDays (earlyYear n) ≤ n
 early-starts n = omega (arith, whole-cycles (n / cycleDays) (n % cycleDays / leapYearDays), years-le (n % cycleDays / leapYearDays))
 
 -- of a cycle's years the first k fall short of 366 days each by no more than all 400 do, 303 days
-short-by : (k : ℕ) → k ≤ cycleYears → leapYearDays * k ≤ total yearDays k + 303
+short-by : (k : ℕ) → k ≤ cycleYears → leapYearDays * k + cycleDays ≤ total yearDays k + leapYearDays * cycleYears
 short-by k h =
     let e : k + (cycleYears - k) ≡ cycleYears = omega arith in
     let s : total yearDays cycleYears ≡ total yearDays k + total (λ (j : ℕ). yearDays (k + j)) (cycleYears - k) = ap (total yearDays) (sym e) ∙ total-adds yearDays k (cycleYears - k) in

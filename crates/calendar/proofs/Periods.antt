@@ -34,16 +34,10 @@ module _ (f : ℕ → ℕ) where
   total-adds m zero = ap (total f) (add-zero m) ∙ sym (add-zero (total f m))
   total-adds m (suc n) = rw (add-suc m n) (omega (arith, total-adds m n))
 
-  grows-by : (m k : ℕ) → total f m ≤ total f (m + k)
-  unfolding total
-  grows-by m zero = rw (add-zero m) (omega arith)
-  grows-by m (suc k) = rw (add-suc m k) (omega (arith, grows-by m k))
-
   pub total-grows : (m n : ℕ) → m ≤ n → total f m ≤ total f n
   total-grows m n h =
-      let g : total f m ≤ total f (m + (n - m)) = grows-by m (n - m) in
-      let e : m + (n - m) ≡ n = add-sub-of-le h in
-      rw e at g
+      let e : total f (m + (n - m)) ≡ total f n = ap (total f) (add-sub-of-le h) in
+      omega (arith, total-adds m (n - m))
 
   -- a day of one period is numbered below every later period
   pub stretch-below : (i j n : ℕ) → i < j → n < f i → total f i + n < total f j

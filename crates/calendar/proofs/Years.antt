@@ -37,9 +37,6 @@ year-starts d = omega arith
 pub year-ends : (d : Date) → GoodDate d → dayOf d < total yearDays (d .year + 1)
 year-ends d g = omega (arith, in-year d g, years-next (d .year))
 
-pub day-below : (d : Date) → GoodDate d → dayOf d < 366 * (d .year + 1)
-day-below d g = omega (arith, year-ends d g, years-le (d .year + 1))
-
 -- a day before the end of a last year has a year up to it
 pub year-up-to : (n last : ℕ) → n < total yearDays (last + 1) → dateOf n .year ≤ last
 unfolding dateOf

@@ -1,8 +1,8 @@
-use mathlib.Core.Path.{_≡_, subst}
+use mathlib.Core.Path.{subst}
 use Prim.Native.Nat.{ℕ, _+_}
 use native.Mathlib.Omega.{arith}
 use borrow.Author.Needs.{needs}
-use Rattle.calendar.specs.Cycle.{earlyYear, yearByCycle, HoldsDay}
+use Rattle.calendar.specs.Cycle.{earlyYear, HoldsDay}
 use Rattle.calendar.proofs.Cycle.{early-before, early-year, found-early, found-next, year-by-cycle}
 use Rattle.calendar.proofs.Years.{years-next}
 use Rattle.calendar.proofs.year_of.Statement.{statement}
