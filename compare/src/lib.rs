@@ -1,4 +1,4 @@
-//! The timetable desk a second time, as an ordinary program written from document 01, letter b of document 02,
+//! The timetable desk a second time, as an ordinary program written from document 01, letters a and b of document 02,
 //! docs/DECISIONS.md and docs/LINES.md alone. It shares no code with the proved programs and exists to be compared with
 //! them.
 

@@ -14,6 +14,7 @@ use crate::{Refusal, NO_GRAMMAR, NO_ROOM};
 use std::cmp::Ordering;
 
 pub const MOST_ROOM: usize = 64;
+pub const MOST_HEX_DIGITS: usize = 512;
 const MOST_YEAR: usize = 65_535;
 const MOST_MONTH_OR_DAY: usize = 255;
 const MOST_MICROS: usize = 18_446_744_073_709_551_615;
@@ -56,7 +57,7 @@ impl<'a> Session<'a> {
                 self.desk.close(number(text, LAST_TICKET as usize)? as u32)?;
                 Ok("closed\n".to_string())
             }
-            (b"write", Some(rest)) => write_text(rest),
+            (b"write", Some(rest)) => write_call(rest),
             (word, Some(rest)) => call_over_values(word, &fields(rest)),
             _ => Err(NO_GRAMMAR),
         }
@@ -75,6 +76,7 @@ fn call_over_values(word: &[u8], rest: &[&[u8]]) -> Result<String, Refusal> {
             let (size, record) = (number(room, MOST_ROOM)?, record(rest)?);
             Ok(room_line(record.value(), size))
         }
+        (b"bytes", [kind, room, hex]) => written(kind, room, &named_bytes(hex)?),
         (b"compare", [kind, text, rest @ ..]) => {
             let (kind, record) = (named(kind)?, record(rest)?);
             let left = read(kind, text)?;
@@ -97,11 +99,33 @@ fn late(kind: Kind, first: &[u8], second: &[u8], most: &[u8]) -> Result<String, 
 }
 
 /// The fields of `write`: the last one may hold tabs.
-fn write_text(rest: &[u8]) -> Result<String, Refusal> {
+fn write_call(rest: &[u8]) -> Result<String, Refusal> {
     let (kind, rest) = parted(rest);
     let (room, text) = parted(rest.ok_or(NO_GRAMMAR)?);
-    let (kind, size, text) = (named(kind)?, number(room, MOST_ROOM)?, text.ok_or(NO_GRAMMAR)?);
+    written(kind, room, text.ok_or(NO_GRAMMAR)?)
+}
+
+/// What the text reads as, written into a room.
+fn written(kind: &[u8], room: &[u8], text: &[u8]) -> Result<String, Refusal> {
+    let (kind, size) = (named(kind)?, number(room, MOST_ROOM)?);
     Ok(room_line(Ok(read(kind, text)?), size))
+}
+
+/// The bytes that the digits name, two digits a byte.
+pub fn named_bytes(hex: &[u8]) -> Result<Vec<u8>, Refusal> {
+    let pairs = hex.chunks_exact(2);
+    if hex.len() > MOST_HEX_DIGITS || !pairs.remainder().is_empty() {
+        return Err(NO_GRAMMAR);
+    }
+    pairs.map(|pair| Ok(hex_digit(pair[0])? * 16 + hex_digit(pair[1])?)).collect()
+}
+
+fn hex_digit(digit: u8) -> Result<u8, Refusal> {
+    match digit {
+        b'0'..=b'9' => Ok(digit - b'0'),
+        b'a'..=b'f' => Ok(digit - b'a' + 10),
+        _ => Err(NO_GRAMMAR),
+    }
 }
 
 /// The answer and, refused or not, the room as it then is.

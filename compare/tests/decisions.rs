@@ -71,7 +71,7 @@ fn reading_6_inside_quotes() {
     assert_eq!(opened(&format!("xs:date(\"(((\u{e9}\t\") eq {DAY}")), 1);
     assert_eq!(opened(&format!("xs:date(\"a\"\"b\") eq {DAY}")), 7);
     assert_eq!(opened(&format!("xs:date(\"\") eq {DAY}")), 1);
-    assert_eq!(opened(&format!("xs:date(\" 2000-01-01\") eq {DAY}")), 1);
+    assert_eq!(opened(&format!("xs:date(\" 2000-01-01\") eq {DAY}")), 0);
     assert_eq!(opened(&format!("{DAY} eq xs:date(\"2000-01-01")), 7);
 }
 

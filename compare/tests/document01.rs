@@ -138,7 +138,7 @@ fn duration_bounds_and_long_runs() {
 #[test]
 fn shapes() {
     for text in [
-        "", "P", "PT", "P1DT", "P1Y", "P1M", "PT1D", "PT1.S", "PT.5S", "PT1.5M", "PT1S1M", "PT1H1H", "p1D", "P1D ", "+P1D",
+        "", "P", "PT", "P1DT", "P1Y", "P1M", "PT1D", "PT1.S", "PT.5S", "PT1.5M", "PT1S1M", "PT1H1H", "p1D", "P1 D", "+P1D",
         "P-1D",
     ] {
         assert_eq!(answer(&format!("read|dt|{text}")), "refused 1", "{text}");
@@ -156,7 +156,7 @@ fn shapes() {
         "00001-01-01",
         "2000-01-01z",
         "2000-01-01+1:00",
-        " 2000-01-01",
+        "2000-01- 01",
     ] {
         assert_eq!(answer(&format!("read|date|{text}")), "refused 1", "{text}");
     }
@@ -175,7 +175,7 @@ fn shapes() {
     ] {
         assert_eq!(answer(&format!("read|time|{text}")), "refused 1", "{text}");
     }
-    for text in ["2000-01-01", "2000-01-01t00:00:00", "2000-01-01 00:00:00", "2000-01-01T00:00:00Z ", "2000-01-01T24:00:00.5"] {
+    for text in ["2000-01-01", "2000-01-01t00:00:00", "2000-01-01 00:00:00", "2000-01-01T00:00:00 Z", "2000-01-01T24:00:00.5"] {
         assert_eq!(answer(&format!("read|dateTime|{text}")), "refused 1", "{text}");
     }
 }

@@ -121,10 +121,35 @@ fn records_and_their_rooms() {
             ("write|xs:dayTimeDuration|0|PT1S", "refused|15|"),
             ("write|xs:dayTimeDuration|0|PT1.0000000S", "refused|3"),
             ("write|xs:date|0|10000-01-01", "refused|2"),
-            ("write|xs:date|10|2000-01-01|", "refused|1"),
+            ("write|xs:date|10|2000-01-01|", "wrote|10|2000-01-01"),
+            ("write|xs:date|10|2000-01-01|x", "refused|1"),
             ("write|xs:date|10|", "refused|1"),
             ("write|xs:date|10", "refused|7"),
             ("write|xs:date|65|x", "refused|7"),
+        ],
+    );
+}
+
+#[test]
+fn bytes_by_their_digits() {
+    let spaces = |count: usize| format!("bytes|xs:date|10|{}{}", "20".repeat(count), "323030302d30312d3031");
+    all(
+        "",
+        &[
+            ("bytes|xs:date|10|323030302d30312d3031", "wrote|10|2000-01-01"),
+            ("bytes|xs:date|12|090a0d20323030302d30312d3031200d0a09", "wrote|10|2000-01-01.."),
+            ("bytes|xs:date|9|20323030302d30312d3031", "refused|15|........."),
+            ("bytes|xs:date|10|323030302d300a312d3031", "refused|1"),
+            ("bytes|xs:date|10|0c323030302d30312d3031", "refused|1"),
+            ("bytes|xs:date|10|323030302d30312d3031a0", "refused|1"),
+            ("bytes|xs:date|10|0a31323030302d31332d3435", "refused|2"),
+            ("bytes|xs:dayTimeDuration|0|0a5054302e30303030303030530a", "refused|3"),
+            ("bytes|xs:date|0|", "refused|1"),
+            ("bytes|xs:date|0|0a", "refused|1"),
+            (&spaces(246), "wrote|10|2000-01-01"),
+            (&spaces(247), "refused|7"),
+            (&format!("bytes|xs:date|0|{}", "00".repeat(256)), "refused|1"),
+            (&format!("bytes|xs:date|0|{}", "00".repeat(257)), "refused|7"),
         ],
     );
 }
@@ -259,6 +284,18 @@ fn lines_that_are_no_calls() {
         "record||xs:dayTimeDuration|+1",
         "record|0|xs:duration|+1",
         "write|date|0|2000-01-01",
+        "bytes|xs:date|0",
+        "bytes|date|0|",
+        "bytes|xs:date|65|",
+        "bytes|xs:date||20",
+        "bytes|xs:date|0|2",
+        "bytes|xs:date|0|202",
+        "bytes|xs:date|0|0A",
+        "bytes|xs:date|0|0g",
+        "bytes|xs:date|0| 20",
+        "bytes|xs:date|0|20 ",
+        "bytes|xs:date|0|20|",
+        "bytes|xs:date|0||",
         "compare|xs:date|2000-01-01|2000-01-01",
         "compare|xs:date|2000-01-01|xs:date|2000-01-01",
         "compare|date|2000-01-01|xs:date|2000|1|1|0|none",

@@ -15,6 +15,7 @@ const ANSWERS: &[(&str, &[&str])] = &[
     ("yearMonth", &["answered", "refused  7", "refused 16"]),
     ("record", &["wrote", "refused  7", "refused 15", "refused 16"]),
     ("write", &["wrote", "refused  1", "refused  2", "refused  3", "refused  7", "refused 15"]),
+    ("bytes", &["wrote", "refused  1", "refused  2", "refused  3", "refused  7", "refused 15"]),
     ("compare", &["lt", "eq", "gt", "refused  1", "refused  2", "refused  3", "refused  7", "refused  9", "refused 16"]),
     ("late", &["yes", "no", "refused  1", "refused  2", "refused  3", "refused  4", "refused  7", "refused  9"]),
     ("open", &["open", "refused  1", "refused  2", "refused  3", "refused  7", "refused  8", "refused  9", "refused 10"]),

@@ -7,13 +7,13 @@
 //!                                        timetable.tsv and events, and those of the desks built in every way into DIR/NAME
 //!     generate library SEED COUNT DIR    writes random sessions of library_example into DIR/1, DIR/2, .., each with its
 //!                                        timetable.tsv and calls, and the tables of calls into DIR/NAME
-//!     generate edges DIR                 writes calculator inputs at the bounds of a whole input, and the table of calls at
-//!                                        the calendar's cycle
+//!     generate edges DIR                 writes calculator inputs at the bounds of a whole input, and the tables of calls at
+//!                                        the calendar's cycle and with blanks
 //!
 //! With --histogram after these, what the cases cover is printed to standard error.
 
 use compare::generator::desks::{self, Case, Timetable};
-use compare::generator::{calls, cycle, histogram::Histogram, hostile, inputs, library, random::Random};
+use compare::generator::{blanks, calls, cycle, histogram::Histogram, hostile, inputs, library, random::Random};
 use compare::lines::lines;
 use std::fs;
 use std::io::{self, BufWriter, Write};
@@ -130,18 +130,18 @@ fn generate_desks(seed: u64, count: u64, dir: &Path, histogram: &mut Histogram) 
 fn generate_edges(dir: &Path, histogram: &mut Histogram) -> io::Result<()> {
     fs::create_dir_all(dir)?;
     write_bounds(dir)?;
-    for (name, calls) in cycle::calls::parts() {
-        for (name, input) in inputs::named(name, &calls) {
-            for line in lines(&input) {
-                histogram.count_call(line);
-            }
-            fs::write(dir.join(name), input)?;
+    let cycle = cycle::calls::parts().into_iter().flat_map(|(name, calls)| inputs::named(name, &calls));
+    let blanks = blanks::calls::parts().into_iter().flat_map(|(name, calls)| inputs::of_lines(name, &calls));
+    for (name, input) in cycle.chain(blanks) {
+        for line in lines(&input) {
+            histogram.count_call(line);
         }
+        fs::write(dir.join(name), input)?;
     }
     Ok(())
 }
 
-/// Empty input, input without a final newline, and inputs of 65,536 bytes and one beside it.
+/// Empty input, input without a final newline, and inputs of 65,536 bytes and beside it, some of one line.
 fn write_bounds(dir: &Path) -> io::Result<()> {
     let call = b"add\txs:date\t2000-01-31\txs:yearMonthDuration\tP1M";
     fs::write(dir.join("empty"), b"")?;
@@ -160,6 +160,9 @@ fn write_bounds(dir: &Path) -> io::Result<()> {
         let nines = [b"read\txs:dayTimeDuration\tP".as_slice(), &vec![b'9'; length - 27], b"D"].concat();
         fs::write(dir.join(format!("nines-{length}")), nines)?;
         fs::write(dir.join(format!("newlines-{length}")), vec![b'\n'; length])?;
+        let spaces = vec![b' '; length - 23];
+        fs::write(dir.join(format!("padded-{length}")), [b"read\txs:date\t2000-01-01".as_slice(), &spaces].concat())?;
+        fs::write(dir.join(format!("padding-{length}")), [b"read\txs:date\t".as_slice(), &spaces, b"2000-01-01"].concat())?;
     }
     Ok(())
 }

@@ -1,5 +1,6 @@
 //! Calls for the calculator, most of them meaningful.
 
+use super::blanks::IN_A_FIELD;
 use super::cycle;
 use super::damage::{damaged, noise};
 use super::random::Random;
@@ -11,7 +12,7 @@ use crate::values::{Kind, Value, KINDS, MICROS_A_DAY, MOST_DURATION_MICROS, MOST
 
 /// One call without its newline.
 pub fn call(random: &mut Random) -> Vec<u8> {
-    let line = match random.weighted(&[16, 15, 19, 19, 9, 7, 11, 4, 7]) {
+    let mut line = match random.weighted(&[16, 15, 19, 19, 9, 7, 11, 4, 7]) {
         0 => one(random, "read"),
         1 => compare(random),
         2 => sum(random),
@@ -22,6 +23,9 @@ pub fn call(random: &mut Random) -> Vec<u8> {
         7 => one(random, "unzone"),
         _ => one(random, "components"),
     };
+    if random.chance(15) {
+        line = with_blanks(random, &line);
+    }
     if random.chance(2) {
         return malformed(random, line);
     }
@@ -29,6 +33,20 @@ pub fn call(random: &mut Random) -> Vec<u8> {
 }
 
 fn joined(fields: &[&[u8]]) -> Vec<u8> {
+    fields.join(&b'\t')
+}
+
+/// The call with blanks in one of its texts, or in each of them.
+fn with_blanks(random: &mut Random, line: &[u8]) -> Vec<u8> {
+    let mut fields: Vec<Vec<u8>> = line.split(|&byte| byte == b'\t').map(<[u8]>::to_vec).collect();
+    let places: &[usize] = match (fields.len(), random.below(4)) {
+        (5, 0) => &[2, 4],
+        (5, 1) => &[4],
+        _ => &[2],
+    };
+    for &place in places {
+        fields[place] = IN_A_FIELD.any(random, &fields[place]);
+    }
     fields.join(&b'\t')
 }
 
@@ -300,10 +318,15 @@ fn malformed(random: &mut Random, line: Vec<u8>) -> Vec<u8> {
         0 => drop(fields.remove(place)),
         1 => fields.insert(place, Vec::new()),
         2 => fields.push(noise(random)),
-        3 => fields[0] = random.pick(&["Read", "", "reads", "compare ", " add", "divide", "open", "\r"]).as_bytes().to_vec(),
+        3 => {
+            fields[0] =
+                random.pick(&["Read", "", "reads", "compare ", " add", "\rread", "read\r", "divide", "\r"]).as_bytes().to_vec()
+        }
         4 => {
-            fields[1] =
-                random.pick(&["date", "xs:Date", "", "xs:duration", "xs:date ", "xs:string", "XS:date"]).as_bytes().to_vec()
+            fields[1] = random
+                .pick(&["date", "xs:Date", "", "xs:duration", "xs:date ", " xs:date", "xs:date\r", "XS:date"])
+                .as_bytes()
+                .to_vec()
         }
         5 => fields[place] = damaged(random, &fields[place].clone()),
         6 => return noise(random),

@@ -1,11 +1,13 @@
 //! Conditions whose kinds fit, written by the grammar's own rules, and then all that can go wrong with them.
 
+use super::blanks::{in_literals, IN_A_LITERAL};
 use super::calls::near;
 use super::damage::damaged;
 use super::random::Random;
 use super::runs;
 use super::texts;
 use crate::conditions::kinds::{difference_kind, sum_kind};
+use crate::conditions::MOST_BYTES;
 use crate::values::operations::casts;
 use crate::values::writing::write;
 use crate::values::{Kind, KINDS};
@@ -269,7 +271,7 @@ impl Writer<'_> {
 
 /// A condition of any sort, good or bad.
 pub fn any(random: &mut Random, setting: &Setting) -> Vec<u8> {
-    match random.weighted(&[54, 6, 7, 6, 5, 7, 6, 3, 4, 3]) {
+    match random.weighted(&[50, 6, 7, 6, 5, 7, 6, 3, 4, 3, 7]) {
         0 => fitting(random, setting, 0, 0).into_bytes(),
         1 => fitting(random, setting, 25, 0).into_bytes(),
         2 => fitting(random, setting, 0, 40).into_bytes(),
@@ -282,12 +284,26 @@ pub fn any(random: &mut Random, setting: &Setting) -> Vec<u8> {
         6 => random.pick(NOTED).as_bytes().to_vec(),
         7 => fitting(random, setting, 30, 50).into_bytes(),
         8 => one_operation(random, setting).into_bytes(),
-        _ => shuffled(random),
+        9 => shuffled(random),
+        _ => {
+            let text = fitting(random, setting, 0, 0);
+            in_literals(text.as_bytes(), |literal| IN_A_LITERAL.any(random, literal))
+        }
     }
 }
 
-/// A condition within the length, written with these chances of wrong kinds and bad literals.
+/// A condition within the length, written with these chances of wrong kinds and bad literals; one in ten has blanks round
+/// its literals.
 pub fn fitting(random: &mut Random, setting: &Setting, wrong_kinds: usize, bad_literals: usize) -> String {
+    let text = unpadded(random, setting, wrong_kinds, bad_literals);
+    if !random.chance(10) {
+        return text;
+    }
+    let padded = in_literals(text.as_bytes(), |literal| IN_A_LITERAL.round(random, literal));
+    String::from_utf8(padded).ok().filter(|padded| padded.len() <= MOST_BYTES).unwrap_or(text)
+}
+
+fn unpadded(random: &mut Random, setting: &Setting, wrong_kinds: usize, bad_literals: usize) -> String {
     if setting.most_occurrences > 0 && (wrong_kinds, bad_literals) == (0, 0) && random.chance(45) {
         return runs::condition(random, setting);
     }
@@ -295,7 +311,7 @@ pub fn fitting(random: &mut Random, setting: &Setting, wrong_kinds: usize, bad_l
         let size = random.pick(&[2, 2, 2, 3, 3, 4, 4, 5, 6, 7]);
         let parentheses = random.pick(&[0, 10, 10, 30]);
         let text = Writer { random, setting, wrong_kinds, bad_literals, parentheses }.condition(size);
-        if text.len() <= 240 {
+        if text.len() <= MOST_BYTES {
             return text;
         }
     }
@@ -336,15 +352,17 @@ fn deep(random: &mut Random, setting: &Setting) -> String {
     }
 }
 
-/// A condition brought to about 240 bytes by spaces.
+/// A condition brought to about 240 bytes by spaces, or by blanks in its first literal.
 fn long(random: &mut Random, setting: &Setting) -> String {
     let text = fitting(random, setting, 0, 0);
     let length = random.pick(&[239, 240, 240, 241, 241, 242, 300]);
-    let spaces = " ".repeat(length - text.len().min(length));
-    match random.below(3) {
+    let missing = length - text.len().min(length);
+    let spaces = " ".repeat(missing);
+    match random.below(4) {
         0 => format!("{spaces}{text}"),
         1 => format!("{text}{spaces}"),
-        _ => text.replacen('(', &format!("({spaces}"), 1),
+        2 => text.replacen('(', &format!("({spaces}"), 1),
+        _ => text.replacen('"', &format!("\"{}", random.pick(&[" ", "\t", "\r"]).repeat(missing)), 1),
     }
 }
 
@@ -385,7 +403,7 @@ fn shuffled(random: &mut Random) -> Vec<u8> {
     (0..count).map(|_| random.pick(SYMBOLS)).collect::<String>().into_bytes()
 }
 
-/// Conditions for the readings of docs/DECISIONS.md, 1 to 10, each either side of the line.
+/// Conditions for the readings of docs/DECISIONS.md, 1 to 10, and of blanks, each either side of the line.
 const NOTED: &[&str] = &[
     "xs:dayTimeDuration(\"PT1H\")*-5 lt xs:dayTimeDuration(\"PT1H\")",
     "xs:dayTimeDuration(\"PT1H\") * -5 lt xs:dayTimeDuration(\"PT1H\")",
@@ -434,6 +452,14 @@ const NOTED: &[&str] = &[
     "xs:date(\"a\"\"b\") eq xs:date($1)",
     "xs:date(\"\") eq xs:date($1)",
     "xs:date(\" 2000-01-01\") eq xs:date($1)",
+    "xs:date(\"\t2000-01-01\r \") eq xs:date($1)",
+    "xs:date(\"2000-01 -01\") eq xs:date($1)",
+    "xs:date(\" \t\r\") eq xs:date($1)",
+    "xs:date(\"2000-01-01\u{c}\") eq xs:date($1)",
+    "xs:date(\"\u{a0}2000-01-01\") eq xs:date($1)",
+    "xs:date(\" 12000-13-45 \") eq xs:date($1)",
+    "xs:date(\t\"2000-01-01\") eq xs:date($1)",
+    "xs:date(\"2000-01-01\"\r) eq xs:date($1)",
     "xs:date(\"2000-01-01\") eq xs:date($1) eq xs:date($1)",
     "xs:date(xs:date($1) eq xs:date($1))",
     "xs:date((xs:date($1) eq xs:date($1))) eq xs:date($1)",

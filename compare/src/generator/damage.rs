@@ -2,7 +2,7 @@
 
 use super::random::Random;
 
-const LIKELY: &[u8] = b"0123456789-+:.TZPDHMSY $()\"*azQ\r\x00\xff";
+const LIKELY: &[u8] = b"0123456789-+:.TZPDHMSY $()\"*azQ\r\x00\x0b\x0c\xa0\xff";
 
 /// One to three changes. Tab and newline are never put in here.
 pub fn damaged(random: &mut Random, text: &[u8]) -> Vec<u8> {

@@ -1,5 +1,6 @@
 //! Whole cases of the desk program: a timetable and a file of conditions.
 
+use super::blanks::{self, IN_A_FIELD};
 use super::conditions::{self, Setting};
 use super::cycle;
 use super::damage::{damaged, noise};
@@ -93,8 +94,8 @@ fn with_runs(random: &mut Random) -> Case {
     }
 }
 
-/// Cases at the bounds of the whole timetable, of the whole input and of runs, and at the calendar's cycle, which chance
-/// alone would seldom make.
+/// Cases at the bounds of the whole timetable, of the whole input and of runs, at the calendar's cycle and with blanks, which
+/// chance alone would seldom make.
 pub fn edges(seed: u64) -> Vec<Case> {
     let random = &mut Random::new(seed);
     let setting = &Setting::new(random);
@@ -119,6 +120,7 @@ pub fn edges(seed: u64) -> Vec<Case> {
     cases.push(Case { timetable: Timetable::Folder, conditions: few(random, setting) });
     cases.extend(run_edges());
     cases.extend(cycle::desks::cases());
+    cases.extend(blanks::desks::cases());
     cases
 }
 
@@ -164,12 +166,13 @@ pub(super) fn timetable(random: &mut Random, setting: &Setting) -> Vec<u8> {
     lines(random, setting, rows, rows)
 }
 
-/// A timetable of so many lines.
+/// A timetable of so many lines, which end with bytes 13 and 10 in one of ten.
 fn lines(random: &mut Random, setting: &Setting, least: usize, most: usize) -> Vec<u8> {
+    let ending = if random.chance(10) { "\r\n" } else { "\n" };
     let mut bytes: Vec<u8> = Vec::new();
     for _ in 0..random.between(least as i64, most as i64) {
         bytes.extend(row(random, setting));
-        bytes.push(b'\n');
+        bytes.extend(ending.as_bytes());
     }
     if random.chance(25) {
         bytes.pop();
@@ -202,6 +205,14 @@ fn row(random: &mut Random, setting: &Setting) -> Vec<u8> {
 }
 
 fn field(random: &mut Random, setting: &Setting, kind: crate::values::Kind) -> Vec<u8> {
+    let text = unpadded(random, setting, kind);
+    if random.chance(12) {
+        return IN_A_FIELD.any(random, &text);
+    }
+    text
+}
+
+fn unpadded(random: &mut Random, setting: &Setting, kind: crate::values::Kind) -> Vec<u8> {
     match random.weighted(&[55, 32, 5, 5, 3]) {
         0 => setting.pooled(random, kind).into_bytes(),
         1 => texts::good(random, kind).into_bytes(),
@@ -214,13 +225,14 @@ fn field(random: &mut Random, setting: &Setting, kind: crate::values::Kind) -> V
     }
 }
 
-/// A timetable of so many bytes, with long lines.
+/// A timetable of so many bytes, with long lines: a further field, or many blanks after the last one.
 pub(super) fn great_timetable(random: &mut Random, setting: &Setting, length: usize) -> Vec<u8> {
     let mut bytes: Vec<u8> = Vec::new();
     while bytes.len() < length {
         bytes.extend(row(random, setting));
-        bytes.push(b'\t');
-        bytes.extend(vec![b'x'; random.below(1200)]);
+        let (first, then) = random.pick(&[(b'\t', b'x'), (b'\t', b'x'), (b' ', b' '), (b' ', b'\r')]);
+        bytes.push(first);
+        bytes.extend(vec![then; random.below(1200)]);
         bytes.push(b'\n');
     }
     bytes.truncate(length);

@@ -1,5 +1,6 @@
 //! Counts that show how well the generated cases cover what can be answered.
 
+use super::blanks::counts;
 use crate::conditions::accept;
 use crate::hostile::{Script, MOST_EVENTS_BYTES};
 use crate::library::Session;
@@ -24,7 +25,11 @@ impl Histogram {
         *self.counts.entry(name).or_insert(0) += 1;
     }
 
-    /// A call by its word, by its kinds, and by its answer.
+    fn count_blanks(&mut self, names: Vec<String>) {
+        names.into_iter().for_each(|name| self.count(format!("blanks     {name}")));
+    }
+
+    /// A call by its word, by its kinds, by its answer, and by the blanks in its texts.
     pub fn count_call(&mut self, line: &[u8]) {
         if !self.counting {
             return;
@@ -40,6 +45,7 @@ impl Histogram {
         if result == "refused  7" {
             return;
         }
+        self.count_blanks(counts::of_call(line));
         self.count(format!("call       {} {result}", fields[0]));
         if fields[0] == "compare" && result == "answered" {
             self.count(format!("compare    {}", answer.trim_end()));
@@ -49,7 +55,7 @@ impl Histogram {
     }
 
     /// The desk program's output by the words of its lines and by its numbers, the timetable's lines by what they stand
-    /// for, and where it has runs the good conditions by the fields that they read.
+    /// for, where it has runs the good conditions by the fields that they read, and fields and literals by their blanks.
     pub fn count_desk(&mut self, timetable: &[u8], conditions: &[u8]) {
         if !self.counting {
             return;
@@ -62,6 +68,7 @@ impl Histogram {
             let good = lines(conditions).into_iter().filter(|condition| accept(condition).is_ok());
             good.for_each(|condition| self.count(format!("condition  {}", fields_read(condition))));
         }
+        self.count_blanks(counts::of_desk(timetable, conditions));
         for line in desk(timetable, conditions).lines() {
             let fields: Vec<&str> = line.split('\t').collect();
             let name = match fields[0] {
@@ -99,7 +106,7 @@ impl Histogram {
         }
     }
 
-    /// Each call of the library by its word and by its answer.
+    /// Each call of the library by its word and by its answer, and by the blanks in its texts.
     pub fn count_library(&mut self, timetable: &[u8], input: &[u8]) {
         if !self.counting {
             return;
@@ -111,6 +118,7 @@ impl Histogram {
         for line in lines(input) {
             let name = library_words(line, &session.answer(line));
             self.count(name);
+            self.count_blanks(counts::of_library(line));
         }
     }
 
@@ -173,6 +181,7 @@ pub fn library_words(line: &[u8], answer: &str) -> String {
         b"yearMonth",
         b"record",
         b"write",
+        b"bytes",
         b"compare",
         b"late",
         b"open",

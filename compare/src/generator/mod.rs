@@ -1,7 +1,8 @@
-//! Seeded cases for the comparison: texts near every bound that document 01 names and at the calendar's 400-year cycle,
-//! calls made of them, desk cases, scripts over desks built wrong, sessions of library calls, and damaged forms of all of
-//! these. The same seed gives the same cases on every machine.
+//! Seeded cases for the comparison: texts near every bound that document 01 names, at the calendar's 400-year cycle and with
+//! blanks round them, calls made of them, desk cases, scripts over desks built wrong, sessions of library calls, and damaged
+//! forms of all of these. The same seed gives the same cases on every machine.
 
+pub mod blanks;
 pub mod calls;
 pub mod conditions;
 pub mod cycle;

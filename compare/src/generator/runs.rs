@@ -1,6 +1,7 @@
 //! Lines that stand for runs of departures, good ones of every length and all that can be wrong with them, and
 //! conditions that look at their occurrences.
 
+use super::blanks::IN_A_FIELD;
 use super::calls::{any_text, near};
 use super::conditions::Setting;
 use super::cycle;
@@ -50,8 +51,22 @@ const STEPS: &[i128] = &[
 ];
 
 /// Second fields that are not the word, and so make the line a plain one.
-const OTHER_WORDS: &[&str] =
-    &[" every", "every ", "Every", "EVERY", "every\r", "ever", "everyy", "e very", "\"every\"", "every\0", "", "\u{feff}every"];
+const OTHER_WORDS: &[&str] = &[
+    " every",
+    "every ",
+    " every ",
+    "\revery",
+    "Every",
+    "EVERY",
+    "every\r",
+    "ever",
+    "everyy",
+    "e very",
+    "\"every\"",
+    "every\0",
+    "",
+    "\u{feff}every",
+];
 
 /// A dateTime that the runs of a case lie about: often near the first or the last of the calendar or a day of its cycle.
 pub(super) fn middle(random: &mut Random) -> Value {
@@ -108,7 +123,7 @@ fn any_line(random: &mut Random, setting: &Setting) -> Vec<u8> {
     if random.chance(6) {
         return noted(random.pick(NOTED).0);
     }
-    let [first, last, step] = match random.weighted(&[46, 11, 8, 8, 13, 8, 6]) {
+    let texts = match random.weighted(&[46, 11, 8, 8, 13, 8, 6]) {
         0 => good(random, setting),
         1 => empty(random, setting),
         2 => step_not_above_zero(random, setting),
@@ -117,6 +132,7 @@ fn any_line(random: &mut Random, setting: &Setting) -> Vec<u8> {
         5 => bad_text(random, setting),
         _ => at_the_start(random),
     };
+    let [first, last, step] = if random.chance(20) { with_blanks(random, texts) } else { texts };
     let word = if random.chance(6) { random.pick(OTHER_WORDS) } else { "every" };
     let mut fields = vec![texts::good(random, setting.columns[0]).into_bytes(), word.into(), first, last, step];
     if random.chance(4) {
@@ -141,6 +157,17 @@ fn any_line(random: &mut Random, setting: &Setting) -> Vec<u8> {
 }
 
 type Texts = [Vec<u8>; 3];
+
+/// The three texts with blanks round one of them or more; now and then they spoil it.
+fn with_blanks(random: &mut Random, mut texts: Texts) -> Texts {
+    let always = random.below(3);
+    for (place, text) in texts.iter_mut().enumerate() {
+        if place == always || random.chance(40) {
+            *text = if random.chance(30) { IN_A_FIELD.any(random, text) } else { IN_A_FIELD.round(random, text) };
+        }
+    }
+    texts
+}
 
 /// The first occurrence as local microseconds with its zone, and a step.
 fn beginning(random: &mut Random, setting: &Setting) -> (i128, Zone, i128) {
@@ -336,8 +363,8 @@ fn bad_text(random: &mut Random, setting: &Setting) -> Texts {
         texts[place] = match random.below(8) {
             0 => Vec::new(),
             1 => texts::good(random, look_alike(KINDS_IN_TURN[place])).into_bytes(),
-            2 => [b" ".as_slice(), &texts[place]].concat(),
-            3 => [&texts[place], b" ".as_slice()].concat(),
+            2 => [b"\x0c".as_slice(), &texts[place]].concat(),
+            3 => [&texts[place], b"\xa0".as_slice()].concat(),
             4 if place == 2 => texts::good(random, Kind::YearMonth).into_bytes(),
             4 => texts::good(random, Kind::Date).into_bytes(),
             _ => any_text(random, KINDS_IN_TURN[place], 0),
@@ -431,7 +458,7 @@ pub fn noted(line: &str) -> Vec<u8> {
 
 use Noted::{Occurrences, Plain, Refused};
 
-/// Lines either side of everything that document 02 says of runs, with `|` for a tab.
+/// Lines either side of everything that document 02 says of runs and of blanks round their fields, with `|` for a tab.
 pub const NOTED: &[(&str, Noted)] = &[
     // As long as the instant is not past the last.
     ("n|every|2024-03-30T23:50:00+01:00|2024-03-31T00:10:00+01:00|PT10M", Occurrences(3)),
@@ -482,7 +509,7 @@ pub const NOTED: &[(&str, Noted)] = &[
     ("n|every|2024-03-30T00:00:00|2024-03-31T00:00:00|P0M", Refused(1)),
     ("n|every|2024-03-30T00:00:00|2024-03-31T00:00:00|P1Y1M", Refused(1)),
     ("n|every|2024-03-30T00:00:00|2024-03-31T00:00:00|", Refused(1)),
-    ("n|every|2024-03-30T00:00:00|2024-03-31T00:00:00|PT1H\r", Refused(1)),
+    ("n|every|2024-03-30T00:00:00|2024-03-30T01:00:00|PT1H\r", Occurrences(2)),
     ("n|every|2024-03-30T00:00:00|2024-03-30T01:00:00|PT1H|\r", Occurrences(2)),
     // Over 1,440 occurrences.
     ("n|every|2024-03-30T00:00:00|2024-03-30T23:58:59.999999|PT1M", Occurrences(1_439)),
@@ -529,6 +556,8 @@ pub const NOTED: &[(&str, Noted)] = &[
     ("n|everyy|2024-03-30T00:00:00|2024-03-30T01:00:00|PT10M", Plain),
     ("n|every\r|2024-03-30T00:00:00|2024-03-30T01:00:00|PT10M", Plain),
     ("n|every\0|2024-03-30T00:00:00|2024-03-30T01:00:00|PT10M", Plain),
+    ("n| every | 2024-03-30T00:00:00 | 2024-03-30T01:00:00 | PT10M ", Plain),
+    ("n|\revery|2024-03-30T00:00:00|2024-03-30T01:00:00|PT10M\r", Plain),
     ("every|2024-03-30T00:00:00|2024-03-30T01:00:00|PT10M", Plain),
     ("n|x|every|2024-03-30T00:00:00|2024-03-30T01:00:00|PT10M", Plain),
     ("every", Plain),
@@ -551,10 +580,37 @@ pub const NOTED: &[(&str, Noted)] = &[
     ("n|every|2024-03-30|2024-03-31T00:00:00|PT1H", Refused(1)),
     ("n|every|2024-03-30T00:00:00|2024-03-31|PT1H", Refused(1)),
     ("n|every|23:50:00|2024-03-31T00:00:00|PT1H", Refused(1)),
-    ("n|every| 2024-03-30T00:00:00|2024-03-31T00:00:00|PT1H", Refused(1)),
-    ("n|every|2024-03-30T00:00:00|2024-03-31T00:00:00 |PT1H", Refused(1)),
-    ("n|every|2024-03-30T00:00:00|2024-03-31T00:00:00| PT1H", Refused(1)),
     ("n|every|every|every|every", Refused(1)),
+    // Blanks round fields 3 to 5.
+    ("n|every| 2024-03-30T00:00:00|2024-03-30T01:00:00|PT1H", Occurrences(2)),
+    ("n|every|2024-03-30T00:00:00\r|2024-03-30T01:00:00|PT1H", Occurrences(2)),
+    ("n|every|2024-03-30T00:00:00|  2024-03-30T01:00:00\r \r|PT1H", Occurrences(2)),
+    ("n|every|2024-03-30T00:00:00|2024-03-30T01:00:00|\rPT1H ", Occurrences(2)),
+    ("n|every|\r2024-03-30T00:00:00 | 2024-03-30T01:00:00 |  PT1H   ", Occurrences(2)),
+    (" n |every|   2024-03-30T00:00:00Z|   2024-03-30T01:00:00Z|   PT1H| x \r", Occurrences(2)),
+    ("\r|every|2024-03-30T24:00:00 |2024-03-31T00:00:00 |PT1H\r", Occurrences(1)),
+    ("n|every| 2024-03-31T00:00:00 |\r2024-03-30T00:00:00\r| PT1H ", Occurrences(0)),
+    // The numbers and their order are those of what is left.
+    ("n|every| 9999-12-31T24:00:00 |bad|PT1H", Refused(2)),
+    ("n|every|2024-03-30T00:00:00|2024-03-30T01:00:00.0000000\r|PT1H", Refused(3)),
+    ("n|every| 2024-03-30T00:00:00 | 2024-03-30T01:00:00 | PT0S ", Refused(17)),
+    ("n|every| 2024-03-30T00:00:00 |2024-03-30T24:00:00\r|PT1M\r", Refused(18)),
+    ("n|every| 9999-12-31T23:30:00|9999-12-31T23:30:00-01:00 |PT1H\r", Refused(4)),
+    ("n|every| 2024-03-30T00:00:00 | 2024-03-30T01:00:00 ", Refused(6)),
+    ("n|every|2024-03-30T00:00:00|2024-03-30T01:00:00\r", Refused(6)),
+    ("n|every|2024-03-30T00:00:00\r", Refused(6)),
+    // Blanks alone, inside, and bytes that are none.
+    ("n|every| |2024-03-30T01:00:00|PT1H", Refused(1)),
+    ("n|every|2024-03-30T00:00:00|\r|PT1H", Refused(1)),
+    ("n|every|2024-03-30T00:00:00|2024-03-30T01:00:00| \r ", Refused(1)),
+    ("n|every|\r", Refused(1)),
+    ("n|every|2024-03-30 T00:00:00|2024-03-30T01:00:00|PT1H", Refused(1)),
+    ("n|every|2024-03-30T00:00:00|2024-03-30T01:00:00 Z|PT1H", Refused(1)),
+    ("n|every|2024-03-30T00:00:00|2024-03-30T01:00:00|PT 1H", Refused(1)),
+    ("n|every|\u{b}2024-03-30T00:00:00|2024-03-30T01:00:00|PT1H", Refused(1)),
+    ("n|every|2024-03-30T00:00:00| \u{c} 2024-03-30T01:00:00|PT1H", Refused(1)),
+    ("n|every|2024-03-30T00:00:00|2024-03-30T01:00:00|PT1H\0", Refused(1)),
+    ("n|every|2024-03-30T00:00:00|2024-03-30T01:00:00|PT1H\u{a0}", Refused(1)),
     // Other fields stay.
     ("n|every|2024-03-30T00:00:00Z|2024-03-30T02:00:00Z|PT1H|2024-03-30|bad", Occurrences(3)),
     ("n|every|2024-03-30T00:00:00Z|2024-03-30T02:00:00Z|PT1H||||||||||||", Occurrences(3)),

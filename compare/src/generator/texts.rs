@@ -355,7 +355,7 @@ fn beyond_zone(random: &mut Random) -> String {
             "Z+01:00",
             "+01:00Z",
             " Z",
-            "Z ",
+            "Z\u{c}",
             "+01:00:00",
         ])
         .to_string()
@@ -401,7 +401,7 @@ fn beyond_year_month(random: &mut Random) -> String {
         3 => random
             .pick(&["P", "PY", "PM", "P1", "P1M1Y", "P1D", "P1Y1D", "PT1M", "P1YT", "P1Y1M1M", "P1Y1Y", "P1.5Y", "P1.5M"])
             .to_string(),
-        _ => random.pick(&["P1Y1", "1Y", "--P1Y", "+P1Y", "P-1Y", "P1YM", "p1Y", "P1y", "P 1Y", "P1Y "]).to_string(),
+        _ => random.pick(&["P1Y1", "1Y", "--P1Y", "+P1Y", "P-1Y", "P1YM", "p1Y", "P1y", "P 1Y", "P1Y\u{b}"]).to_string(),
     };
     format!("{minus}{body}")
 }

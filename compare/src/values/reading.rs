@@ -1,4 +1,5 @@
-//! From text to value: first the shape of the whole text, then the checks of document 01, "Reading text", in its order.
+//! From text to value: the blanks round it go first, then comes the shape of what is left, then the checks of document 01,
+//! "Reading text", in its order.
 
 use super::calendar::{days_from_civil, month_length, Civil};
 use super::*;
@@ -7,6 +8,7 @@ use crate::{Refusal, LONG_FRACTION, NO_SHAPE, READ_BEYOND_BOUNDS};
 const MOST_FRACTION_DIGITS: usize = 6;
 
 pub fn read(kind: Kind, text: &[u8]) -> Result<Value, Refusal> {
+    let text = stripped(text);
     match kind {
         Kind::Date => read_date(text),
         Kind::Time => read_time(text),
@@ -14,6 +16,18 @@ pub fn read(kind: Kind, text: &[u8]) -> Result<Value, Refusal> {
         Kind::DayTime => read_day_time(text),
         Kind::YearMonth => read_year_month(text),
     }
+}
+
+/// The text without the blanks before and after it (document 02, letter a); of blanks only, nothing.
+pub fn stripped(text: &[u8]) -> &[u8] {
+    let first = text.iter().position(|&byte| !is_blank(byte)).unwrap_or(text.len());
+    let end = text.iter().rposition(|&byte| !is_blank(byte)).map_or(first, |last| last + 1);
+    &text[first..end]
+}
+
+/// The bytes 9, 10, 13 and 32. Rust's own white space has byte 12 too.
+fn is_blank(byte: u8) -> bool {
+    matches!(byte, b'\t' | b'\n' | b'\r' | b' ')
 }
 
 fn read_date(text: &[u8]) -> Result<Value, Refusal> {

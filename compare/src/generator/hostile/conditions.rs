@@ -25,6 +25,9 @@ pub const BAD: &[(&str, &str)] = &[
     ("literal-2", "xs:date(\"10000-01-01\") eq xs:date($1)"),
     ("literal-3", "xs:time(\"12:00:00.0000000\") eq xs:time($2)"),
     ("literals-2-and-1", "xs:date(\"10000-01-01\") eq xs:date(\"2023-02-29\")"),
+    ("literal-blanks", "xs:date(\" \t\r \") eq xs:date($1)"),
+    ("literal-blank-inside", "xs:date(\"2024- 03-31\") eq xs:date($1)"),
+    ("literal-form-feed", "xs:date(\"\u{c}2024-03-31\") eq xs:date($1)"),
     ("literal-not-evaluated", "xs:date($1) eq xs:date($1) or xs:date(\"\") eq xs:date($1)"),
 ];
 
@@ -35,6 +38,7 @@ pub const NEIGHBOURS: &[(&str, &str)] = &[
     ("kinds-cast", "xs:dateTime(xs:date($1)) ne xs:dateTime(\"2024-03-30T00:00:00\")"),
     ("literal-leap", "xs:date(\"2024-02-29\") eq xs:date($1)"),
     ("literal-last-year", "xs:date(\"9999-12-31\") gt xs:date($1)"),
+    ("literal-padded", "xs:date(\"\t 2024-03-31\r \") eq xs:date($1)"),
     ("literal-six-digits", "xs:time(\"12:00:00.000000\") gt xs:time($2)"),
     ("result-beyond", "xs:date(\"9999-12-31\") + xs:dayTimeDuration(\"P1D\") eq xs:date($1)"),
     ("field-16", "xs:date($16) eq xs:date($1)"),

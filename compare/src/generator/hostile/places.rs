@@ -18,6 +18,7 @@ pub const LINES: &[(&str, u64, &str)] = &[
     ("refused-4", 0, "na\tevery\t9999-12-31T23:59:00Z\t9999-12-31T23:00:00-01:00\tPT1M"),
     ("empty-line", 1, ""),
     ("unreadable", 1, "8\tlate"),
+    ("run-2-padded", 2, "nf\tevery\t 2024-03-30T23:50:00Z\t2024-03-31T00:00:00Z   \t\rPT10M \r"),
     ("almost", 1, "nb\tevery \t2024-03-30T23:50:00\t2024-03-31T00:10:00\tPT10M"),
     ("run-1439", 1_439, "nc\tevery\t2024-03-30T00:00:00Z\t2024-03-30T23:58:00Z\tPT1M"),
     ("run-1440", 1_440, "nd\tevery\t2024-03-30T12:00:00\t2024-03-31T11:59:59.999999\tPT1M"),

@@ -1,5 +1,5 @@
-//! Cases of the program `library_example`: tables of calls at and either side of every bound, all wrong forms of each
-//! call, and long random sessions with one desk.
+//! Cases of the program `library_example`: tables of calls at and either side of every bound and with blanks, all wrong forms
+//! of each call, and long random sessions with one desk.
 
 mod bounds;
 mod fields;
@@ -7,6 +7,7 @@ mod forms;
 mod play;
 mod tables;
 
+use super::blanks;
 use super::desks::Timetable;
 use super::hostile::{great_file, places, TABLE};
 use super::inputs;
@@ -24,6 +25,9 @@ pub fn made() -> Vec<Case> {
     for (name, calls) in tables::tables() {
         cases.extend(parts(name, &calls));
     }
+    for (name, calls) in blanks::library::tables() {
+        cases.extend(over_table(inputs::of_lines(name, &calls)));
+    }
     cases.extend(parts("forms", &forms::forms()));
     cases.extend(over_runs());
     cases.extend(whole_inputs());
@@ -32,10 +36,15 @@ pub fn made() -> Vec<Case> {
 
 /// The calls, written with `|` for a tab, in as many inputs as they need.
 fn parts(name: &str, calls: &[String]) -> Vec<Case> {
-    inputs::named(name, calls).into_iter().map(|(name, calls)| Case { name, timetable: table(), calls }).collect()
+    over_table(inputs::named(name, calls))
 }
 
-/// The desk over a timetable with run lines: served to the end, and opened and closed while runs go on.
+fn over_table(inputs: Vec<(String, Vec<u8>)>) -> Vec<Case> {
+    inputs.into_iter().map(|(name, calls)| Case { name, timetable: table(), calls }).collect()
+}
+
+/// The desk over a timetable with run lines: served to the end, opened and closed while runs go on, and served with byte 13
+/// at every line's end.
 fn over_runs() -> Vec<Case> {
     let open = |condition: &str| format!("open\t{condition}\n");
     let to_the_end: String = places::CONDITIONS.iter().map(|condition| open(condition)).collect();
@@ -45,12 +54,18 @@ fn over_runs() -> Vec<Case> {
         between += &open(places::CONDITIONS[round % places::CONDITIONS.len()]);
         between += &format!("close\t{}\n", round / 2);
     }
-    let made = |name: &str, calls: String| Case {
+    let made = |name: &str, timetable: String, calls: String| Case {
         name: format!("runs-{name}"),
-        timetable: Timetable::Bytes(places::table().into_bytes()),
+        timetable: Timetable::Bytes(timetable.into_bytes()),
         calls: calls.into_bytes(),
     };
-    vec![made("to-the-end", format!("{to_the_end}{}", "turn\n".repeat(9_000))), made("opened-between", between)]
+    let to_the_end = format!("{to_the_end}{}", "turn\n".repeat(9_000));
+    let returns = format!("{}\nn\tevery\n", places::table()).replace('\n', "\r\n");
+    vec![
+        made("to-the-end", places::table(), to_the_end.clone()),
+        made("opened-between", places::table(), between),
+        made("returns", returns, to_the_end),
+    ]
 }
 
 fn table() -> Timetable {
@@ -58,10 +73,11 @@ fn table() -> Timetable {
 }
 
 /// Beginnings of calls whose last field is as long as the input lets it be.
-const LONG: [(&str, &str); 6] = [
+const LONG: [(&str, &str); 7] = [
     ("open", "open\t"),
     ("write-date", "write\txs:date\t9\t"),
     ("write-duration", "write\txs:dayTimeDuration\t9\tP"),
+    ("bytes", "bytes\txs:date\t9\t"),
     ("day-time", "dayTime\t+"),
     ("late", "late\txs:time\t"),
     ("late-duration", "late\txs:dayTimeDuration\tPT1S\tPT2S\tPT"),

@@ -4,6 +4,8 @@
 use super::fields::{any_numbers, at_a_bound, digits, numbers_of, record};
 use super::Case;
 use crate::desk::LAST_TICKET;
+use crate::generator::blanks::library::hex;
+use crate::generator::blanks::{IN_A_FIELD, IN_DIGITS, IN_THE_REST};
 use crate::generator::calls::{any_text, near};
 use crate::generator::conditions::{any, fitting, Setting};
 use crate::generator::damage::{damaged, noise};
@@ -72,14 +74,15 @@ impl<'a> Player<'a> {
         if self.random.below(150) == 0 {
             return self.fill();
         }
-        let call = match self.random.weighted(&[20, 13, 12, 16, 14, 4, 3, 10]) {
+        let call = match self.random.weighted(&[18, 12, 12, 7, 15, 13, 4, 3, 10]) {
             0 => maker(self.random),
             1 => record_call(self.random),
             2 => write_call(self.random),
-            3 => compare_call(self.random),
-            4 => late_call(self.random),
-            5 => self.open(),
-            6 => self.close(),
+            3 => bytes_call(self.random),
+            4 => compare_call(self.random),
+            5 => late_call(self.random),
+            6 => self.open(),
+            7 => self.close(),
             _ => b"turn".to_vec(),
         };
         let call = if self.random.chance(4) { malformed(self.random, &call) } else { call };
@@ -157,12 +160,37 @@ fn record_call(random: &mut Random) -> Vec<u8> {
 fn write_call(random: &mut Random) -> Vec<u8> {
     let kind = random.pick(&KINDS);
     let mut text = any_text(random, kind, 75);
-    if random.chance(4) {
-        text.insert(random.below(text.len() + 1), b'\t');
+    if random.chance(25) {
+        text = IN_THE_REST.any(random, &text);
     }
     let length = read(kind, &text).map_or(10, |value| write(&value).len());
     let start = format!("write\t{}\t{}\t", kind.name(), room(random, length));
     [start.as_bytes(), &text].concat()
+}
+
+fn bytes_call(random: &mut Random) -> Vec<u8> {
+    let kind = random.pick(&KINDS);
+    let mut text = any_text(random, kind, 85);
+    if random.chance(70) {
+        text = IN_DIGITS.any(random, &text);
+    }
+    let length = read(kind, &text).map_or(10, |value| write(&value).len());
+    let mut digits = hex(&text);
+    match random.below(40) {
+        0 => digits = digits.to_uppercase(),
+        1 => drop(digits.pop()),
+        2 => digits = "20".repeat(random.pick(&[255, 256, 257])),
+        _ => {}
+    }
+    format!("bytes\t{}\t{}\t{digits}", kind.name(), room(random, length)).into_bytes()
+}
+
+/// The text with blanks, one time in eight.
+fn perhaps_padded(random: &mut Random, text: Vec<u8>) -> Vec<u8> {
+    if random.below(8) == 0 {
+        return IN_A_FIELD.any(random, &text);
+    }
+    text
 }
 
 fn compare_call(random: &mut Random) -> Vec<u8> {
@@ -183,6 +211,7 @@ fn compare_call(random: &mut Random) -> Vec<u8> {
         at_a_bound(random, other, &mut numbers);
     }
     let text = if random.chance(6) { any_text(random, kind, 0) } else { text.into_bytes() };
+    let text = perhaps_padded(random, text);
     let record = record(other, &numbers);
     [b"compare", kind.name().as_bytes(), &text, record.as_bytes()].join(&b'\t')
 }
@@ -209,7 +238,7 @@ fn late_call(random: &mut Random) -> Vec<u8> {
         let place = random.below(3);
         fields[place] = any_text(random, if place == 2 { Kind::DayTime } else { kind }, 0);
     }
-    let [first, second, most] = fields;
+    let [first, second, most] = fields.map(|text| perhaps_padded(random, text));
     [b"late", kind.name().as_bytes(), &first, &second, &most].join(&b'\t')
 }
 
@@ -233,7 +262,7 @@ fn malformed(random: &mut Random, call: &[u8]) -> Vec<u8> {
         0 => drop(fields.remove(place)),
         1 => fields.insert(place, Vec::new()),
         2 => fields.push(noise(random)),
-        3 => fields[0] = random.pick(&["Date", "", "dates", "open ", " turn", "read", "adjust", "\r"]).as_bytes().to_vec(),
+        3 => fields[0] = random.pick(&["Date", "", "dates", "open ", " turn", "bytes ", "read", "\r"]).as_bytes().to_vec(),
         4 => fields[place] = damaged(random, &fields[place].clone()),
         5 => fields[place] = random.pick(&["", "-", "+", "none", "65536", "-0", "xs:date", "1 "]).as_bytes().to_vec(),
         6 => return noise(random),
