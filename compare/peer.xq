@@ -6,7 +6,7 @@ xquery version "3.1";
    Read in the current folder: `calls`, a call a line, each byte a character, byte 127 in place of the control bytes that a
    string of XQuery cannot hold; `answers`, the proved answer to each, a line each.
    Written there: `verdicts`, a line each: `same`, `out` or `differs`, the rule, and BaseX's own answer, tabs between;
-   `version`, that of BaseX. :)
+   `returns`, how often byte 13 stands in the calls, as they were read; `version`, that of BaseX. :)
 
 declare variable $kinds := ('xs:date', 'xs:time', 'xs:dateTime', 'xs:dayTimeDuration', 'xs:yearMonthDuration');
 
@@ -34,6 +34,12 @@ declare function local:is-call($fields as xs:string*) as xs:boolean {
     case 'cast' return $kind and count($fields) = 4 and $fields[4] = $kinds
     case 'multiply' return $kind and count($fields) = 4 and local:is-whole-number($fields[4])
     default return false()
+};
+
+(: The text without the blanks round it, as the rules below take it; BaseX is asked with the text as it stands. Bytes 9 and
+   10 part fields and calls, and stand in no text. :)
+declare function local:stripped($text as xs:string) as xs:string {
+  replace($text, '^[ \r]+|[ \r]+$', '')
 };
 
 (: A text read as a value of the kind, or a value cast to it. :)
@@ -143,8 +149,7 @@ declare function local:after-error($kind as xs:string, $text as xs:string, $code
 
 (: A text that BaseX reads. Nothing where document 01 reads it too. :)
 declare function local:after-value($kind as xs:string, $text as xs:string, $value as xs:anyAtomicType) as map(*)? {
-  if (matches($text, '^[ \r]|[ \r]$')) then local:refused(1, 'out', 'blanks')
-  else if ($kind = 'xs:dateTime' and matches($text, '([ \r]|Z|:[0-9]{2})T|T[ \r]'))
+  if ($kind = 'xs:dateTime' and matches($text, '([ \r]|Z|:[0-9]{2})T|T[ \r]'))
   then local:refused(1, 'out', 'fault: blank or zone at T')
   else if (matches($text, '\.[0-9]{7}')) then local:refused(3, 'out', 'digits')
   else if (local:beyond($value) or local:year-beyond($kind, $text)) then local:refused(2, 'out', 'bounds of a text')
@@ -170,8 +175,9 @@ declare function local:asked($fields as xs:string*) as map(*) {
   let $reads := for $at in $places return local:attempt(function() { local:as-kind($fields[$at], $fields[$at - 1]) })
   let $refused := for $at at $place in $places
     let $read := $reads[$place]
-    return if (map:contains($read, 'error')) then local:after-error($fields[$at - 1], $fields[$at], $read?error)
-      else local:after-value($fields[$at - 1], $fields[$at], $read?value)
+    let $text := local:stripped($fields[$at])
+    return if (map:contains($read, 'error')) then local:after-error($fields[$at - 1], $text, $read?error)
+      else local:after-value($fields[$at - 1], $text, $read?value)
   return
     if (exists($refused)) then
       map { 'told': 'read as ' || string-join($reads ! local:told(.), ' and '), 'allowed': head($refused) }
@@ -182,6 +188,7 @@ declare function local:asked($fields as xs:string*) as map(*) {
       return map { 'told': local:told($result), 'allowed': local:after-result($fields, $result) }
 };
 
+(: The verdict on a proved answer. One that is the same has `blanks` after its rule where a text has blanks round it. :)
 declare function local:judged($line as xs:string, $proved as xs:string) as xs:string {
   let $fields := tokenize($line, '\t')
   let $asked :=
@@ -189,12 +196,16 @@ declare function local:judged($line as xs:string, $proved as xs:string) as xs:st
     then map { 'told': 'not asked', 'allowed': map:merge((1, 2, 3, 7) ! local:refused(., 'out', 'control byte')) }
     else if (not(local:is-call($fields))) then map { 'told': 'no call', 'allowed': local:refused(7, 'out', 'no call') }
     else local:asked($fields)
-  return ($asked?allowed($proved), 'differs&#9;')[1] || '&#9;' || $asked?told
+  let $verdict := ($asked?allowed($proved), 'differs&#9;')[1]
+  let $padded := starts-with($verdict, 'same') and (some $text in $fields satisfies local:stripped($text) != $text)
+  return $verdict || (if ($padded) then ', blanks' else '') || '&#9;' || $asked?told
 };
 
 if (implicit-timezone() ne xs:dayTimeDuration('PT0S')) then error((), 'the implicit zone is not UTC') else
-let $calls := tokenize(bin:decode-string(file:read-binary('calls'), 'ISO-8859-1'), '\n')
+let $text := bin:decode-string(file:read-binary('calls'), 'ISO-8859-1')
+let $calls := tokenize($text, '\n')
 let $answers := file:read-text-lines('answers')
 return (
+  file:write-text('returns', string(string-length($text) - string-length(translate($text, '&#13;', '')))),
   file:write-text('version', db:system()/generalinformation/version),
   file:write-text-lines('verdicts', for-each-pair($calls, $answers, local:judged#2)))
