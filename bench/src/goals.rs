@@ -5,7 +5,7 @@ use crate::markdown::{heading, paragraph, percent, row, times};
 use crate::measure::Case;
 use crate::plan::{Plan, Series, ALL_ASKED, ALL_IN_FIRST_YEAR, SHORT_TEST};
 use crate::profile::{Part, Profile};
-use crate::shares::{byte_costs, length};
+use crate::shares::{byte_costs, bytes_beside_delay, condition_bytes, Length};
 
 /// What counts as the same: a cost may be so many times another and still not have grown.
 const SAME: f64 = 1.1;
@@ -23,6 +23,7 @@ pub fn goals(plan: &Plan, profile: Option<&Profile>) {
     seats(plan);
     timetable(plan);
     condition(plan);
+    blanks(plan);
     years(plan);
     independent(plan);
     short_test(plan);
@@ -59,7 +60,8 @@ fn timetable(plan: &Plan) {
 }
 
 fn condition(plan: &Plan) {
-    let above = [Series::Spaces, Series::TestsReadOver, Series::TestsEvaluated].map(|series| above_line(&plan.of(series)));
+    let series = [Series::Spaces, Series::TestsReadOver, Series::TestsEvaluated];
+    let above = series.map(|series| above_line(condition_bytes, &plan.of(series)));
     let [spaces, read_over, evaluated] = above.map(times);
     goal(
         "linear in the condition's length",
@@ -68,10 +70,21 @@ fn condition(plan: &Plan) {
     );
 }
 
-/// The cost of the longest condition over that on the straight line through the first one and the last but one.
-fn above_line(cases: &[&Case]) -> f64 {
+fn blanks(plan: &Plan) {
+    let series = [Series::BlanksBefore, Series::BlanksAfter];
+    let above = series.map(|series| above_line(bytes_beside_delay, &plan.of(series)));
+    let [before, after] = above.map(times);
+    goal(
+        "linear in the blanks round a value",
+        format!("the longest costs {before} (blanks before), {after} (blanks after) times what the line through two shorter ones gives"),
+        above.iter().all(|&ratio| ratio <= SAME),
+    );
+}
+
+/// The cost of the longest case over that on the straight line through the first one and the last but one.
+fn above_line(length: Length, cases: &[&Case]) -> f64 {
     let [first, .., middle, last] = cases else { panic!("a series has at least three cases") };
-    let expected = first.costs().proved + byte_costs(first, middle).proved * (length(last) - length(first)) as f64;
+    let expected = first.costs().proved + byte_costs(length, first, middle).proved * (length(last) - length(first)) as f64;
     last.costs().proved / expected
 }
 

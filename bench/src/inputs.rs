@@ -74,9 +74,60 @@ pub fn asked_of_second() -> Vec<String> {
     asked(SEATS, YEAR).into_iter().filter(|condition| !condition.contains("$3")).collect()
 }
 
-/// One delay a line and nothing else: short lines, so that many turns fit, and no dates.
-pub fn delays() -> Vec<u8> {
-    b"PT5M\n".repeat(MOST_TIMETABLE_BYTES / 5)
+/// One delay a line and nothing else: short lines, so that many turns fit, and no dates. As many as fit into so many bytes.
+pub fn delays(bytes: usize) -> Vec<u8> {
+    format!("{DELAY}\n").repeat(bytes / DELAY_LINE_BYTES).into_bytes()
+}
+
+const DELAY: &str = "PT5M";
+/// With the newline.
+pub const DELAY_LINE_BYTES: usize = DELAY.len() + 1;
+
+/// The most lines of a timetable in which a line can be very long.
+pub const FEW_LINES: usize = 200;
+
+/// The same delay in few lines, or as many as fit, with this before it and after it in each.
+pub fn delays_within(before: &str, after: &str) -> Vec<u8> {
+    let line = format!("{before}{DELAY}{after}\n");
+    line.repeat(FEW_LINES.min(MOST_TIMETABLE_BYTES / line.len())).into_bytes()
+}
+
+/// A field after the first, so many bytes with the tab before it.
+pub fn second_field(bytes: usize) -> String {
+    match bytes {
+        0 => String::new(),
+        _ => format!("\t{}", ".".repeat(bytes - 1)),
+    }
+}
+
+/// So many bytes of departures, and of delays, fit into a timetable with padded columns too.
+pub const DEPARTURES_TO_PAD: usize = 38_080;
+pub const DELAYS_TO_PAD: usize = 14_890;
+/// The spaces before a value and after it in a padded column.
+pub const PADDING: usize = 8;
+
+/// The same lines with so many spaces before and after the fields with these numbers, ended by CR LF.
+pub fn padded(timetable: &[u8], numbers: &[usize], spaces: usize) -> Vec<u8> {
+    let blanks = " ".repeat(spaces);
+    let field = |(place, text): (usize, &str)| {
+        let beside = if numbers.contains(&(place + 1)) { &blanks } else { "" };
+        format!("{beside}{text}{beside}")
+    };
+    lines_changed(timetable, |line| line.split('\t').enumerate().map(field).collect::<Vec<String>>().join("\t") + "\r")
+}
+
+/// How many bytes longer padding makes a line, the CR among them.
+pub fn padding_bytes(numbers: &[usize]) -> usize {
+    2 * PADDING * numbers.len() + 1
+}
+
+/// The same lines, the last field of each so many bytes longer.
+pub fn lengthened(timetable: &[u8], bytes: usize) -> Vec<u8> {
+    lines_changed(timetable, |line| line.to_string() + &".".repeat(bytes))
+}
+
+fn lines_changed(timetable: &[u8], change: impl Fn(&str) -> String) -> Vec<u8> {
+    String::from_utf8_lossy(timetable).lines().map(|line| change(line) + "\n").collect::<String>().into_bytes()
 }
 
 pub fn empty_lines() -> Vec<u8> {
@@ -135,6 +186,9 @@ fn filled(condition: String) -> String {
 /// A test that holds at every line of `delays`.
 const DELAY_TEST: [&str; 2] = ["xs:dayTimeDuration($1) ", "ge xs:dayTimeDuration($1)"];
 
+/// A test that holds there too and reads the field once.
+pub const ONE_FIELD_TEST: &str = r#"xs:dayTimeDuration($1) ge xs:dayTimeDuration("PT5M")"#;
+
 /// The same test with so many more spaces within it.
 pub fn with_spaces(spaces: usize) -> String {
     let [left, right] = DELAY_TEST;
@@ -180,6 +234,26 @@ mod tests {
         let one = "550\tevery\t2024-03-30T00:00:00+02:00\t2024-03-30T23:59:00+02:00\tPT1M\tKamppi\n";
         assert_eq!(runs(RUN_DEPARTURES), one.as_bytes());
         assert_eq!(asked_of_second().len(), 9);
+    }
+
+    #[test]
+    fn padded_lines_are_the_same_lines_and_fit() {
+        let departures = departures(DEPARTURES_TO_PAD, YEAR);
+        for (plain, numbers) in [(departures, &[2, 3][..]), (delays(DELAYS_TO_PAD), &[1])] {
+            let (padded, longer) = (padded(&plain, numbers, PADDING), lengthened(&plain, padding_bytes(numbers)));
+            assert!(padded.len() <= MOST_TIMETABLE_BYTES && padded.len() + 100 > MOST_TIMETABLE_BYTES);
+            assert_eq!(padded.len(), longer.len());
+            let bare = String::from_utf8(padded).unwrap().replace([' ', '\r'], "");
+            assert_eq!(bare.as_bytes(), plain);
+        }
+        assert_eq!(padded(b"7\tPT1M\tArabia\n\n", &[2], 2), b"7\t  PT1M  \tArabia\r\n\r\n");
+        assert_eq!(lengthened(b"7\tArabia\n\n", 3), b"7\tArabia...\n...\n");
+        assert_eq!(delays_within("", ""), delays(FEW_LINES * DELAY_LINE_BYTES));
+        let few = 6 * (10_000 + DELAY_LINE_BYTES);
+        assert_eq!(
+            [delays_within(&" ".repeat(10_000), ""), delays_within("", &second_field(10_000))].map(|lines| lines.len()),
+            [few; 2]
+        );
     }
 
     #[test]

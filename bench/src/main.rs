@@ -51,6 +51,8 @@ fn run(programs: &Programs, work: &Path) -> io::Result<()> {
     report::timetable(&plan);
     report::condition(&plan);
     report::runs(&plan);
+    report::padded_columns(&plan);
+    report::blanks(&plan);
     report::before(&plan);
     report::shares(&Shares::new(&plan));
     report::instructions(&plan, profile.as_ref());

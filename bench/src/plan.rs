@@ -1,6 +1,9 @@
 //! Which cases are measured.
 
-use crate::inputs::{self, FIRST_YEAR, MOST_TIMETABLE_BYTES, RUN_DEPARTURES, SEATS, YEAR};
+use crate::inputs::{
+    self, DELAYS_TO_PAD, DEPARTURES_TO_PAD, FIRST_YEAR, MOST_TIMETABLE_BYTES, ONE_FIELD_TEST, PADDING, RUN_DEPARTURES, SEATS,
+    YEAR,
+};
 use crate::measure::{Case, Programs};
 use std::io;
 use std::path::Path;
@@ -31,13 +34,23 @@ pub enum Series {
     EachDeparture,
     /// The occurrences of a run, over the same departures.
     Occurrences,
+    /// The blanks in the same departures: none, CR LF line ends, padded columns; and none in lines as long as the padded ones.
+    PaddedDepartures,
+    /// The blanks in the same delays: none, CR LF line ends, a padded column.
+    PaddedDelays,
+    /// The blanks before a value.
+    BlanksBefore,
+    /// The blanks after a value.
+    BlanksAfter,
+    /// The bytes of a second field, which is not read.
+    UnreadBytes,
     /// A quarter of the departures, in which instructions are counted.
     Profiled,
 }
 
 use Series::*;
 
-const ALL: [Series; 14] = [
+const ALL: [Series; 19] = [
     Asked,
     AskedInFirstYear,
     EmptyLines,
@@ -51,6 +64,11 @@ const ALL: [Series; 14] = [
     TestsEvaluated,
     EachDeparture,
     Occurrences,
+    PaddedDepartures,
+    PaddedDelays,
+    BlanksBefore,
+    BlanksAfter,
+    UnreadBytes,
     Profiled,
 ];
 
@@ -101,8 +119,8 @@ impl Plan {
         Ok(plan)
     }
 
-    /// Empty lines are unreadable and no others, departures are answered alike in both years, and the occurrences of a run as the same
-    /// departures in lines of their own: the work is what it is meant to be.
+    /// Empty lines are unreadable and no others, departures are answered alike in both years, the occurrences of a run as the same
+    /// departures in lines of their own, and padded lines as those without blanks: the work is what it is meant to be.
     fn check(&self) -> io::Result<()> {
         for (series, case) in &self.cases {
             let expected = if *series == EmptyLines { case.turns } else { 0 };
@@ -113,13 +131,11 @@ impl Plan {
         if self.case(ALL_ASKED).answers != self.case(ALL_IN_FIRST_YEAR).answers {
             return Err(io::Error::other("departures are answered differently in another year"));
         }
-        let plain = words(self.last(EachDeparture));
-        match self.of(Occurrences).into_iter().find(|case| words(case) != plain) {
-            Some(case) => {
-                Err(io::Error::other(format!("a run is answered as its departures are not: {}", case.folder.display())))
-            }
-            None => Ok(()),
+        answered_alike(self.last(EachDeparture), &self.of(Occurrences))?;
+        for series in [PaddedDepartures, PaddedDelays] {
+            answered_alike(self.of(series)[0], &self.of(series))?;
         }
+        Ok(())
     }
 
     pub fn of(&self, series: Series) -> Vec<&Case> {
@@ -150,10 +166,22 @@ fn words(case: &Case) -> Vec<&str> {
     case.answers.lines().filter_map(|line| line.split('\t').next()).collect()
 }
 
+fn answered_alike(plain: &Case, others: &[&Case]) -> io::Result<()> {
+    match others.iter().find(|case| words(case) != words(plain)) {
+        Some(case) => {
+            let (other, plain) = (case.folder.display(), plain.folder.display());
+            Err(io::Error::other(format!("{other} and {plain} are answered differently")))
+        }
+        None => Ok(()),
+    }
+}
+
 type Input = (Vec<u8>, Vec<String>);
 
 fn inputs_of(series: Series) -> Vec<Input> {
     let departures = |year| inputs::departures(MOST_TIMETABLE_BYTES, year);
+    let delays = || inputs::delays(MOST_TIMETABLE_BYTES);
+    let blanks = |count| " ".repeat(count);
     let all = inputs::asked(SEATS, YEAR);
     match series {
         Asked => [1, 4, SEATS].map(|count| (departures(YEAR), inputs::asked(count, YEAR))).into(),
@@ -161,18 +189,38 @@ fn inputs_of(series: Series) -> Vec<Input> {
         EmptyLines => vec![(inputs::empty_lines(), all)],
         LongConditions => vec![(departures(YEAR), inputs::long_conditions())],
         DeepConditions => vec![(departures(YEAR), inputs::deep_conditions())],
-        SeatsOverDelays => seats(inputs::delays(), inputs::with_spaces(0)),
+        SeatsOverDelays => seats(delays(), inputs::with_spaces(0)),
         SeatsOverDepartures => seats(departures(YEAR), all[0].clone()),
         TimetableBytes => [8_192, 16_384, 32_768, 65_536].map(|bytes| (inputs::departures(bytes, YEAR), all.clone())).into(),
-        Spaces => [0, 12, 72, 192].map(|spaces| (inputs::delays(), vec![inputs::with_spaces(spaces)])).into(),
-        TestsReadOver => [0, 1, 2, 3].map(|count| (inputs::delays(), vec![inputs::with_tests_read_over(count)])).into(),
-        TestsEvaluated => [1, 2, 3, 4].map(|count| (inputs::delays(), vec![inputs::with_tests_evaluated(count)])).into(),
+        Spaces => [0, 12, 72, 192].map(|spaces| (delays(), vec![inputs::with_spaces(spaces)])).into(),
+        TestsReadOver => [0, 1, 2, 3].map(|count| (delays(), vec![inputs::with_tests_read_over(count)])).into(),
+        TestsEvaluated => [1, 2, 3, 4].map(|count| (delays(), vec![inputs::with_tests_evaluated(count)])).into(),
         EachDeparture => vec![(inputs::each_departure(), inputs::asked_of_second())],
         Occurrences => [2, 8, RUN_DEPARTURES].map(|occurrences| (inputs::runs(occurrences), inputs::asked_of_second())).into(),
+        PaddedDepartures => {
+            let plain = inputs::departures(DEPARTURES_TO_PAD, YEAR);
+            let longer = inputs::lengthened(&plain, inputs::padding_bytes(&[2, 3]));
+            [paddings(plain, &[2, 3], &all), vec![(longer, all)]].concat()
+        }
+        PaddedDelays => paddings(inputs::delays(DELAYS_TO_PAD), &[1], &[inputs::with_spaces(0)]),
+        BlanksBefore => lengths(|count| inputs::delays_within(&blanks(count), "")),
+        BlanksAfter => lengths(|count| inputs::delays_within("", &blanks(count))),
+        UnreadBytes => lengths(|count| inputs::delays_within("", &inputs::second_field(count))),
         Profiled => vec![(inputs::departures(16_384, YEAR), all)],
     }
 }
 
 fn seats(timetable: Vec<u8>, condition: String) -> Vec<Input> {
     [1, 2, 4, 8, SEATS].map(|count| (timetable.clone(), vec![condition.clone(); count])).into()
+}
+
+/// The same lines without blanks, with CR LF line ends, and with these and the fields of these numbers padded.
+fn paddings(plain: Vec<u8>, numbers: &[usize], conditions: &[String]) -> Vec<Input> {
+    let [ended, padded] = [0, PADDING].map(|spaces| inputs::padded(&plain, numbers, spaces));
+    [plain, ended, padded].map(|timetable| (timetable, conditions.to_vec())).into()
+}
+
+/// Few lines, each so many bytes longer, and one condition that all seats hold, so that there are enough turns.
+fn lengths(timetable: impl Fn(usize) -> Vec<u8>) -> Vec<Input> {
+    [0, 100, 1_000, 10_000].map(|bytes| (timetable(bytes), vec![ONE_FIELD_TEST.to_string(); SEATS])).into()
 }

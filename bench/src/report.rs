@@ -1,14 +1,14 @@
 //! What was measured, as Markdown.
 
-use crate::inputs::RUN_DEPARTURES;
+use crate::inputs::{FEW_LINES, ONE_FIELD_TEST, PADDING, RUN_DEPARTURES};
 use crate::markdown::{heading, nanoseconds, paragraph, percent, row, tenths, thousands, times};
 use crate::measure::{has_processor_time, Case, ROUNDS, SHORT_RUNS};
 use crate::peers::{Figures, RUNS};
 use crate::plan::{
-    Plan, Series, ALL_ASKED, ALL_IN_FIRST_YEAR, ASKED_OF_PEERS, DEEP, FOUR_ASKED, LONG, ONE_ASKED, OVER_EMPTY_LINES,
+    Plan, Series, ALL_ASKED, ALL_IN_FIRST_YEAR, ASKED_OF_PEERS, DEEP, FOUR_ASKED, LONG, ONE_ASKED, OVER_EMPTY_LINES, SHORT_TEST,
 };
 use crate::profile::{Profile, PARTS};
-use crate::shares::{byte_costs, length, Shares};
+use crate::shares::{byte_costs, bytes_beside_delay, condition_bytes, Length, Shares};
 
 pub fn method(plan: &Plan) {
     let clock = if has_processor_time() { "the time that the program had the processor" } else { "elapsed time" };
@@ -80,20 +80,20 @@ pub fn condition(plan: &Plan) {
     let more = "for each byte more";
     let columns = ["Made longer by", "Bytes", "Proved", more, "Independent", more, "Text read once", more];
     heading("Cost of a turn and the condition's length, one condition over delays, ns", &columns);
-    condition_rows("spaces between two symbols", &plan.of(Series::Spaces));
-    condition_rows("tests that are read and not evaluated", &plan.of(Series::TestsReadOver));
-    condition_rows("tests that are evaluated", &plan.of(Series::TestsEvaluated));
+    length_rows("spaces between two symbols", condition_bytes, &plan.of(Series::Spaces));
+    length_rows("tests that are read and not evaluated", condition_bytes, &plan.of(Series::TestsReadOver));
+    length_rows("tests that are evaluated", condition_bytes, &plan.of(Series::TestsEvaluated));
 }
 
-fn condition_rows(name: &str, cases: &[&Case]) {
+fn length_rows(name: &str, length: Length, cases: &[&Case]) {
     for (place, case) in cases.iter().enumerate() {
         let more = match place {
             0 => Default::default(),
-            _ => byte_costs(cases[place - 1], case).each().map(tenths),
+            _ => byte_costs(length, cases[place - 1], case).each().map(tenths),
         };
         let pairs = case.costs().each().map(nanoseconds).into_iter().zip(more);
         let cells = pairs.flat_map(|(cost, more)| [cost, more]).collect();
-        row(&[vec![name.to_string(), length(case).to_string()], cells].concat());
+        row(&[vec![name.to_string(), thousands(length(case) as u64)], cells].concat());
     }
 }
 
@@ -102,11 +102,11 @@ pub fn runs(plan: &Plan) {
     let columns = ["Timetable", "Turns", "Proved", plainly, "Independent", plainly, "Text read once", plainly];
     heading("Cost of a turn at a run of departures, ns", &columns);
     let plain = plan.last(Series::EachDeparture);
-    runs_row("a line for each departure", plain, plain);
+    times_row(&["a line for each departure"], plain, plain);
     for case in plan.of(Series::Occurrences) {
         let occurrences = thousands((RUN_DEPARTURES / case.timetable_lines) as u64);
         let runs = if case.timetable_lines == 1 { "run" } else { "runs" };
-        runs_row(&format!("{} {runs} of {occurrences} occurrences", case.timetable_lines), case, plain);
+        times_row(&[&format!("{} {runs} of {occurrences} occurrences", case.timetable_lines)], case, plain);
     }
     let (departures, conditions) = (thousands(RUN_DEPARTURES as u64), plain.conditions.len());
     paragraph(&format!(
@@ -115,10 +115,47 @@ pub fn runs(plan: &Plan) {
     ));
 }
 
-fn runs_row(name: &str, case: &Case, plain: &Case) {
+/// What the row is called, the turns, and the cost of each program with how many times that of a plain case it is.
+fn times_row(names: &[&str], case: &Case, plain: &Case) {
     let costs = case.costs().each().into_iter().zip(plain.costs().each());
     let cells = costs.flat_map(|(cost, least)| [nanoseconds(cost), times(cost / least)]).collect();
-    row(&[vec![name.to_string(), thousands(case.turns as u64)], cells].concat());
+    row(&[names.iter().map(|name| name.to_string()).collect(), vec![thousands(case.turns as u64)], cells].concat());
+}
+
+pub fn padded_columns(plan: &Plan) {
+    let bare = "times without blanks";
+    let columns = ["Case", "Lines", "Turns", "Proved", bare, "Independent", bare, "Text read once", bare];
+    heading("Cost of a turn and padded columns, ns", &columns);
+    let padded = format!("{PADDING} spaces before and after each value that is read, CR LF line ends");
+    let names = ["without blanks", "CR LF line ends", &padded, "without blanks, as long as the padded ones"];
+    for (asked, series) in [(ALL_ASKED, Series::PaddedDepartures), (SHORT_TEST, Series::PaddedDelays)] {
+        let cases = plan.of(series);
+        for (name, case) in names.iter().zip(&cases) {
+            times_row(&[asked.name, name], case, cases[0]);
+        }
+    }
+    let lines = |series| thousands(plan.last(series).timetable_lines as u64);
+    let (departures, delays) = (lines(Series::PaddedDepartures), lines(Series::PaddedDelays));
+    paragraph(&format!(
+        "The same {departures} departures, and the same {delays} delays: as many as fit when they are padded. Of departures the \
+         conditions read the second field and the third; the CR stands after the last one, which none reads. Of delays the test reads \
+         the only field, twice, and the CR is a blank after its value. In the lines that are as long without blanks the last field is \
+         longer: what they cost more is the longer line alone."
+    ));
+}
+
+pub fn blanks(plan: &Plan) {
+    let more = "for each byte more";
+    let columns = ["Line made longer by", "Bytes", "Proved", more, "Independent", more, "Text read once", more];
+    heading("Cost of a turn and the blanks round a value, ns", &columns);
+    length_rows("blanks before the value", bytes_beside_delay, &plan.of(Series::BlanksBefore));
+    length_rows("blanks after the value", bytes_beside_delay, &plan.of(Series::BlanksAfter));
+    length_rows("a second field, not read", bytes_beside_delay, &plan.of(Series::UnreadBytes));
+    paragraph(&format!(
+        "One delay a line, {FEW_LINES} lines or as many as fit in 65,536 bytes, and sixteen seats that hold the same condition, \
+         `{ONE_FIELD_TEST}`: it reads the field once. A blank is also a byte of the line, and the second field, which is not read, \
+         shows what such a byte costs by itself."
+    ));
 }
 
 /// Left out where no program before is given.

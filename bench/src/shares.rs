@@ -1,5 +1,6 @@
-//! How much of a proved turn is the reading of the condition's text.
+//! How much of a proved turn is the reading of the condition's text, and what a byte more costs.
 
+use crate::inputs::DELAY_LINE_BYTES;
 use crate::measure::{Case, Costs};
 use crate::plan::{Plan, Series, ALL_ASKED};
 
@@ -18,7 +19,7 @@ impl Shares {
         let read_over = plan.of(Series::TestsReadOver);
         Shares {
             whole: asked.costs().proved,
-            text_byte: byte_costs(read_over[0], plan.last(Series::TestsReadOver)).proved,
+            text_byte: byte_costs(condition_bytes, read_over[0], plan.last(Series::TestsReadOver)).proved,
             text_bytes: asked.conditions.concat().len() as f64 / asked.conditions.len() as f64,
         }
     }
@@ -28,13 +29,21 @@ impl Shares {
     }
 }
 
+/// How many bytes a case has of what its series makes longer.
+pub type Length = fn(&Case) -> usize;
+
 /// The bytes of a case's first condition.
-pub fn length(case: &Case) -> usize {
+pub fn condition_bytes(case: &Case) -> usize {
     case.conditions[0].len()
 }
 
-/// Nanoseconds for each byte that the second case's condition has more.
-pub fn byte_costs(shorter: &Case, longer: &Case) -> Costs {
+/// The bytes that each line of a case has more than a delay alone; all its lines are the same.
+pub fn bytes_beside_delay(case: &Case) -> usize {
+    case.timetable_bytes / case.timetable_lines - DELAY_LINE_BYTES
+}
+
+/// Nanoseconds for each byte that the second case has more.
+pub fn byte_costs(length: Length, shorter: &Case, longer: &Case) -> Costs {
     let bytes = (length(longer) - length(shorter)) as f64;
     let (less, more) = (shorter.costs(), longer.costs());
     Costs {
