@@ -1,9 +1,16 @@
 -- What a test that holds says of its parts, and a call's answer taken for the test that it computes.
-use mathlib.Core.Path.{_≡_, refl, sym, _∙_}
+use mathlib.Core.Path.{_≡_, refl, ap, sym, _∙_}
 use mathlib.Core.Bool.{Bool, true, false, not}
 use mathlib.Core.List.{List, [], _∷_}
-use borrow.Author.Tests.{not-true, not-false}
-use Rattle.basis.specs.Choice.{both, every}
+use lib.Dec.{eqb}
+use borrow.Author.Tests.{eqb-true, not-true, not-false}
+use Prim.Native.Nat.{ℕ}
+use native.Mathlib.Omega.{arith}
+use Rattle.basis.specs.Choice.{pick, both, every, allPass, among}
+
+-- a test does not fail and hold
+pub never : false ≡ true → ⊥
+never e = let z : _≡_ {A = ℕ} 0 1 = cc in omega arith
 
 pub both-left : (a b : Bool) → both a b ≡ true → a ≡ true
 unfolding both
@@ -45,3 +52,12 @@ every-fails b bs e = λ i. both (e i) (every bs)
 pub every-ends : (b : Bool) → every (b ∷ []) ≡ b
 unfolding every
 every-ends b = both-end b
+
+-- what holds of each of a list holds of a number that is one of them
+pub among-all : (test : ℕ → Bool) (ms : List ℕ) (n : ℕ) → allPass test ms ≡ true → among ms n ≡ true → test n ≡ true
+among-all test [] n e h = absurd (never h)
+among-all test (m ∷ ms) n e h = by (eqb n m) refl h (λ k. among-all test ms n (both-right (test m) (allPass test ms) e) k)
+  where
+    by : (b : Bool) → eqb n m ≡ b → pick b true (among ms n) ≡ true → (among ms n ≡ true → test n ≡ true) → test n ≡ true
+    by true q k r = ap test (eqb-true n m q) ∙ both-left (test m) (allPass test ms) e
+    by false q k r = r k

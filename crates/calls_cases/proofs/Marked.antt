@@ -16,7 +16,7 @@ use Rattle.value.specs.Kinds.{ofKind, okValue}
 use Rattle.value_instants.specs.Ticks.{localOf, instantOf, inYears, placedAt}
 use Rattle.value.specs.Values.{okDate, okOffset, okZone, okDateTime, okSigned}
 use Rattle.numerals.specs.Reading.{isDigit, number, fractionAt}
-use Rattle.numerals.specs.Writing.{digits, shortest, decimal, stripped, fractionText}
+use Rattle.numerals.specs.Writing.{digits, shortest, decimal, keptDigits, fractionText}
 use Rattle.text_scan.specs.Scanning.{pairAt, isPair, withPair, fractionPart, zoneSigned, zonePart, fourZeros, yearAt, yearPart, partAt, scanned}
 use Rattle.text_checks.specs.Reading.{nextDay, okClock, isDayEnd, clockTicks, clocked, okParts, zoneIs, onCalendar, bounded, judge}
 use Rattle.text_layouts.specs.Reading.{readLayout}
@@ -24,7 +24,8 @@ use Rattle.text_layouts.specs.Writing.{pairOf, partText, layoutText}
 use Rattle.text_durations.specs.Forms.{weight}
 use Rattle.text_durations.specs.Spelling.{shown, shownAll, left, body, durationText}
 use Rattle.text_durations.specs.Walks.{component, components, shapeFrom, shape, counted, readBy}
-use Rattle.text.specs.Reading.{readAs}
+use Rattle.text_blanks.specs.Blanks.{isBlank, leadingBlanks, untrailed, stripped, bare}
+use Rattle.text.specs.Reading.{readBare, readAs}
 use Rattle.text.specs.Writing.{textOf}
 use Rattle.operation_quantities.specs.Results.{inTicks, inMonths, atTicks}
 use Rattle.operation_shifting.specs.Shifts.{movedTo, moved, shifted}
@@ -39,7 +40,7 @@ use Rattle.calls_replies.specs.Replies.{numberText}
 use Rattle.calls_cases.specs.Table.{TableRow, noRow, table, rowHolds, tests, allHold}
 
 pub all-hold : allHold ≡ true
-unfolding both every total periodOf dateOf datedOf fieldsOf hasField fieldAt onto parted ofKind okValue localOf instantOf inYears placedAt okDate okOffset okZone okDateTime okSigned isDigit number fractionAt digits shortest decimal stripped fractionText pairAt isPair withPair fractionPart zoneSigned zonePart fourZeros yearAt yearPart partAt scanned nextDay okClock isDayEnd clockTicks clocked okParts zoneIs onCalendar bounded judge readLayout pairOf partText layoutText weight shown shownAll left body durationText component components shapeFrom shape counted readBy readAs textOf inTicks inMonths atTicks movedTo moved shifted isZone adjustedFrom momentTo operandTo adjustOf up down orderIn sumOf plusOf lessMoment differenceIn minusIn same named oneText twoText answerBy answerOf exactly oneForm twoForm pairBy formBy formOf numberText refusedText table rowHolds tests allHold
+unfolding both every total periodOf dateOf datedOf fieldsOf hasField fieldAt onto parted ofKind okValue localOf instantOf inYears placedAt okDate okOffset okZone okDateTime okSigned isDigit number fractionAt digits shortest decimal keptDigits fractionText pairAt isPair withPair fractionPart zoneSigned zonePart fourZeros yearAt yearPart partAt scanned nextDay okClock isDayEnd clockTicks clocked okParts zoneIs onCalendar bounded judge readLayout pairOf partText layoutText weight shown shownAll left body durationText component components shapeFrom shape counted readBy isBlank leadingBlanks untrailed stripped bare readBare readAs textOf inTicks inMonths atTicks movedTo moved shifted isZone adjustedFrom momentTo operandTo adjustOf up down orderIn sumOf plusOf lessMoment differenceIn minusIn same named oneText twoText answerBy answerOf exactly oneForm twoForm pairBy formBy formOf numberText refusedText table rowHolds tests allHold
 all-hold = refl
 
 alike : (a b : List ℕ) → same a b ≡ true → a ≡ b

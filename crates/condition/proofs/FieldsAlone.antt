@@ -1,12 +1,14 @@
--- The result depends on the row's texts alone, at a plain line on its own fields.
+-- The result depends on the row's texts alone, and not on the blanks round them; at a plain line on its own fields.
 use mathlib.Core.Path.{_≡_, refl, sym, ap, _∙_}
-use mathlib.Core.List.{List}
+use mathlib.Core.List.{List, map}
 use Prim.Native.Nat.{ℕ}
 use Rattle.basis.specs.Answer.{andThen}
 use Rattle.value.specs.declared.Offset.{Offset}
 use Rattle.timetable.specs.Fields.{fieldsOf}
-use Rattle.timetable.specs.Rows.{Row, textsOf, rowOf}
+use Rattle.timetable.specs.Rows.{Row, rowOf}
 use Rattle.timetable.proofs.Rows.{row-texts}
+use Rattle.text_blanks.specs.Blanks.{bare}
+use Rattle.text_fields.specs.Fields.{bareTexts}
 use Rattle.text_fields.proofs.Fields.{plain-field, same-field}
 use Rattle.condition_givens.specs.Data.{valued}
 use Rattle.condition_parts.specs.Evaluation.{joined, castDatum, timesDatum}
@@ -17,7 +19,7 @@ use Rattle.condition_readers.specs.Meaning.{eval}
 use Rattle.condition.specs.Condition.{asResult, ofTree, resultAt}
 use Rattle.condition.specs.Laws.{FieldsAlone, PlainFields}
 
-module _ (zone : Offset) (s : List ℕ) (a b : Row) (e : textsOf a ≡ textsOf b) where
+module _ (zone : Offset) (s : List ℕ) (a b : Row) (e : bareTexts a ≡ bareTexts b) where
   eval-same : (t : Tree) → eval zone s a t ≡ eval zone s b t
   unfolding eval
   eval-same (leaf k w (literal from to)) = refl
@@ -31,15 +33,16 @@ module _ (zone : Offset) (s : List ℕ) (a b : Row) (e : textsOf a ≡ textsOf b
   tree-same none = refl
   tree-same (got t n) = ap asResult (eval-same t)
 
-rows-alone : (zone : Offset) (s : List ℕ) (a b : Row) → textsOf a ≡ textsOf b → resultAt zone s a ≡ resultAt zone s b
+rows-alone : (zone : Offset) (s : List ℕ) (a b : Row) → bareTexts a ≡ bareTexts b → resultAt zone s a ≡ resultAt zone s b
 unfolding resultAt
 rows-alone zone s a b e = tree-same zone s a b e (parseWithin s)
 
 pub fields-alone : FieldsAlone
 fields-alone =
     record {
-      of-rows = rows-alone;
-      of-lines = λ zone s a b e. rows-alone zone s (rowOf a) (rowOf b) (row-texts a ∙ e ∙ sym (row-texts b));
+      of-values = rows-alone;
+      of-rows = λ zone s a b e. rows-alone zone s a b (ap (map bare) e);
+      of-lines = λ zone s a b e. rows-alone zone s (rowOf a) (rowOf b) (ap (map bare) (row-texts a ∙ e ∙ sym (row-texts b)));
     }
 
 pub plain-fields : PlainFields

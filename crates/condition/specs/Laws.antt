@@ -21,6 +21,7 @@ use Rattle.condition_readers.specs.Meaning.{sortOf, first, firstBad, eval}
 use Rattle.timetable.specs.Fields.{fieldsOf, hasField, fieldAt}
 use Rattle.timetable.specs.Rows.{Row, textsOf, rowOf}
 use Rattle.text.specs.Reading.{readAs}
+use Rattle.text_fields.specs.Fields.{bareTexts}
 use Rattle.condition_givens.specs.Data.{valued}
 use Rattle.condition_parts.specs.Numbers.{ofText, atRow}
 use Rattle.condition.specs.Condition.{minLength, maxLength, byKinds, checkOf, accepted, Result, hit, miss, unreadable, asResult, resultAt}
@@ -64,8 +65,10 @@ Readable (unreadable n) = atRow n ≡ true
 abbrev pub AcceptedReadable : Type 0
 AcceptedReadable = (zone : Offset) (s : List ℕ) (row : Row) → okOffset zone ≡ true → accepted s ≡ true → Readable (resultAt zone s row)
 
--- rows with the same texts have the same result, so lines with the same fields too; proved as `fields-alone`
+-- rows with the same texts, but for blanks round them, have the same result, so rows with the same texts and lines with the same fields
+-- too; proved as `fields-alone`
 pub record FieldsAlone : Type 0 where
+  pub of-values : (zone : Offset) (s : List ℕ) (a b : Row) → bareTexts a ≡ bareTexts b → resultAt zone s a ≡ resultAt zone s b
   pub of-rows : (zone : Offset) (s : List ℕ) (a b : Row) → textsOf a ≡ textsOf b → resultAt zone s a ≡ resultAt zone s b
   pub of-lines : (zone : Offset) (s a b : List ℕ) → fieldsOf a ≡ fieldsOf b → resultAt zone s (rowOf a) ≡ resultAt zone s (rowOf b)
 

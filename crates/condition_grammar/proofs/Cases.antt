@@ -35,7 +35,7 @@ unfolding parse conditionIn conditionMoreIn clauseIn clauseMoreIn testIn sumIn s
 texts-state = (parsed-is-stated _ _ 39 refl, parsed-is-stated _ _ 58 refl, parsed-is-stated _ _ 20 refl)
 
 -- a text with at most sixteen opening parentheses is not too deep
-unfoldable openings : List ℕ → ℕ
+unfoldable pub openings : List ℕ → ℕ
 openings [] = 0
 openings (x ∷ xs) = pick (eqb x (code "(")) (suc (openings xs)) (openings xs)
 
@@ -58,7 +58,7 @@ few-from o c q (x ∷ xs) h = by (eqb x (code "(")) refl h (λ a b r g. few-from
     by false e g f = picked Falls (eqb x (code "\"")) _ _ (λ i. f o c (not q) g) (λ i. picked Falls q _ _ (λ j. f o c q g)
         (λ j. picked Falls (eqb x (code ")")) _ _ (λ k. f o (c + 1) q g) (λ k. f o c q g)))
 
-few-not-deep : (s : List ℕ) → leb (openings s) maxDepth ≡ true → deep s ≡ false
+pub few-not-deep : (s : List ℕ) → leb (openings s) maxDepth ≡ true → deep s ≡ false
 unfolding deep
 few-not-deep s e = few-from 0 0 false s (let h : openings s ≤ maxDepth = leb-true _ _ e in omega arith)
 

@@ -5,3 +5,4 @@ pub mod NewDesk
 pub mod OwnNumbers
 pub mod InWords
 pub mod Lasting
+pub mod Blanks

@@ -9,6 +9,7 @@ use library_makers::make_year_month;
 use library_told::tell_no_call;
 use texts::compare;
 use texts::compare_delay;
+use texts::write_bytes;
 use texts::write_record;
 use texts::write_text;
 use timetable::fields::field;
@@ -22,6 +23,9 @@ fn answer_text(line: &[u8], word: &[u8]) {
     }
     if same(word, b"write") {
         return write_text(line);
+    }
+    if same(word, b"bytes") {
+        return write_bytes(line);
     }
     if same(word, b"compare") {
         return compare(line);

@@ -12,6 +12,7 @@ use library_told::tell_number;
 use library_told::tell_order;
 use library_told::tell_refused;
 use line_fields::fields::after_tab;
+use line_fields::hex::named;
 use line_fields::numbers::read;
 use text::Written;
 use timetable::fields::field;
@@ -88,6 +89,24 @@ pub fn write_text(line: &[u8]) {
     match kind_named(field(line, 2)) {
         Named::No => tell_no_call(),
         Named::Is(kind) => write_read(kind, s, long.value),
+    }
+}
+
+// `bytes→K→ROOM→HEX`: a text of any bytes, newlines too.
+pub fn write_bytes(line: &[u8]) {
+    let long = read(field(line, 3), ROOM);
+    let hex = named(field(line, 4));
+    let fields = has_field(line, 4) & !has_field(line, 5);
+    let good = long.good & fields & hex.good;
+    if !good {
+        tell_no_call();
+        return;
+    }
+    let count = hex.count;
+    let bytes = hex.bytes;
+    match kind_named(field(line, 2)) {
+        Named::No => tell_no_call(),
+        Named::Is(kind) => write_read(kind, &bytes[..count], long.value),
     }
 }
 

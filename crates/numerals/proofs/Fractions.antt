@@ -14,11 +14,11 @@ use Rattle.numerals.specs.declared.Kept.{Kept}
 use Rattle.numerals.specs.declared.Text.{Text}
 use Rattle.numerals.specs.Reading.{isDigit, number, numeralAt, fractionDigits, fractionOf, fractionAt}
 use Rattle.numerals.specs.Carried.{Found, Added}
-use Rattle.numerals.specs.Writing.{digits, stripped, fractionText}
+use Rattle.numerals.specs.Writing.{digits, keptDigits, fractionText}
 use Rattle.numerals.proofs.Powers.{widened, filled}
 use Rattle.numerals.proofs.Stretches.{stretch-le, stretch-lt}
 use Rattle.numerals.proofs.Decimals.{length-digits, digits-stretch}
-use Rattle.numerals.proofs.Stripping.{stripped-le, stripped-lt, given-back}
+use Rattle.numerals.proofs.Stripping.{strip-le, strip-lt, given-back}
 use Rattle.numerals.proofs.Texts.{then, unchanged, named}
 
 -- what the reader keeps, with a cap that no fraction reaches
@@ -66,7 +66,7 @@ fraction-lt s i = go (leb (numeralAt s i .count) fractionDigits) refl
 
 -- the digits of a fraction's text
 abbrev pub kept : ℕ → List ℕ
-kept u = digits (stripped fractionDigits u .count) (stripped fractionDigits u .value)
+kept u = digits (keptDigits fractionDigits u .count) (keptDigits fractionDigits u .value)
 
 pub no-fraction : (u : ℕ) → u ≡ 0 → fractionText u ≡ []
 unfolding fractionText
@@ -76,30 +76,30 @@ pub a-fraction : (u : ℕ) → (u ≡ 0 → ⊥) → fractionText u ≡ code "."
 unfolding fractionText
 a-fraction u e = rw (ne-eqb u 0 e)
 
-pub kept-length : (u : ℕ) → length (kept u) ≡ stripped fractionDigits u .count
-kept-length u = length-digits (stripped fractionDigits u .count) (stripped fractionDigits u .value)
+pub kept-length : (u : ℕ) → length (kept u) ≡ keptDigits fractionDigits u .count
+kept-length u = length-digits (keptDigits fractionDigits u .count) (keptDigits fractionDigits u .value)
 
 -- they read as its ticks
 pub fraction-back : (s : List ℕ) (i u : ℕ) (rest : List ℕ) → u < 10 ^ fractionDigits → isDigit (getD rest 0 0) ≡ false → drop i s ≡ kept u ++ rest
     → fractionAt s i ≡ record { ticks = u; long = false; end = i + length (kept u) }
 unfolding fractionAt
 fraction-back s i u rest h q e =
-    let k : ℕ = stripped fractionDigits u .count in
-    let w : ℕ = stripped fractionDigits u .value in
-    let r : numeralAt s i ≡ record { value = w; count = k } = ap (number 0 0) e ∙ digits-stretch k w rest (stripped-lt fractionDigits u h) q in
-    rw (r, le-leb k fractionDigits (stripped-le fractionDigits u), given-back fractionDigits u h, kept-length u)
+    let k : ℕ = keptDigits fractionDigits u .count in
+    let w : ℕ = keptDigits fractionDigits u .value in
+    let r : numeralAt s i ≡ record { value = w; count = k } = ap (number 0 0) e ∙ digits-stretch k w rest (strip-lt fractionDigits u h) q in
+    rw (r, le-leb k fractionDigits (strip-le fractionDigits u), given-back fractionDigits u h, kept-length u)
 
 -- writing it
 pub wrote-none : {t : Text} (u : ℕ) → u ≡ 0 → Added t t (fractionText u) (length (fractionText u))
 wrote-none {t} u e = named (no-fraction u e) refl (unchanged t)
 
-pub wrote-some : {t q r : Text} {k : Kept} (u : ℕ) → (u ≡ 0 → ⊥) → k ≡ stripped fractionDigits u → Added t q (code "." ∷ []) 1 → Added q r (digits (k .count) (k .value)) (k .count)
+pub wrote-some : {t q r : Text} {k : Kept} (u : ℕ) → (u ≡ 0 → ⊥) → k ≡ keptDigits fractionDigits u → Added t q (code "." ∷ []) 1 → Added q r (digits (k .count) (k .value)) (k .count)
     → Added t r (fractionText u) (length (fractionText u))
 wrote-some {t} {q} {r} {k} u e ek a b =
     let x : fractionText u ≡ code "." ∷ digits (k .count) (k .value) = a-fraction u e ∙ ap (λ (y : Kept). (code ".") ∷ digits (y .count) (y .value)) (sym ek) in
     named x (omega (arith, length-digits (k .count) (k .value))) (then a b)
 
-pub strip-length : {k : Kept} (u : ℕ) → (u ≡ 0 → ⊥) → k ≡ stripped fractionDigits u → length (fractionText u) ≡ 1 + k .count
+pub strip-length : {k : Kept} (u : ℕ) → (u ≡ 0 → ⊥) → k ≡ keptDigits fractionDigits u → length (fractionText u) ≡ 1 + k .count
 strip-length {k} u e ek = omega (arith, ap length (a-fraction u e), kept-length u, ap (λ (q : Kept). q .count) ek)
 
 pub fraction-short : (u : ℕ) → length (fractionText u) ≤ 1 + fractionDigits
@@ -108,4 +108,4 @@ fraction-short u = go (eqb u 0)
   where
     go : (b : Bool) → length (pick b [] (code "." ∷ kept u)) ≤ 1 + fractionDigits
     go true = lit≤ tt
-    go false = omega (arith, kept-length u, stripped-le fractionDigits u)
+    go false = omega (arith, kept-length u, strip-le fractionDigits u)

@@ -1,6 +1,7 @@
 pub mod Positions
 pub mod Powers
 pub mod Stretches
+pub mod Passed
 pub mod Passing
 pub mod Decimals
 pub mod Filling

@@ -1,13 +1,14 @@
--- Stretches of digits: a digit is passed, another byte stops the stretch; a stretch stays within the text, and one of k digits is a
--- number below 10 ^ k.
-use mathlib.Core.Path.{_≡_, refl}
+-- Stretches of digits: a digit is passed, another byte stops the stretch; a stretch stays within the text, all its bytes are digits, and
+-- one of k digits is a number below 10 ^ k.
+use mathlib.Core.Path.{_≡_, refl, ap, sym, _∙_}
 use mathlib.Core.Bool.{Bool, true, false}
 use mathlib.Core.List.{List, [], _∷_}
-use Prim.Native.Nat.{ℕ, suc, _+_, _-_, _*_, _^_, _≤_, _<_}
+use Prim.Native.Nat.{ℕ, zero, suc, _+_, _-_, _*_, _^_, _≤_, _<_}
 use Prim.Native.Char.{code}
 use native.Mathlib.Nat.{pow-suc}
 use native.Mathlib.Omega.{arith}
 use lib.ListN.{length, getD, drop, length-drop}
+use lib.Seq.{getD-drop}
 use borrow.Author.Tests.{le-leb, leb-true}
 use Rattle.basis.specs.Choice.{both, pick}
 use Rattle.basis.proofs.Tests.{both-left, both-right}
@@ -67,3 +68,27 @@ number-lt v k (x ∷ xs) h = go (isDigit x) refl (number-lt (v * 10 + (x - code 
 
 pub stretch-lt : (s : List ℕ) (i : ℕ) → numeralAt s i .value < 10 ^ numeralAt s i .count
 stretch-lt s i = number-lt 0 0 (drop i s) (omega arith)
+
+-- every byte of a stretch is a digit
+counted-digit : (v k : ℕ) (xs : List ℕ) (j : ℕ) → k + j < number v k xs .count → isDigit (getD xs j 0) ≡ true
+unfolding number
+counted-digit v k [] j h = absurd (bad h)
+  where
+    bad : k + j < k → ⊥
+    bad g = omega arith
+counted-digit v k (x ∷ xs) j h = go (isDigit x) refl j h (counted-digit (v * 10 + (x - code "0")) (suc k) xs)
+  where
+    go : (b : Bool) → isDigit x ≡ b → (j : ℕ) → k + j < pick b (number (v * 10 + (x - code "0")) (suc k) xs) (record { value = v; count = k }) .count
+        → ((j : ℕ) → suc k + j < number (v * 10 + (x - code "0")) (suc k) xs .count → isDigit (getD xs j 0) ≡ true)
+        → isDigit (getD (x ∷ xs) j 0) ≡ true
+    go true e zero l r = e
+    go true e (suc j) l r = r j (omega arith)
+    go false e j l r = absurd (bad l)
+      where
+        bad : k + j < k → ⊥
+        bad g = omega arith
+
+pub stretch-digit : (s : List ℕ) (i j : ℕ) → i ≤ j → j < i + numeralAt s i .count → isDigit (at s j) ≡ true
+stretch-digit s i j h l =
+    let e : i + (j - i) ≡ j = omega arith in
+    ap (λ (k : ℕ). isDigit (at s k)) (sym e) ∙ ap isDigit (sym (getD-drop i s (j - i) 0)) ∙ counted-digit 0 0 (drop i s) (j - i) (omega arith)

@@ -7,28 +7,28 @@ use native.Mathlib.Omega.{arith}
 use lib.Dec.{eqb}
 use borrow.Author.Tests.{eq-eqb, ne-eqb, eqb-true}
 use Rattle.basis.specs.Choice.{pick}
-use Rattle.numerals.specs.Writing.{stripped}
+use Rattle.numerals.specs.Writing.{keptDigits}
 
-pub stripped-le : (k n : ℕ) → stripped k n .count ≤ k
-unfolding stripped
-stripped-le zero n = omega arith
-stripped-le (suc k) n = go (eqb (n % 10) 0) (stripped-le k (n / 10))
+pub strip-le : (k n : ℕ) → keptDigits k n .count ≤ k
+unfolding keptDigits
+strip-le zero n = omega arith
+strip-le (suc k) n = go (eqb (n % 10) 0) (strip-le k (n / 10))
   where
-    go : (b : Bool) → stripped k (n / 10) .count ≤ k → pick b (stripped k (n / 10)) (record { value = n; count = suc k }) .count ≤ suc k
+    go : (b : Bool) → keptDigits k (n / 10) .count ≤ k → pick b (keptDigits k (n / 10)) (record { value = n; count = suc k }) .count ≤ suc k
     go true h = omega arith
     go false h = omega arith
 
 -- the final zeros are given back by the scale
-pub given-back : (k n : ℕ) → n < 10 ^ k → stripped k n .value * 10 ^ (k - stripped k n .count) ≡ n
-unfolding stripped
+pub given-back : (k n : ℕ) → n < 10 ^ k → keptDigits k n .value * 10 ^ (k - keptDigits k n .count) ≡ n
+unfolding keptDigits
 given-back zero n h = omega arith
-given-back (suc k) n h = go (eqb (n % 10) 0) refl (given-back k (n / 10) (omega (arith, pow-suc 10 k))) (stripped-le k (n / 10))
+given-back (suc k) n h = go (eqb (n % 10) 0) refl (given-back k (n / 10) (omega (arith, pow-suc 10 k))) (strip-le k (n / 10))
   where
-    go : (b : Bool) → eqb (n % 10) 0 ≡ b → (r : stripped k (n / 10) .value * 10 ^ (k - stripped k (n / 10) .count) ≡ n / 10) → stripped k (n / 10) .count ≤ k
-        → pick b (stripped k (n / 10)) (record { value = n; count = suc k }) .value
-        * 10 ^ (suc k - pick b (stripped k (n / 10)) (record { value = n; count = suc k }) .count) ≡ n
+    go : (b : Bool) → eqb (n % 10) 0 ≡ b → (r : keptDigits k (n / 10) .value * 10 ^ (k - keptDigits k (n / 10) .count) ≡ n / 10) → keptDigits k (n / 10) .count ≤ k
+        → pick b (keptDigits k (n / 10)) (record { value = n; count = suc k }) .value
+        * 10 ^ (suc k - pick b (keptDigits k (n / 10)) (record { value = n; count = suc k }) .count) ≡ n
     go true e r l =
-        let w = stripped k (n / 10) in
+        let w = keptDigits k (n / 10) in
         let z : n % 10 ≡ 0 = eqb-true (n % 10) 0 e in
         let d : suc k - w .count ≡ suc (k - w .count) = omega arith in
         rw (d, pow-suc 10 (k - w .count), ← mul-assoc (w .value) (10 ^ (k - w .count)) 10, r) (omega arith)
@@ -36,18 +36,18 @@ given-back (suc k) n h = go (eqb (n % 10) 0) refl (given-back k (n / 10) (omega 
         let d : suc k - suc k ≡ 0 = omega arith in
         rw d (omega arith)
 
-pub stripped-lt : (k n : ℕ) → n < 10 ^ k → stripped k n .value < 10 ^ stripped k n .count
-unfolding stripped
-stripped-lt zero n h = h
-stripped-lt (suc k) n h = go (eqb (n % 10) 0) refl (stripped-lt k (n / 10) (omega (arith, pow-suc 10 k)))
+pub strip-lt : (k n : ℕ) → n < 10 ^ k → keptDigits k n .value < 10 ^ keptDigits k n .count
+unfolding keptDigits
+strip-lt zero n h = h
+strip-lt (suc k) n h = go (eqb (n % 10) 0) refl (strip-lt k (n / 10) (omega (arith, pow-suc 10 k)))
   where
-    go : (b : Bool) → eqb (n % 10) 0 ≡ b → stripped k (n / 10) .value < 10 ^ stripped k (n / 10) .count → stripped (suc k) n .value < 10 ^ stripped (suc k) n .count
+    go : (b : Bool) → eqb (n % 10) 0 ≡ b → keptDigits k (n / 10) .value < 10 ^ keptDigits k (n / 10) .count → keptDigits (suc k) n .value < 10 ^ keptDigits (suc k) n .count
     go true e r = rw e r
     go false e r = rw e h
 
 -- a digit is left of a number that is not zero
-pub stripped-some : (k n : ℕ) → (n ≡ 0 → ⊥) → n < 10 ^ k → 1 ≤ stripped k n .count
-stripped-some k n nz h = go (stripped k n .count) (stripped k n .value) (stripped-lt k n h) (given-back k n h)
+pub strip-some : (k n : ℕ) → (n ≡ 0 → ⊥) → n < 10 ^ k → 1 ≤ keptDigits k n .count
+strip-some k n nz h = go (keptDigits k n .count) (keptDigits k n .value) (strip-lt k n h) (given-back k n h)
   where
     go : (c w : ℕ) → w < 10 ^ c → w * 10 ^ (k - c) ≡ n → 1 ≤ c
     go zero w a b =
@@ -56,18 +56,18 @@ stripped-some k n nz h = go (stripped k n .count) (stripped k n .value) (strippe
         absurd (nz (omega arith))
     go (suc c) w a b = omega arith
 
-pub strip-none : (n k : ℕ) → k ≡ 0 → record { value = n; count = 0 } ≡ stripped k n
-unfolding stripped
+pub strip-none : (n k : ℕ) → k ≡ 0 → record { value = n; count = 0 } ≡ keptDigits k n
+unfolding keptDigits
 strip-none n k e = rw e
 
-pub strip-zero : (n k : ℕ) → (k ≡ 0 → ⊥) → n % 10 ≡ 0 → stripped (k - 1) (n / 10) ≡ stripped k n
-unfolding stripped
+pub strip-zero : (n k : ℕ) → (k ≡ 0 → ⊥) → n % 10 ≡ 0 → keptDigits (k - 1) (n / 10) ≡ keptDigits k n
+unfolding keptDigits
 strip-zero n zero h e = absurd (h refl)
 strip-zero n (suc k) h e =
     let d : suc k - 1 ≡ k = omega arith in
     rw (d, eq-eqb (n % 10) 0 e)
 
-pub strip-kept : (n k : ℕ) → (k ≡ 0 → ⊥) → (n % 10 ≡ 0 → ⊥) → record { value = n; count = k } ≡ stripped k n
-unfolding stripped
+pub strip-kept : (n k : ℕ) → (k ≡ 0 → ⊥) → (n % 10 ≡ 0 → ⊥) → record { value = n; count = k } ≡ keptDigits k n
+unfolding keptDigits
 strip-kept n zero h e = absurd (h refl)
 strip-kept n (suc k) h e = rw (ne-eqb (n % 10) 0 e)

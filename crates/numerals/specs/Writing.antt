@@ -26,10 +26,10 @@ unfoldable pub decimal : ℕ → List ℕ
 decimal n = shortest (suc n) n
 
 -- a number of k digits without its final zeros
-unfoldable pub stripped : ℕ → ℕ → Kept
-stripped zero n = record { value = n; count = 0 }
-stripped (suc k) n = pick (eqb (n % 10) 0) (stripped k (n / 10)) (record { value = n; count = suc k })
+unfoldable pub keptDigits : ℕ → ℕ → Kept
+keptDigits zero n = record { value = n; count = 0 }
+keptDigits (suc k) n = pick (eqb (n % 10) 0) (keptDigits k (n / 10)) (record { value = n; count = suc k })
 
 -- a fraction loses its final zeros and vanishes if zero
 unfoldable pub fractionText : ℕ → List ℕ
-fractionText u = pick (eqb u 0) [] (code "." ∷ digits (stripped fractionDigits u .count) (stripped fractionDigits u .value))
+fractionText u = pick (eqb u 0) [] (code "." ∷ digits (keptDigits fractionDigits u .count) (keptDigits fractionDigits u .value))

@@ -177,7 +177,7 @@ pub fn decimal(t: Text, n: u64) -> Text
 
 // A number of k digits without its final zeros.
 pub fn strip(n: u64, k: usize) -> Kept
-    ensures { λ r. ⌜ r ≡ its.stripped k n ⌝ }
+    ensures { λ r. ⌜ r ≡ its.keptDigits k n ⌝ }
 {
     if k == 0 {
         return Kept { value: n, count: 0 };

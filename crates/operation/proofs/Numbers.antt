@@ -4,7 +4,7 @@ use mathlib.Core.Path.{_≡_, refl}
 use mathlib.Core.Bool.{Bool, true, false}
 use mathlib.Core.List.{List, [], _∷_}
 use Prim.Native.Nat.{ℕ}
-use Rattle.basis.specs.Choice.{pick, both}
+use Rattle.basis.specs.Choice.{pick, both, among}
 use Rattle.basis.specs.Answer.{Answer, gives, refuses}
 use Rattle.value.specs.Refusals.{outside, wrongKind, badZone, beyondResult}
 use Rattle.value.specs.Values.{okOffset}
@@ -16,7 +16,7 @@ use Rattle.value.specs.declared.Zone.the-variants.{Absent, At}
 use Rattle.value.specs.declared.DateTime.{DateTime}
 use Rattle.value.specs.declared.Kind.{Kind}
 use Rattle.value.specs.declared.Value.{Value}
-use Rattle.value.proofs.Numbers.{among, only, only-either, only-refused}
+use Rattle.value.proofs.Numbers.{only, only-either, only-refused}
 use Rattle.operation_quantities.specs.Operands.{operandOf, sameKind}
 use Rattle.operation_quantities.specs.declared.Operand.{Operand}
 use Rattle.operation_quantities.specs.declared.Operand.the-variants.{Moment, DayTime, YearMonth}

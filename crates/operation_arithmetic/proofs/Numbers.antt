@@ -4,7 +4,7 @@ use mathlib.Core.Bool.{Bool, true, false}
 use mathlib.Core.List.{List, [], _∷_}
 use Prim.Native.Nat.{ℕ, _+_, _-_, _*_, _/_}
 use lib.Dec.{leb}
-use Rattle.basis.specs.Choice.{pick, both}
+use Rattle.basis.specs.Choice.{pick, both, among}
 use Rattle.basis.specs.Answer.{Answer, gives, refuses}
 use Rattle.calendar.specs.Calendar.{monthCount}
 use Rattle.value.specs.Bounds.{minYear, maxYear}
@@ -17,7 +17,7 @@ use Rattle.value.specs.declared.Offset.{Offset}
 use Rattle.value.specs.declared.DateTime.{DateTime}
 use Rattle.value.specs.declared.Kind.{Kind}
 use Rattle.value.specs.declared.Value.{Value}
-use Rattle.value.proofs.Numbers.{among, only, only-either, only-refused}
+use Rattle.value.proofs.Numbers.{only, only-either, only-refused}
 use Rattle.operation_quantities.specs.Operands.{operandOf, valueOf, sameKind}
 use Rattle.operation_quantities.specs.Results.{inTicks, inMonths}
 use Rattle.operation_shifting.specs.Shifts.{monthOf, inMonth, movedTo, moved, shifted}

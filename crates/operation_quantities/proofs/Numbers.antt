@@ -3,13 +3,14 @@ use mathlib.Core.Path.{_≡_, refl}
 use mathlib.Core.Bool.{true}
 use mathlib.Core.List.{List}
 use Prim.Native.Nat.{ℕ}
+use Rattle.basis.specs.Choice.{among}
 use Rattle.value.specs.Refusals.{beyondResult}
 use Rattle.value_instants.specs.Ticks.{placedAt}
 use Rattle.value.specs.declared.Zone.{Zone}
 use Rattle.value.specs.declared.Kind.{Kind}
 use Rattle.value_instants.specs.declared.Placed.{Placed}
 use Rattle.value_instants.specs.declared.Placed.the-variants as PV
-use Rattle.value.proofs.Numbers.{among, only}
+use Rattle.value.proofs.Numbers.{only}
 use Rattle.operation_quantities.specs.Results.{atTicks, ofPlaced}
 
 pub placed-numbers : (ns : List ℕ) → among ns beyondResult ≡ true → (k : Kind) (t : ℕ) (z : Zone) → only ns (atTicks k t z) ≡ true

@@ -6,3 +6,4 @@ pub mod Lines
 pub mod Showing
 pub mod Numbers
 pub mod Refusals
+pub mod Blanks

@@ -13,7 +13,7 @@ use Rattle.value.specs.declared.Offset.the-variants.{East}
 use Rattle.value.specs.declared.Zone.the-variants.{At}
 use Rattle.value.specs.declared.Value.{Value}
 use Rattle.value.specs.declared.Value.the-variants.{DateTime}
-use Rattle.numerals.specs.Writing.{digits, stripped, fractionText}
+use Rattle.numerals.specs.Writing.{digits, keptDigits, fractionText}
 use Rattle.text_scan.specs.Scanning.{isPair}
 use Rattle.text_layouts.specs.Writing.{layoutText, partText, pairOf}
 use Rattle.text.specs.Writing.{textOf, written, afterWrite}
@@ -29,13 +29,13 @@ abbrev room : ℕ → List ℕ
 room n = replicate n 7
 
 one-byte-less : (written last 31 ≡ refuses 15) × (afterWrite last (room 31) ≡ room 31)
-unfolding written afterWrite textOf layoutText partText pairOf isPair digits stripped fractionText okValue okDateTime okDate okZone okOffset both every
+unfolding written afterWrite textOf layoutText partText pairOf isPair digits keptDigits fractionText okValue okDateTime okDate okZone okOffset both every
 one-byte-less = (refl, refl)
 
 just-fits : (written last 32 ≡ gives 32) × (afterWrite last (room 32) ≡ text)
-unfolding written afterWrite textOf layoutText partText pairOf isPair digits stripped fractionText okValue okDateTime okDate okZone okOffset both every
+unfolding written afterWrite textOf layoutText partText pairOf isPair digits keptDigits fractionText okValue okDateTime okDate okZone okOffset both every
 just-fits = (refl, refl)
 
 bytes-after-stay : (written last 34 ≡ gives 32) × (afterWrite last (room 34) ≡ text ++ room 2)
-unfolding written afterWrite textOf layoutText partText pairOf isPair digits stripped fractionText okValue okDateTime okDate okZone okOffset both every
+unfolding written afterWrite textOf layoutText partText pairOf isPair digits keptDigits fractionText okValue okDateTime okDate okZone okOffset both every
 bytes-after-stay = (refl, refl)

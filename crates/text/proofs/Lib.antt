@@ -1,7 +1,10 @@
 pub mod Answers
+pub mod ReadsBare
 pub mod Numbers
 pub mod Rooms
 pub mod Texts
+pub mod Strangers
 pub mod RoundTrip
 pub mod Cases
 pub mod NotEmpty
+pub mod Blanks

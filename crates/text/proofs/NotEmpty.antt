@@ -17,12 +17,12 @@ use Rattle.text_scan.specs.Scanning.{pairAt, isPair, withPair, fractionPart, zo
 use Rattle.text_checks.specs.Reading.{judge}
 use Rattle.text_layouts.specs.Reading.{readLayout}
 use Rattle.text_durations.specs.Walks.{component, components, shapeFrom, shape, counted, readBy}
-use Rattle.text.specs.Reading.{readAs}
+use Rattle.text.specs.Reading.{readBare}
 use Rattle.text.specs.Writing.{textOf}
-use Rattle.text.proofs.RoundTrip.{written-reads-back}
+use Rattle.text.proofs.RoundTrip.{bytes-read-back}
 
-pub empty-refused : (k : Kind) → readAs k [] ≡ refuses badText
-unfolding readAs readLayout judge scanned partAt yearPart yearAt fourZeros zonePart zoneSigned fractionPart pairAt isPair withPair number isDigit both readBy counted shape shapeFrom components component
+pub empty-refused : (k : Kind) → readBare k [] ≡ refuses badText
+unfolding readBare readLayout judge scanned partAt yearPart yearAt fourZeros zonePart zoneSigned fractionPart pairAt isPair withPair number isDigit both readBy counted shape shapeFrom components component
 empty-refused KV.Date = refl
 empty-refused KV.Time = refl
 empty-refused KV.DateTime = refl
@@ -30,8 +30,8 @@ empty-refused KV.DayTimeDuration = refl
 empty-refused KV.YearMonthDuration = refl
 
 pub written-some : (v : Value) → okValue v ≡ true → 0 < length (textOf v)
-written-some v g = go (textOf v) (written-reads-back v g)
+written-some v g = go (textOf v) (bytes-read-back v g)
   where
-    go : (s : List ℕ) → readAs (kindOf v) s ≡ gives v → 0 < length s
+    go : (s : List ℕ) → readBare (kindOf v) s ≡ gives v → 0 < length s
     go [] e = let f : gives v ≡ refuses badText = sym e ∙ empty-refused (kindOf v) in absurd (let z : _≡_ {A = ℕ} 0 1 = cc in omega arith)
     go (b ∷ bs) e = omega arith

@@ -1,11 +1,11 @@
 -- The numbers that reading refuses with are 1, 2 and 3; those of writing are 16 and 15.
-use mathlib.Core.Path.{_≡_, refl}
+use mathlib.Core.Path.{_≡_, refl, sym, _∙_}
 use mathlib.Core.Bool.{Bool, true, false}
 use mathlib.Core.List.{List, [], _∷_}
 use Prim.Native.Nat.{ℕ, _+_, _*_}
 use lib.Dec.{eqb, leb}
 use lib.ListN.{length}
-use Rattle.basis.specs.Choice.{pick}
+use Rattle.basis.specs.Choice.{pick, among}
 use Rattle.basis.specs.Answer.{Answer, gives, refuses}
 use Rattle.calendar.specs.declared.Date.{Date}
 use Rattle.calendar.specs.declared.Dated.{Dated}
@@ -20,7 +20,7 @@ use Rattle.value.specs.declared.DateTime.{DateTime}
 use Rattle.value.specs.declared.Kind.{Kind}
 use Rattle.value.specs.declared.Kind.the-variants as KV
 use Rattle.value.specs.declared.Value.{Value}
-use Rattle.value.proofs.Numbers.{among, only, only-either, only-refused}
+use Rattle.value.proofs.Numbers.{only, only-either, only-refused}
 use Rattle.text_scan.specs.declared.Scan.{Scan}
 use Rattle.text_scan.specs.Scanning.{uncapped, scannedParts}
 use Rattle.text_checks.specs.Reading as judging
@@ -29,8 +29,10 @@ use Rattle.text_durations.specs.Walks.{counted, readBy, shape, asValue}
 use Rattle.text_durations.specs.Forms.{Form, dayTime, yearMonth}
 use Rattle.text_durations.specs.declared.Shape.{Shape}
 use Rattle.text_durations.specs.declared.Amount.{Amount}
-use Rattle.text.specs.Reading.{readAs}
+use Rattle.text_blanks.specs.Blanks.{bare}
+use Rattle.text.specs.Reading.{readBare, readAs}
 use Rattle.text.specs.Writing.{textOf, written}
+use Rattle.text.proofs.ReadsBare.{reads-bare}
 
 abbrev pub readingNumbers : List ℕ
 readingNumbers = badText ∷ beyondBounds ∷ longFraction ∷ []
@@ -96,8 +98,8 @@ duration-numbers : (f : Form) (s : List ℕ) → Reads (readBy f s)
 unfolding readBy
 duration-numbers f s = counted-numbers (f .unit) (f .most) (shape (f .before) (f .after) s)
 
-read-numbers : (k : Kind) (s : List ℕ) → Reads (readAs k s)
-unfolding readAs readLayout
+read-numbers : (k : Kind) (s : List ℕ) → Reads (readBare k s)
+unfolding readBare readLayout
 read-numbers KV.Date s = judge-numbers KV.Date (length s) (scannedParts uncapped KV.Date s)
 read-numbers KV.Time s = judge-numbers KV.Time (length s) (scannedParts uncapped KV.Time s)
 read-numbers KV.DateTime s = judge-numbers KV.DateTime (length s) (scannedParts uncapped KV.DateTime s)
@@ -106,7 +108,7 @@ read-numbers KV.YearMonthDuration s = value-numbers _ (readBy yearMonth s) (dura
 
 -- a text that does not read is refused with 1, 2 or 3
 pub read-refuses : (k : Kind) (s : List ℕ) (n : ℕ) → readAs k s ≡ refuses n → among readingNumbers n ≡ true
-read-refuses k s n e = only-refused readingNumbers (readAs k s) n (read-numbers k s) e
+read-refuses k s n e = only-refused readingNumbers (readBare k (bare s)) n (read-numbers k (bare s)) (sym (reads-bare k s) ∙ e)
 
 -- a value that is not written is refused with 16 or 15
 pub write-refuses : (v : Value) (room n : ℕ) → written v room ≡ refuses n → among writingNumbers n ≡ true

@@ -3,7 +3,7 @@
 use mathlib.Core.Path.{_≡_, refl, ap, sym, _∙_}
 use mathlib.Core.Bool.{Bool, true, false}
 use mathlib.Core.List.{List, [], _∷_}
-use Prim.Native.Nat.{ℕ, _+_, _≤_}
+use Prim.Native.Nat.{ℕ, _+_, _≤_, _<_}
 use native.Mathlib.Omega.{arith}
 use lib.Dec.{ltb}
 use lib.ListN.{length}
@@ -11,6 +11,7 @@ use Rattle.basis.specs.Choice.{both, every}
 use Rattle.basis.specs.Answer.{Answer, gives, refuses}
 use Rattle.basis.proofs.Tests.{both-left, both-right}
 use Rattle.value.specs.Bounds.{maxDayTime, maxYearMonth}
+use Rattle.value.specs.Refusals.{badText}
 use Rattle.value.specs.Durations.{plusHalf, minusHalf, apart}
 use Rattle.value.specs.Kinds.{kindOf, okValue, template}
 use Rattle.value_instants.specs.Ticks.{utc, instantOf}
@@ -24,6 +25,9 @@ use Rattle.value_instants.proofs.Instants.{utc-good, same-instant}
 use Rattle.value.proofs.KindParts.{kept-of-kind}
 use Rattle.value.proofs.Signs.{signed-back, same-difference}
 use Rattle.numerals.specs.Writing.{longest}
+use Rattle.numerals.specs.Reading.{at}
+use Rattle.text_blanks.specs.Blanks.{isBlank, bare}
+use Rattle.text_blanks.proofs.Laws.{without-blanks}
 use Rattle.text_layouts.proofs.OfKinds.{round-trip}
 use Rattle.text_layouts.proofs.Lengths.{text-fits}
 use Rattle.text_layouts.proofs.ReadsValid.{reads-valid}
@@ -33,18 +37,38 @@ use Rattle.text_durations.specs.Walks.{asDayTime, asYearMonth, readBy}
 use Rattle.text_durations.specs.Forms.{dayTime, yearMonth}
 use Rattle.text_durations.proofs.Round.{day-time-round-trip, year-month-round-trip, day-time-valid, year-month-valid}
 use Rattle.text_durations.proofs.Lengths.{day-time-length, year-month-length}
-use Rattle.text.specs.Reading.{readAs}
+use Rattle.text.specs.Reading.{readBare, readAs}
 use Rattle.text.specs.Writing.{textOf}
 use Rattle.text.specs.Alike.{Alike, momentOf, signOf, magnitudeOf}
+use Rattle.text.proofs.ReadsBare.{reads-bare}
+use Rattle.text.proofs.Strangers.{blank-among}
 
--- for every valid value of each of the five kinds, reading what is written gives that value
+-- for every valid value of each of the five kinds, the bytes that are written read as that value
+pub bytes-read-back : (v : Value) → okValue v ≡ true → readBare (kindOf v) (textOf v) ≡ gives v
+unfolding readBare textOf okValue
+bytes-read-back (VV.Date d) g = round-trip KV.Date d (both-left _ _ g) (both-right _ _ g)
+bytes-read-back (VV.Time d) g = round-trip KV.Time d (both-left _ _ g) (both-right _ _ g)
+bytes-read-back (VV.DateTime d) g = round-trip KV.DateTime d g (kept-of-kind KV.DateTime d refl)
+bytes-read-back (VV.DayTime d) g = day-time-round-trip d g
+bytes-read-back (VV.YearMonth d) g = year-month-round-trip d g
+
+-- there is no blank among them
+pub no-blank-written : (v : Value) → okValue v ≡ true → (j : ℕ) → j < length (textOf v) → isBlank (at (textOf v) j) ≡ false
+no-blank-written v g j h = go (isBlank (at (textOf v) j)) refl
+  where
+    go : (b : Bool) → isBlank (at (textOf v) j) ≡ b → isBlank (at (textOf v) j) ≡ false
+    go true e =
+        let f : gives v ≡ refuses badText = sym (bytes-read-back v g) ∙ blank-among (kindOf v) (textOf v) j h e in
+        absurd (let z : _≡_ {A = ℕ} 0 1 = cc in omega arith)
+    go false e = e
+
+-- so stripping leaves them as they are
+pub written-is-bare : (v : Value) → okValue v ≡ true → bare (textOf v) ≡ textOf v
+written-is-bare v g = without-blanks (textOf v) (no-blank-written v g)
+
+-- and reading what is written gives the value
 pub written-reads-back : (v : Value) → okValue v ≡ true → readAs (kindOf v) (textOf v) ≡ gives v
-unfolding readAs textOf okValue
-written-reads-back (VV.Date d) g = round-trip KV.Date d (both-left _ _ g) (both-right _ _ g)
-written-reads-back (VV.Time d) g = round-trip KV.Time d (both-left _ _ g) (both-right _ _ g)
-written-reads-back (VV.DateTime d) g = round-trip KV.DateTime d g (kept-of-kind KV.DateTime d refl)
-written-reads-back (VV.DayTime d) g = day-time-round-trip d g
-written-reads-back (VV.YearMonth d) g = year-month-round-trip d g
+written-reads-back v g = reads-bare (kindOf v) (textOf v) ∙ ap (readBare (kindOf v)) (written-is-bare v g) ∙ bytes-read-back v g
 
 -- no text is longer than the longest
 pub text-within : (v : Value) → okValue v ≡ true → length (textOf v) ≤ longest
@@ -65,13 +89,16 @@ year-month-kind (gives a) v e = let k : VV.YearMonth (record { negative = a .neg
 year-month-kind (refuses n) v e = let z : _≡_ {A = ℕ} 0 1 = cc in cc
 
 -- what reads is within the bounds of the kind that was asked for
+bytes-valid : (k : Kind) (s : List ℕ) (v : Value) → readBare k s ≡ gives v → Valid k v
+unfolding readBare
+bytes-valid KV.Date s v e = reads-valid KV.Date s v e
+bytes-valid KV.Time s v e = reads-valid KV.Time s v e
+bytes-valid KV.DateTime s v e = reads-valid KV.DateTime s v e
+bytes-valid KV.DayTimeDuration s v e = record { ok = day-time-valid s v e; kind = day-time-kind (readBy dayTime s) v e }
+bytes-valid KV.YearMonthDuration s v e = record { ok = year-month-valid s v e; kind = year-month-kind (readBy yearMonth s) v e }
+
 pub what-reads-is-valid : (k : Kind) (s : List ℕ) (v : Value) → readAs k s ≡ gives v → Valid k v
-unfolding readAs
-what-reads-is-valid KV.Date s v e = reads-valid KV.Date s v e
-what-reads-is-valid KV.Time s v e = reads-valid KV.Time s v e
-what-reads-is-valid KV.DateTime s v e = reads-valid KV.DateTime s v e
-what-reads-is-valid KV.DayTimeDuration s v e = record { ok = day-time-valid s v e; kind = day-time-kind (readBy dayTime s) v e }
-what-reads-is-valid KV.YearMonthDuration s v e = record { ok = year-month-valid s v e; kind = year-month-kind (readBy yearMonth s) v e }
+what-reads-is-valid k s v e = bytes-valid k (bare s) v (sym (reads-bare k s) ∙ e)
 
 -- a value is its kind, its record, its sign and its magnitude
 abbrev rebuilt : Kind → DateTime → Bool → ℕ → Value

@@ -8,7 +8,7 @@ ghost use mathlib.Core.Path.{_≡_};
 ghost use lib.ListN.{length};
 ghost use Rattle.value.specs.Kinds as kinds;
 ghost use Rattle.numerals.specs.Carried.{Holds};
-ghost use Rattle.text.specs.Reading.{readAs};
+ghost use Rattle.text.specs.Reading.{readBare, readAs};
 ghost use Rattle.text.specs.Writing as its;
 
 // How many bytes were written, or why none was.
@@ -17,9 +17,9 @@ pub enum Written {
     Refused(Refusal),
 }
 
-// What a text of a kind reads as. The text is the whole field or literal.
-pub fn read(kind: Kind, s: &[u8]) -> Outcome
-    ensures { λ r. ⌜ kinds.meaning r ≡ readAs kind (now (s .entry)) ⌝ }
+// What the bytes of a value of a kind read as; a blank among them is a byte like any other.
+fn read_bare(kind: Kind, s: &[u8]) -> Outcome
+    ensures { λ r. ⌜ kinds.meaning r ≡ readBare kind (now (s .entry)) ⌝ }
 {
     match kind {
         Kind::Date => text_layouts::read_layout(Kind::Date, s),
@@ -36,6 +36,16 @@ pub fn read(kind: Kind, s: &[u8]) -> Outcome
             outcome
         }
     }
+}
+
+// What a text of a kind reads as. The text is the whole field or literal, with the blanks round the value.
+pub fn read(kind: Kind, s: &[u8]) -> Outcome
+    ensures { λ r. ⌜ kinds.meaning r ≡ readAs kind (now (s .entry)) ⌝ }
+{
+    let ends = text_blanks::strip(s);
+    let start = ends.start;
+    let end = ends.end;
+    read_bare(kind, &s[start..end])
 }
 
 pub fn text_of(v: Value) -> Text

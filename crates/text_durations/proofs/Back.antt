@@ -18,7 +18,7 @@ use Rattle.numerals.proofs.Positions.{cell, head, beyond}
 use Rattle.numerals.proofs.Stretches.{stop}
 use Rattle.numerals.proofs.Decimals.{decimal-stretch, decimal-some}
 use Rattle.numerals.proofs.Fractions.{kept, kept-length, no-fraction, a-fraction, fraction-back}
-use Rattle.numerals.proofs.Stripping.{stripped-some}
+use Rattle.numerals.proofs.Stripping.{strip-some}
 use Rattle.text_durations.specs.declared.Walk.{Walk}
 use Rattle.text_durations.specs.Forms.{weight, seconds, point}
 use Rattle.text_durations.specs.Walks.{component}
@@ -91,7 +91,7 @@ module _ (s : List ℕ) (time : Bool) (c : ℕ) (t : Walk) (z : t .ticks ≡ 0) 
       let f : fractionAt s i ≡ record { ticks = u; long = false; end = end } = fraction-back s i u (c ∷ rest) h d j in
       let b : at s end ≡ c = head s end (beyond s i (kept u) (c ∷ rest) j) in
       let np : (point ≡ c → ⊥) = λ y. clash (y ∙ ec) in
-      let some : (end ≡ i → ⊥) = λ y. none (omega (arith, kept-length u, stripped-some fractionDigits u nz h)) in
+      let some : (end ≡ i → ⊥) = λ y. none (omega (arith, kept-length u, strip-some fractionDigits u nz h)) in
       rw (r, ne-eqb k 0 (λ y. omega (arith, decimal-some n)), a, ne-eqb point c np, eq-eqb c seconds ec, f, ne-eqb end i some, eq-eqb (at s end) c b)
       (record { sum = refl; ticks = refl; long = refl; offset = omega arith })
     where

@@ -9,7 +9,7 @@ use Rattle.basis.specs.Letters.{bytes}
 use Rattle.basis.specs.Answer.{gives, refuses}
 use Rattle.value.specs.declared.Value.the-variants as VV
 use Rattle.numerals.specs.Reading.{isDigit, number, fractionAt}
-use Rattle.numerals.specs.Writing.{digits, shortest, decimal, stripped, fractionText}
+use Rattle.numerals.specs.Writing.{digits, shortest, decimal, keptDigits, fractionText}
 use Rattle.text_durations.specs.Forms.{weight, dayTime, yearMonth}
 use Rattle.text_durations.specs.Walks.{component, components, shapeFrom, shape, counted, readBy, readDayTime, readYearMonth}
 use Rattle.text_durations.specs.Carried.{shapeEnd}
@@ -17,7 +17,7 @@ use Rattle.text_durations.specs.Spelling.{shown, shownAll, left, body, d
 
 -- the greatest number of months below zero, and none
 pub writes-most-months : yearMonthText (record { negative = true; months = 1_000_000 }) ≡ bytes "-P83333Y4M"
-unfolding digits shortest decimal stripped fractionText both weight shown shownAll left body durationText
+unfolding digits shortest decimal keptDigits fractionText both weight shown shownAll left body durationText
 writes-most-months = refl
 
 pub writes-no-months : yearMonthText (record { negative = false; months = 0 }) ≡ bytes "P0M"
@@ -30,7 +30,7 @@ unfolding isDigit number fractionAt both weight component components shapeFrom s
 reads-fraction = refl
 
 pub writes-fraction : dayTimeText (record { negative = true; micros = 86_400_500_000 }) ≡ bytes "-P1DT0.5S"
-unfolding digits shortest decimal stripped fractionText both weight shown shownAll left body durationText
+unfolding digits shortest decimal keptDigits fractionText both weight shown shownAll left body durationText
 writes-fraction = refl
 
 pub seven-digits : readDayTime (bytes "PT99999999999999999999.0000000S") ≡ refuses 3

@@ -11,3 +11,4 @@ pub mod Back
 pub mod Trip
 pub mod Round
 pub mod Answers
+pub mod Passed

@@ -1,4 +1,5 @@
--- A field of a row: of a plain line it is what document 01 says, and rows with the same texts have the same fields.
+-- A field of a row: of a plain line it is what document 01 says, and rows with the same texts, but for blanks round them, have the same
+-- fields.
 use mathlib.Core.Path.{_≡_, _∙_}
 use mathlib.Core.Bool.{Bool, true, false, not}
 use mathlib.Core.List.{List}
@@ -11,20 +12,22 @@ use Rattle.value.specs.Refusals.{noField}
 use Rattle.value.specs.declared.Kind.{Kind}
 use Rattle.value.specs.declared.Value.{Value}
 use Rattle.timetable.specs.Fields.{hasField, fieldAt}
-use Rattle.timetable.specs.Rows.{Row, textsOf, rowOf, rowWith}
-use Rattle.timetable.proofs.Rows.{same-has, same-text, row-has, row-text, with-has, with-second, with-other, with-none}
+use Rattle.timetable.specs.Rows.{Row, rowOf, rowWith, cellText}
+use Rattle.timetable.proofs.Rows.{alike-has, alike-text, row-has, row-text, with-has, with-second, with-other, with-none}
+use Rattle.text_blanks.specs.Blanks.{bare}
 use Rattle.text.specs.Reading.{readAs}
-use Rattle.text_fields.specs.Fields.{readField}
+use Rattle.text.proofs.Blanks.{same-bare-reads}
+use Rattle.text_fields.specs.Fields.{readField, bareTexts}
 
 -- of a plain line's row it is the line's own field, and 6 where the line has none
 pub plain-field : (k : Kind) (line : List ℕ) (n : ℕ) → readField k (rowOf line) n ≡ pick (hasField line n) (readAs k (fieldAt line n)) (refuses noField)
 unfolding readField
 plain-field k line n = rw (row-has line n, row-text line n)
 
--- a field is told by the row's texts
-pub same-field : (k : Kind) (r s : Row) (n : ℕ) → textsOf r ≡ textsOf s → readField k r n ≡ readField k s n
+-- a field is told by the row's texts without the blanks round them
+pub same-field : (k : Kind) (r s : Row) (n : ℕ) → bareTexts r ≡ bareTexts s → readField k r n ≡ readField k s n
 unfolding readField
-same-field k r s n e = rw (same-has r s n e, same-text r s n e)
+same-field k r s n e = rw (alike-has bare r s e n, same-bare-reads k (cellText r n) (cellText s n) (alike-text bare r s e n))
 
 -- ---- a line with a made text beside it
 

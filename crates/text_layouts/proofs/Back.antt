@@ -23,7 +23,7 @@ use Rattle.numerals.specs.Writing.{digits}
 use Rattle.numerals.proofs.Positions.{cell, head, beyond, none-left, some-left}
 use Rattle.numerals.proofs.Stretches.{is-digit}
 use Rattle.numerals.proofs.Decimals.{length-digits, two-cells, four-pairs, digits-stretch}
-use Rattle.numerals.proofs.Stripping.{stripped-some}
+use Rattle.numerals.proofs.Stripping.{strip-some}
 use Rattle.numerals.proofs.Fractions.{kept, kept-length, fraction-back}
 use Rattle.text_scan.specs.declared.Scan.{Scan}
 use Rattle.text_scan.specs.Scanning.{uncapped, fourZeros, pairAt, yearAt, yearPart, fractionPart, zonePart, zoneSigned, withYear, withFraction, withZoneParts}
@@ -107,7 +107,7 @@ module _ (s : List ℕ) (t : Scan) (rest : List ℕ) where
   a-fraction-back u nz h q e =
       let f : fractionAt s (t .at + 1) ≡ record { ticks = u; long = false; end = t .at + 1 + length (kept u) } =
       fraction-back s (t .at + 1) u rest h q (beyond s (t .at) (code "." ∷ []) (kept u ++ rest) e) in
-      let l : 1 ≤ length (kept u) = omega (arith, kept-length u, stripped-some fractionDigits u nz h) in
+      let l : 1 ≤ length (kept u) = omega (arith, kept-length u, strip-some fractionDigits u nz h) in
       rw (head s (t .at) e, f, ne-eqb (t .at + 1 + length (kept u)) (t .at + 1) (λ z. omega arith))
 
 module _ (s : List ℕ) (t : Scan) (le : t .at ≤ length s) where

@@ -12,7 +12,7 @@ use Rattle.value.specs.declared.DateTime.{DateTime}
 use Rattle.value.specs.declared.Kind.the-variants as KV
 use Rattle.value.specs.declared.Value.the-variants as VV
 use Rattle.numerals.specs.Reading.{isDigit, number, fractionAt}
-use Rattle.numerals.specs.Writing.{digits, stripped, fractionText}
+use Rattle.numerals.specs.Writing.{digits, keptDigits, fractionText}
 use Rattle.text_scan.specs.Scanning.{uncapped, pairAt, fourZeros, yearAt, yearPart, fractionPart, zonePart, zoneSigned, isPair, withPair, partAt, scanned, scannedParts}
 use Rattle.text_checks.specs.Reading.{judge, bounded, onCalendar, okParts, zoneIs, clocked, okClock, isDayEnd, clockTicks, nextDay}
 use Rattle.text_layouts.specs.Reading.{readLayout}
@@ -84,11 +84,11 @@ unfolding isDigit number fractionAt pairAt fourZeros yearAt yearPart fractionPar
 minus-zero = refl
 
 written-z : kindText KV.Time (record { year = 1972; month = 12; day = 31; micros = 43200000000; zone = At (East 0) }) ≡ bytes "12:00:00Z"
-unfolding layoutText partText pairOf isPair digits stripped fractionText
+unfolding layoutText partText pairOf isPair digits keptDigits fractionText
 written-z = refl
 
 written-west : kindText KV.DateTime (record { year = 33; month = 4; day = 3; micros = 54000500000; zone = At (West 90) }) ≡ bytes "0033-04-03T15:00:00.5-01:30"
-unfolding layoutText partText pairOf isPair digits stripped fractionText
+unfolding layoutText partText pairOf isPair digits keptDigits fractionText
 written-west = refl
 
 -- A reader stops at the first byte that no good text could have there.

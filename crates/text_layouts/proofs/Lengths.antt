@@ -10,7 +10,7 @@ use Rattle.value.specs.declared.Zone.the-variants.{At}
 use Rattle.value.specs.declared.DateTime.{DateTime}
 use Rattle.value.specs.declared.Kind.{Kind}
 use Rattle.value.specs.declared.Kind.the-variants as KV
-use Rattle.numerals.specs.Writing.{longest, digits, stripped, fractionText}
+use Rattle.numerals.specs.Writing.{longest, digits, keptDigits, fractionText}
 use Rattle.text_scan.specs.Scanning.{layout, isPair}
 use Rattle.text_layouts.specs.Writing.{partText, pairOf, layoutText, kindText}
 use Rattle.text_layouts.specs.Carried.{widths}
@@ -29,9 +29,9 @@ abbrev last : DateTime
 last = record { year = 9999; month = 12; day = 31; micros = 86_399_999_999; zone = At (East 840) }
 
 pub last-text : kindText KV.DateTime last ≡ bytes "9999-12-31T23:59:59.999999+14:00"
-unfolding layoutText partText pairOf isPair digits stripped fractionText
+unfolding layoutText partText pairOf isPair digits keptDigits fractionText
 last-text = refl
 
 pub longest-reached : length (kindText KV.DateTime last) ≡ longest
-unfolding layoutText partText pairOf isPair digits stripped fractionText
+unfolding layoutText partText pairOf isPair digits keptDigits fractionText
 longest-reached = refl

@@ -9,6 +9,7 @@ use native.Mathlib.Omega.{arith}
 use lib.Dec.{eqb, leb}
 use lib.ListN.{length}
 use Rattle.basis.specs.Answer.{Answer, gives}
+use Rattle.basis.proofs.Tests.{never}
 use Rattle.value.specs.Bounds.{maxYear, secondTicks}
 use Rattle.value.specs.Kinds.{template}
 use Rattle.value.specs.declared.Kind.{Kind}
@@ -22,11 +23,6 @@ use Rattle.text_scan.proofs.Lasting.{Leaves, Everywhere, ended, letter, lasts}
 use Rattle.text_checks.specs.Reading.{clockTicks, bounded, judge}
 use Rattle.text_layouts.specs.Reading.{readLayout}
 use Rattle.text_layouts.proofs.Valid.{Valid, Fine, Suits, fine-refusal, fine-pick, fine-on-calendar}
-
-never : false ≡ true → ⊥
-never q =
-    let z : _≡_ {A = ℕ} 0 1 = cc in
-    omega arith
 
 -- a letter that is none of a part's leaves every fact
 mark-leaves : (P : Scan → Type 0) (p : ℕ) → (p ≡ code "Y" → ⊥) → (p ≡ code "f" → ⊥) → isPair p ≡ false → Leaves P p

@@ -10,7 +10,7 @@ use lib.Dec.{eqb}
 use lib.ListN.{length, drop, length-append, length-drop}
 use borrow.Author.Tests.{eq-eqb, ne-eqb, eqb-true, eqb-false}
 use Rattle.basis.specs.Choice.{both, pick}
-use Rattle.basis.proofs.Tests.{both-left, both-right}
+use Rattle.basis.proofs.Tests.{never, both-left, both-right}
 use Rattle.value.specs.Bounds.{secondTicks}
 use Rattle.value.specs.declared.Offset.the-variants.{East, West}
 use Rattle.value.specs.declared.Zone.{Zone}
@@ -167,11 +167,6 @@ module _ (p : ℕ) (v : DateTime) (t : Scan) (g : t .good ≡ true) where
       go false false false false x y z w = rw (x, y, z, w) (refl, refl)
 
 -- the texts of a sane layout can be told apart
-never : false ≡ true → ⊥
-never q =
-    let o : _≡_ {A = ℕ} 0 1 = cc in
-    omega arith
-
 zone-quiet : (z : Zone) → Quiet (zoneText z)
 unfolding isDigit both
 zone-quiet Absent = record { no-digit = refl; no-point = λ e. omega arith }

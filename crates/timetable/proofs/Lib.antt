@@ -8,3 +8,4 @@ pub mod Walk
 pub mod Whole
 pub mod Apart
 pub mod Cases
+pub mod LastFields

@@ -2,7 +2,7 @@
 use mathlib.Core.Path.{_≡_, refl, sym, ap, _∙_}
 use mathlib.Core.Logic.{_⊎_, inl, inr, ⊎-elim}
 use mathlib.Core.Bool.{Bool, true, false}
-use mathlib.Core.List.{List, [], _∷_, List·Memᴰ, List·Memᴰ·cases-cons, List·Memᴰ·not-nil}
+use mathlib.Core.List.{List, [], _∷_, map, List·Memᴰ, List·Memᴰ·cases-cons, List·Memᴰ·not-nil}
 use Prim.Native.Nat.{ℕ, zero, suc, _+_, _-_, _≤_, _<_}
 use native.Mathlib.Omega.{arith}
 use lib.Dec.{eqb, leb, ltb}
@@ -29,12 +29,19 @@ pub text-by-texts : (row : Row) (n : ℕ) → cellText row n ≡ pick (hasCell r
 unfolding cellText
 text-by-texts row n = ap (λ x. pick (hasCell row n) x []) (sym (List·getD-map (λ c. c .text) row (n - 1) noCell))
 
--- so rows with the same texts are the same to whoever asks for fields
-pub same-has : (r s : Row) (n : ℕ) → textsOf r ≡ textsOf s → hasCell r n ≡ hasCell s n
-same-has r s n e = rw (has-by-texts r n, has-by-texts s n, e)
+-- so rows that are alike in what is asked of each text are the same to whoever asks for no more of a field
+module _ {A : Type 0} (f : List ℕ → A) (r s : Row) (e : map f (textsOf r) ≡ map f (textsOf s)) where
+  pub alike-has : (n : ℕ) → hasCell r n ≡ hasCell s n
+  alike-has n =
+      let l : length (textsOf r) ≡ length (textsOf s) = sym (length-map (textsOf r) f) ∙ ap length e ∙ length-map (textsOf s) f in
+      rw (has-by-texts r n, has-by-texts s n, l)
 
-pub same-text : (r s : Row) (n : ℕ) → textsOf r ≡ textsOf s → cellText r n ≡ cellText s n
-same-text r s n e = rw (text-by-texts r n, text-by-texts s n, same-has r s n e, e)
+  pub alike-text : (n : ℕ) → f (cellText r n) ≡ f (cellText s n)
+  alike-text n = rw (text-by-texts r n, text-by-texts s n, alike-has n) (go (hasCell s n))
+    where
+      go : (x : Bool) → f (pick x (getD (textsOf r) (n - 1) []) []) ≡ f (pick x (getD (textsOf s) (n - 1) []) [])
+      go true = sym (List·getD-map f (textsOf r) (n - 1) []) ∙ ap (λ l. getD l (n - 1) (f [])) e ∙ List·getD-map f (textsOf s) (n - 1) []
+      go false = refl
 
 -- ---- the row of a plain line
 
@@ -97,6 +104,22 @@ module _ (made : List ℕ) where
     where
       go : (x : Bool) (n : ℕ) → (n ≡ 2 → ⊥) → pick x (getD (withSecond made row) (n - 1) noCell .text) [] ≡ pick x (getD row (n - 1) noCell .text) []
       go x n h = rw (other-at row (n - 1) (λ e. h (omega arith)))
+
+-- rows that are alike stay so with one made text second
+module _ {A : Type 0} (f : List ℕ → A) (made : List ℕ) where
+  abbrev secondIs : List A → List A
+  secondIs [] = []
+  secondIs (x ∷ []) = x ∷ []
+  secondIs (x ∷ y ∷ zs) = x ∷ f made ∷ zs
+
+  second-of : (row : Row) → map f (textsOf (withSecond made row)) ≡ secondIs (map f (textsOf row))
+  unfolding withSecond
+  second-of [] = refl
+  second-of (c ∷ []) = refl
+  second-of (c ∷ d ∷ cs) = refl
+
+  pub alike-second : (r s : Row) → map f (textsOf r) ≡ map f (textsOf s) → map f (textsOf (withSecond made r)) ≡ map f (textsOf (withSecond made s))
+  alike-second r s e = second-of r ∙ ap secondIs e ∙ sym (second-of s)
 
 -- the made text leaves which fields the row has
 pub with-has : (line made : List ℕ) (n : ℕ) → hasCell (rowWith line made) n ≡ hasField line n

@@ -1,81 +1,42 @@
-use Rattle.text.specs.Reading.{readAs}
-use Rattle.value.specs.declared.Kind.{Kind}
+-- `read` meets its contract: what stands between the ends that are found is the value's bytes.
 use mathlib.Core.Path.{_≡_, ap, sym, _∙_}
+use native.Mathlib.Omega.{arith}
 use borrow.Author.Needs.{needs}
+use Rattle.text_blanks.proofs.Laws.{bare-by, found-within}
+use Rattle.text.specs.Reading.{readBare}
+use Rattle.text.proofs.ReadsBare.{reads-bare}
 use Rattle.text.proofs.read.Statement.{statement}
 use Rattle.text.proofs.read.Tie as tie
-use Rattle.text.proofs.read.Reads as reads
-use Rattle.text.proofs.read.Lts as lts
-use Rattle.text_durations.proofs.read_day_time.Reads as read-day-time-reads
-use Rattle.text_durations.proofs.read_year_month.Reads as read-year-month-reads
-use Rattle.text_layouts.proofs.read_layout.Reads as read-layout-reads
+use Rattle.text.proofs.read_bare.Reads as read-bare-reads
+use Rattle.text_blanks.proofs.strip.Reads as strip-reads
 
-enum-told : tie.Need-enum-told
-enum-told c = search needs
+strip-requires : tie.Need-strip-requires
+strip-requires c κs = search needs
 
-read-layout-requires : tie.Need-read-layout-requires
-read-layout-requires c κs = search needs
+sub-read-bare : tie.Need-sub-read-bare
+sub-read-bare c = omega (arith, found-within (c .before .before .args .s .now) _ (c .strip .ensures) .0)
 
-enum-told-2 : tie.Need-enum-told-2
-enum-told-2 c = search needs
+part-read-bare-start : tie.Need-part-read-bare-start
+part-read-bare-start c = omega (arith, found-within (c .before .before .args .s .now) _ (c .strip .ensures) .0)
 
-read-layout-requires-2 : tie.Need-read-layout-requires-2
-read-layout-requires-2 c κs = search needs
+part-read-bare-end : tie.Need-part-read-bare-end
+part-read-bare-end c = omega (arith, found-within (c .before .before .args .s .now) _ (c .strip .ensures) .1)
 
-enum-told-3 : tie.Need-enum-told-3
-enum-told-3 c = search needs
-
-read-layout-requires-3 : tie.Need-read-layout-requires-3
-read-layout-requires-3 c κs = search needs
-
-enum-told-4 : tie.Need-enum-told-4
-enum-told-4 c = search needs
-
-read-day-time-requires : tie.Need-read-day-time-requires
-read-day-time-requires c κs = search needs
-
-enum-told-5 : tie.Need-enum-told-5
-enum-told-5 c = search needs
-
-read-year-month-requires : tie.Need-read-year-month-requires
-read-year-month-requires c κs = search needs
+read-bare-requires : tie.Need-read-bare-requires
+read-bare-requires c κs = search needs
 
 returns : tie.Need-returns
-unfolding readAs
-returns c = c .read-layout .ensures ∙ ap (λ (k : Kind). readAs k (c .before .before .before .before .args .s .now)) (sym (c .before .enum-told .given .1))
-
-returns-2 : tie.Need-returns-2
-unfolding readAs
-returns-2 c = c .read-layout2 .ensures ∙ ap (λ (k : Kind). readAs k (c .before .before .before .before .args .s .now)) (sym (c .before .enum-told2 .given .1))
-
-returns-3 : tie.Need-returns-3
-unfolding readAs
-returns-3 c = c .read-layout3 .ensures ∙ ap (λ (k : Kind). readAs k (c .before .before .before .before .args .s .now)) (sym (c .before .enum-told3 .given .1))
-
-returns-4 : tie.Need-returns-4
-unfolding readAs
-returns-4 c = c .read-day-time .ensures .0 ∙ ap (λ (k : Kind). readAs k (c .before .before .before .before .args .s .now)) (sym (c .before .enum-told4 .given .1))
-
-returns-5 : tie.Need-returns-5
-unfolding readAs
-returns-5 c = c .read-year-month .ensures .0 ∙ ap (λ (k : Kind). readAs k (c .before .before .before .before .args .s .now)) (sym (c .before .enum-told5 .given .1))
+returns c =
+    let a = c .before .before .before .before .args in
+    c .read-bare .ensures ∙ ap (readBare (a .kind)) (bare-by (a .s .now) _ (c .before .before .strip .ensures)) ∙ sym (reads-bare (a .kind) (a .s .now))
 
 pub read-spec : {M : Type 1} → statement M
 read-spec =
     tie.close
     (tie.spec
-    enum-told
-    read-layout-requires
-    enum-told-2
-    read-layout-requires-2
-    enum-told-3
-    read-layout-requires-3
-    enum-told-4
-    read-day-time-requires
-    enum-told-5
-    read-year-month-requires
-    returns
-    returns-2
-    returns-3
-    returns-4
-    returns-5)
+    strip-requires
+    sub-read-bare
+    part-read-bare-start
+    part-read-bare-end
+    read-bare-requires
+    returns)
