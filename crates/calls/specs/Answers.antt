@@ -4,7 +4,7 @@
 use mathlib.Core.Bool.{false}
 use mathlib.Core.List.{List, _∷_, _++_}
 use Prim.Native.Nat.{ℕ}
-use Rattle.basis.specs.Answer.{Answer, gives, refuses}
+use Rattle.basis.specs.Answer.{Answer, gives, refusesFor}
 use Rattle.basis.specs.Letters.{bytes}
 use Rattle.timetable.specs.Fields.{tab, fieldAt}
 use Rattle.value_components.specs.Components.{componentsOf}
@@ -35,7 +35,7 @@ refusedText number = bytes "refused" ++ (tab ∷ numberText false number 0)
 -- what was answered, put into words by f; a refusal by its number
 abbrev pub said : {A : Type 0} → (A → List ℕ) → Answer A → List ℕ
 said f (gives a) = f a
-said f (refuses n) = refusedText n
+said f (refusesFor r) = refusedText (r .number)
 
 abbrev pub orderText : Order → List ℕ
 orderText less = bytes "lt"

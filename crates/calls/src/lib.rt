@@ -73,9 +73,7 @@ pub fn takes(input: &[u8]) -> bool
 pub fn no_call() -> Reply
     ensures { λ r. ⌜ r ≡ replyOf the.noCall ⌝ }
 {
-    calling::refused(Refusal {
-        number: Refusal::BAD_CONDITION,
-    })
+    calling::refused(Refusal::numbered(Refusal::BAD_CONDITION))
 }
 
 // The answer to a line without its byte 10.

@@ -14,11 +14,12 @@ use Rattle.timetable.specs.Fields.{fieldsOf, hasField, fieldAt}
 use Rattle.timetable.specs.Parted.{onto, parted}
 use Rattle.value.specs.Kinds.{ofKind, okValue}
 use Rattle.value_instants.specs.Ticks.{localOf, instantOf, inYears, placedAt}
-use Rattle.value.specs.Values.{okDate, okOffset, okZone, okDateTime, okSigned}
+use Rattle.value.specs.Clocks.{clockOf, sameClock, ticksIn}
+use Rattle.value.specs.Values.{okDate, okOffset, okZone, okTimePart, okDateTime, okSigned, okDayTime}
 use Rattle.numerals.specs.Reading.{isDigit, number, fractionAt}
 use Rattle.numerals.specs.Writing.{digits, shortest, decimal, keptDigits, fractionText}
 use Rattle.text_scan.specs.Scanning.{pairAt, isPair, withPair, fractionPart, zoneSigned, zonePart, fourZeros, yearAt, yearPart, partAt, scanned}
-use Rattle.text_checks.specs.Reading.{nextDay, okClock, isDayEnd, clockTicks, clocked, okParts, zoneIs, onCalendar, bounded, judge}
+use Rattle.text_checks.specs.Reading.{nextDay, okClock, isDayEnd, clockTicks, goodClock, clocked, okParts, zoneIs, onCalendar, bounded, judge}
 use Rattle.text_layouts.specs.Reading.{readLayout}
 use Rattle.text_layouts.specs.Writing.{pairOf, partText, layoutText}
 use Rattle.text_durations.specs.Forms.{weight}
@@ -40,7 +41,7 @@ use Rattle.calls_replies.specs.Replies.{numberText}
 use Rattle.calls_cases.specs.Table.{TableRow, noRow, table, rowHolds, tests, allHold}
 
 pub all-hold : allHold ≡ true
-unfolding both every total periodOf dateOf datedOf fieldsOf hasField fieldAt onto parted ofKind okValue localOf instantOf inYears placedAt okDate okOffset okZone okDateTime okSigned isDigit number fractionAt digits shortest decimal keptDigits fractionText pairAt isPair withPair fractionPart zoneSigned zonePart fourZeros yearAt yearPart partAt scanned nextDay okClock isDayEnd clockTicks clocked okParts zoneIs onCalendar bounded judge readLayout pairOf partText layoutText weight shown shownAll left body durationText component components shapeFrom shape counted readBy isBlank leadingBlanks untrailed stripped bare readBare readAs textOf inTicks inMonths atTicks movedTo moved shifted isZone adjustedFrom momentTo operandTo adjustOf up down orderIn sumOf plusOf lessMoment differenceIn minusIn same named oneText twoText answerBy answerOf exactly oneForm twoForm pairBy formBy formOf numberText refusedText table rowHolds tests allHold
+unfolding both every total periodOf dateOf datedOf fieldsOf hasField fieldAt onto parted ofKind okValue localOf instantOf inYears placedAt okDate okOffset okZone okTimePart okDateTime okSigned okDayTime clockOf sameClock ticksIn isDigit number fractionAt digits shortest decimal keptDigits fractionText pairAt isPair withPair fractionPart zoneSigned zonePart fourZeros yearAt yearPart partAt scanned nextDay okClock isDayEnd clockTicks goodClock clocked okParts zoneIs onCalendar bounded judge readLayout pairOf partText layoutText weight shown shownAll left body durationText component components shapeFrom shape counted readBy isBlank leadingBlanks untrailed stripped bare readBare readAs textOf inTicks inMonths atTicks movedTo moved shifted isZone adjustedFrom momentTo operandTo adjustOf up down orderIn sumOf plusOf lessMoment differenceIn minusIn same named oneText twoText answerBy answerOf exactly oneForm twoForm pairBy formBy formOf numberText refusedText table rowHolds tests allHold
 all-hold = refl
 
 alike : (a b : List ℕ) → same a b ≡ true → a ≡ b

@@ -29,7 +29,7 @@ dateText d = plain "year=" (d .year) ++ (plain " month=" (d .month) ++ plain " d
 -- "`seconds` has its fraction after a point, without final zeros, and no point where the fraction is zero"
 abbrev pub clockText : Clock → List ℕ
 clockText c =
-    plain "hours=" (c .hours) ++ (plain " minutes=" (c .minutes) ++ (bytes " seconds=" ++ numberText false (c .seconds) (c .micros)))
+    plain "hours=" (c .hours) ++ (plain " minutes=" (c .minutes) ++ (bytes " seconds=" ++ numberText false (c .seconds) (c .part)))
 
 -- "the offset in minutes, with a minus west of UTC, or `none`"
 abbrev pub zoneShown : Zone → List ℕ
@@ -55,7 +55,7 @@ lastingText l =
     ++ (signedPart " months=" (l .months) (pos 0)
     ++ (signedPart " days=" (l .days) (pos 0)
     ++ (signedPart " hours=" (l .hours) (pos 0)
-    ++ (signedPart " minutes=" (l .minutes) (pos 0) ++ signedPart " seconds=" (l .seconds) (l .micros)))))
+    ++ (signedPart " minutes=" (l .minutes) (pos 0) ++ signedPart " seconds=" (l .seconds) (l .part)))))
 
 unfoldable pub partsText : ComponentParts → List ℕ
 partsText (ofDate d z) = dateText d ++ (space ∷ zoneShown z)

@@ -32,7 +32,7 @@ fn with_clock(reply: Reply, c: Clock) -> Reply
 {
     let a = with_number(reply, b"hours=", false, c.hours as u32, 0);
     let b = with_number(a, b" minutes=", false, c.minutes as u32, 0);
-    with_number(b, b" seconds=", false, c.seconds as u32, c.micros)
+    with_number(b, b" seconds=", false, c.seconds as u32, c.part)
 }
 
 fn with_zone(reply: Reply, z: Zone) -> Reply
@@ -75,5 +75,5 @@ pub fn of_duration(l: Lasting) -> Reply
     let c = with_signed(b, b" days=", l.days, 0);
     let d = with_signed(c, b" hours=", l.hours, 0);
     let e = with_signed(d, b" minutes=", l.minutes, 0);
-    with_signed(e, b" seconds=", l.seconds, l.micros)
+    with_signed(e, b" seconds=", l.seconds, l.part)
 }

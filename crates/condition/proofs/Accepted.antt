@@ -8,7 +8,7 @@ use lib.ListN.{length}
 use lib.Dec.{leb}
 use borrow.Author.Tests.{leb-true}
 use Rattle.basis.specs.Choice.{pick, both}
-use Rattle.basis.specs.Answer.{Answer, gives, refuses}
+use Rattle.basis.specs.Answer.{Reason, Answer, gives, refusesFor, refuses}
 use Rattle.basis.proofs.Tests.{both-left, both-right}
 use Rattle.value.specs.Refusals.{badCondition, tooDeep}
 use Rattle.condition_depth.specs.Depth.{deep}
@@ -22,29 +22,29 @@ use Rattle.condition.specs.Condition.{checkOf, byKinds, byTree, passes, 
 passes-gives : (a : Answer (Unit {0})) → passes a ≡ true → a ≡ gives tt
 unfolding passes
 passes-gives (gives tt) e = refl
-passes-gives (refuses n) e = let z : _≡_ {A = ℕ} 0 1 = cc in absurd (omega arith)
+passes-gives (refusesFor r) e = let z : _≡_ {A = ℕ} 0 1 = cc in absurd (omega arith)
 
 -- an accepted condition passes its checks
 pub accepted-gives : (s : List ℕ) → accepted s ≡ true → checkOf s ≡ gives tt
 unfolding accepted
 accepted-gives s e = passes-gives (checkOf s) e
 
-refused-by : (a : Answer (Unit {0})) → passes a ≡ false → (n : ℕ) × (a ≡ refuses n)
+refused-by : (a : Answer (Unit {0})) → passes a ≡ false → (r : Reason) × (a ≡ refusesFor r)
 unfolding passes
 refused-by (gives x) e = let z : _≡_ {A = ℕ} 0 1 = cc in absurd (omega arith)
-refused-by (refuses n) e = (n, refl)
+refused-by (refusesFor r) e = (r, refl)
 
--- a text that is not accepted has its number
-pub not-accepted-refuses : (s : List ℕ) → accepted s ≡ false → (n : ℕ) × (checkOf s ≡ refuses n)
+-- a text that is not accepted has its refusal
+pub not-accepted-refuses : (s : List ℕ) → accepted s ≡ false → (r : Reason) × (checkOf s ≡ refusesFor r)
 unfolding accepted
 not-accepted-refuses s e = refused-by (checkOf s) e
 
-no-refusal : {A : Type 0} (n : ℕ) → _≡_ {A = Answer (Unit {0})} (refuses n) (gives tt) → A
-no-refusal n e = let z : _≡_ {A = ℕ} 0 1 = cc in absurd (omega arith)
+no-refusal : {A : Type 0} (r : Reason) → _≡_ {A = Answer (Unit {0})} (refusesFor r) (gives tt) → A
+no-refusal r e = let z : _≡_ {A = ℕ} 0 1 = cc in absurd (omega arith)
 
 lengths-hold : (s : List ℕ) (a : Answer (Unit {0})) (b : Bool) → pick b a (refuses badCondition) ≡ gives tt → b ≡ true
 lengths-hold s a true e = refl
-lengths-hold s a false e = no-refusal badCondition e
+lengths-hold s a false e = no-refusal _ e
 
 -- "Length 1 to 240 bytes."
 pub accepted-length : (s : List ℕ) → accepted s ≡ true → (minLength ≤ length s) × (length s ≤ maxLength)

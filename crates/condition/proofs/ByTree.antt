@@ -7,7 +7,8 @@ use native.Mathlib.Omega.{arith}
 use lib.ListN.{length}
 use borrow.Author.Tests.{le-leb}
 use Rattle.basis.specs.Choice.{both}
-use Rattle.basis.specs.Answer.{Answer, gives, refuses}
+use Rattle.basis.specs.Answer.{Reason, Answer, gives, refusesFor, refuses}
+use Rattle.basis.proofs.Answers.{refuses-same}
 use Rattle.value.specs.Refusals.{badCondition}
 use Rattle.value.specs.declared.Offset.{Offset}
 use Rattle.timetable.specs.Rows.{Row}
@@ -32,7 +33,7 @@ use Rattle.condition.proofs.Accepted.{accepted-length, accepted-stated}
 -- the number of a refusal is another than 7
 abbrev NotSeven : Answer (Unit {0}) → Type 0
 NotSeven (gives x) = Unit {0}
-NotSeven (refuses n) = n ≡ badCondition → ⊥
+NotSeven (refusesFor r) = r .number ≡ badCondition → ⊥
 
 text-not-seven : (n : ℕ) → ofText n ≡ true → n ≡ badCondition → ⊥
 text-not-seven n h e = let z : ofText badCondition ≡ true = ap ofText (sym e) ∙ h in let y : _≡_ {A = ℕ} 0 1 = cc in omega arith
@@ -40,12 +41,12 @@ text-not-seven n h e = let z : ofText badCondition ≡ true = ap ofText (sym e) 
 fits-not-seven : {A : Type 0} (a : Answer A) → Only a → NotSeven (fits a)
 unfolding fits
 fits-not-seven (gives v) h = tt
-fits-not-seven (refuses n) h = text-not-seven n h
+fits-not-seven (refusesFor r) h = text-not-seven (r .number) h
 
 first-not-seven : (a b : Answer (Unit {0})) → NotSeven a → NotSeven b → NotSeven (first a b)
 unfolding first
 first-not-seven (gives x) b p q = q
-first-not-seven (refuses n) b p q = p
+first-not-seven (refusesFor r) b p q = p
 
 kinds-not-seven : (x : Sort) → NotSeven (byKinds x)
 unfolding byKinds
@@ -62,7 +63,7 @@ literals-not-seven s (two o b p l r) = first-not-seven (firstBad s l) (firstBad 
 
 no-seven : (a : Answer (Unit {0})) → NotSeven a → a ≡ refuses badCondition → ⊥
 no-seven (gives x) n e = let z : _≡_ {A = ℕ} 0 1 = cc in omega arith
-no-seven (refuses m) n e = n (cc e)
+no-seven (refusesFor r) n e = n (ap (λ (x : Reason). x .number) (refuses-same r _ e))
 
 module _ (s : List ℕ) (k : length s ≤ maxLength) where
   result-of : (zone : Offset) (row : Row) (t : Tree) (n : ℕ) → parse s ≡ got t n → resultAt zone s row ≡ asResult (eval zone s row t)

@@ -7,7 +7,7 @@ use native.Mathlib.Omega.{arith}
 use lib.ListN.{length}
 use lib.Dec.{leb}
 use Rattle.basis.specs.Choice.{pick, both}
-use Rattle.basis.specs.Answer.{Answer, gives, refuses}
+use Rattle.basis.specs.Answer.{Answer, gives, refusesFor, refuses}
 use Rattle.value.specs.Refusals.{badCondition, tooDeep}
 use Rattle.text.specs.Reading.{readAs}
 use Rattle.condition_words.specs.Words.{between}
@@ -25,7 +25,7 @@ use Rattle.condition.specs.Laws.{atOpen, OpenNumbers}
 -- an answer whose number is one of Open's checks, if it is a refusal
 abbrev Told : Answer (Unit {0}) → Type 0
 Told (gives x) = Unit {0}
-Told (refuses n) = atOpen n ≡ true
+Told (refusesFor r) = atOpen (r .number) ≡ true
 
 either : (b r : Bool) → b ≡ true → pick b true r ≡ true
 either true r h = refl
@@ -34,12 +34,12 @@ either false r h = let z : _≡_ {A = ℕ} 0 1 = cc in absurd (omega arith)
 fits-told : {A : Type 0} (a : Answer A) → Only a → Told (fits a)
 unfolding fits
 fits-told (gives v) h = tt
-fits-told (refuses n) h = either (ofText n) _ h
+fits-told (refusesFor r) h = either (ofText (r .number)) _ h
 
 first-told : (a b : Answer (Unit {0})) → Told a → Told b → Told (first a b)
 unfolding first
 first-told (gives x) b p q = q
-first-told (refuses n) b p q = p
+first-told (refusesFor r) b p q = p
 
 kinds-told : (x : Sort) → Told (byKinds x)
 unfolding byKinds
@@ -66,4 +66,4 @@ checks-told s false d p = refl
 
 pub open-numbers : OpenNumbers
 unfolding checkOf
-open-numbers s n e = subst Told e (checks-told s (both (leb minLength (length s)) (leb (length s) maxLength)) (deep s) (parse s))
+open-numbers s r e = subst Told e (checks-told s (both (leb minLength (length s)) (leb (length s) maxLength)) (deep s) (parse s))

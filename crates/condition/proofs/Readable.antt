@@ -7,7 +7,7 @@ use mathlib.Core.List.{List}
 use Prim.Native.Nat.{ℕ, _<_, _≤_}
 use native.Mathlib.Omega.{arith}
 use Rattle.basis.specs.Choice.{pick}
-use Rattle.basis.specs.Answer.{Answer, gives, refuses, andThen}
+use Rattle.basis.specs.Answer.{Answer, gives, refusesFor, refuses, andThen}
 use Rattle.value.specs.Refusals.{noField, wrongKind}
 use Rattle.value.specs.Kinds.{kindOf, okValue}
 use Rattle.value.specs.Values.{okOffset}
@@ -54,7 +54,7 @@ use Rattle.condition_readers.proofs.Wholes.{good-length}
 abbrev Typed : Sort → Answer Datum → Type 0
 Typed x (gives (value v)) = (x ≡ S.Of (kindOf v)) × (okValue v ≡ true)
 Typed x (gives (truth b)) = x ≡ S.Truth
-Typed x (refuses n) = atRow n ≡ true
+Typed x (refusesFor r) = atRow (r .number) ≡ true
 
 differ : {A : Type 0} (k : Kind) → S.Truth ≡ S.Of k → A
 differ k e = let z : _≡_ {A = ℕ} 0 1 = cc in absurd (omega arith)
@@ -62,7 +62,7 @@ differ k e = let z : _≡_ {A = ℕ} 0 1 = cc in absurd (omega arith)
 -- a value that was answered
 fits-typed : (k : Kind) (r : Answer Value) → Fits k r → ((v : Value) → r ≡ gives v → okValue v ≡ true) → Typed (S.Of k) (valued r)
 fits-typed k (gives v) f w = (ap S.Of (sym f), w v refl)
-fits-typed k (refuses n) f w = ap atRow f
+fits-typed k (refusesFor r) f w = ap atRow f
 
 sort-typed : (x : Sort) (r : Answer Value) → (x ≡ S.Clash → ⊥) → FitsSort x r → ((v : Value) → r ≡ gives v → okValue v ≡ true) → Typed x (valued r)
 sort-typed S.Clash r n f w = absurd (n refl)
@@ -72,7 +72,7 @@ sort-typed (S.Of k) r n f w = fits-typed k r f w
 -- literals and fields
 read-typed : (k : Kind) (r : Answer Value) → Only r → ((v : Value) → r ≡ gives v → Valid k v) → Typed (S.Of k) (valued r)
 read-typed k (gives v) h w = (ap S.Of (sym (w v refl .kind)), w v refl .ok)
-read-typed k (refuses n) h w = text-at-row n h
+read-typed k (refusesFor r) h w = text-at-row (r .number) h
 
 text-typed : (k : Kind) (s : List ℕ) → Typed (S.Of k) (valued (readAs k s))
 text-typed k s = read-typed k (readAs k s) (read-only k s) (what-reads-is-valid k s)
@@ -100,14 +100,14 @@ cast-typed : (k : Kind) (x : Sort) (a : Answer Datum) → (sortCast k x ≡ S.Cl
 unfolding andThen
 cast-typed k x (gives (value v)) n h = subst (λ y. (sortCast k y ≡ S.Clash → ⊥) → Typed (sortCast k y) (valued (castOf v k))) (sym (h .0)) (cast-value k v (h .1)) n
 cast-typed k x (gives (truth b)) n h = absurd (n (ap (sortCast k) h))
-cast-typed k x (refuses m) n h = h
+cast-typed k x (refusesFor r) n h = h
 
 times-typed : (b : Bool) (v : ℕ) (x : Sort) (a : Answer Datum) → v < 1000000 → (sortTimes x ≡ S.Clash → ⊥) → Typed x a → Typed (sortTimes x) (andThen a (timesDatum b v))
 unfolding andThen
 times-typed b v x (gives (value u)) l n h = subst (λ y. (sortTimes y ≡ S.Clash → ⊥) → Typed (sortTimes y) (valued (timesOf u b v))) (sym (h .0))
     (λ m. sort-typed (sortTimes (S.Of (kindOf u))) (timesOf u b v) m (times-settled u (h .1) b v (omega arith)) (times-within u b v)) n
 times-typed b v x (gives (truth c)) l n h = absurd (n (ap sortTimes h))
-times-typed b v x (refuses m) l n h = h
+times-typed b v x (refusesFor r) l n h = h
 
 module _ (zone : Offset) (good : okOffset zone ≡ true) where
   -- two parts
@@ -154,7 +154,7 @@ module _ (zone : Offset) (good : okOffset zone ≡ true) where
   unfolding andThen
   after-truth o z y (gives (value w)) n h = absurd (n (ap (sortTwo o S.Truth) (h .0)))
   after-truth o z y (gives (truth u)) n h = joined-truths o z u y h n
-  after-truth o z y (refuses m) n h = h
+  after-truth o z y (refusesFor r) n h = h
 
   settled-typed : (o : Op) (z : Bool) (y : Sort) (b : Answer Datum) (c : Bool) → (sortTwo o S.Truth y ≡ S.Clash → ⊥) → Typed y b →
       Typed (sortTwo o S.Truth y) (pick c (gives (truth z)) (andThen b (applied zone (roleOf o) (truth z))))
@@ -167,7 +167,7 @@ module _ (zone : Offset) (good : okOffset zone ≡ true) where
   after-value o v y (gives (value w)) p n h =
       subst (λ y. (sortTwo o (S.Of (kindOf v)) y ≡ S.Clash → ⊥) → Typed (sortTwo o (S.Of (kindOf v)) y) (ofValues zone (roleOf o) v w)) (sym (h .0)) (λ m. values-typed (roleOf o) v w p (h .1) m) n
   after-value o v y (gives (truth u)) p n h = absurd (n (ap (sortTwo o (S.Of (kindOf v))) h))
-  after-value o v y (refuses m) p n h = h
+  after-value o v y (refusesFor r) p n h = h
 
   two-typed : (o : Op) (x y : Sort) (a b : Answer Datum) → (sortTwo o x y ≡ S.Clash → ⊥) → Typed x a → Typed y b → Typed (sortTwo o x y) (joined zone o a b)
   unfolding joined andThen
@@ -176,7 +176,7 @@ module _ (zone : Offset) (good : okOffset zone ≡ true) where
   two-typed o x y (gives (truth z)) b n h i =
       subst (λ x. (sortTwo o x y ≡ S.Clash → ⊥) → Typed (sortTwo o x y) (pick (settles (roleOf o) z) (gives (truth z)) (andThen b (applied zone (roleOf o) (truth z))))) (sym h)
       (λ m. settled-typed o z y b (settles (roleOf o) z) m i) n
-  two-typed o x y (refuses m) b n h i = h
+  two-typed o x y (refusesFor r) b n h i = h
 
   -- a tree whose kinds fit
   tree-typed : (s : List ℕ) (row : Row) (t : Tree) → Bounded t → (sortOf t ≡ S.Clash → ⊥) → Typed (sortOf t) (eval zone s row t)
@@ -194,7 +194,7 @@ unfolding asResult
 shown-readable (gives (value v)) h = differ (kindOf v) (h .0)
 shown-readable (gives (truth true)) h = tt
 shown-readable (gives (truth false)) h = tt
-shown-readable (refuses n) h = h
+shown-readable (refusesFor r) h = h
 
 clash-no : (t : Tree) → sortOf t ≡ S.Truth → sortOf t ≡ S.Clash → ⊥
 clash-no t e f = clash-no-truth (sym f ∙ e)

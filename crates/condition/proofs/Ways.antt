@@ -7,7 +7,8 @@ use lib.ListN.{length}
 use lib.Dec.{leb}
 use borrow.Author.Tests.{le-leb, lt-leb}
 use Rattle.basis.specs.Choice.{pick, both}
-use Rattle.basis.specs.Answer.{Answer, gives, refuses}
+use Rattle.basis.specs.Answer.{Answer, gives, refusesFor, onlyNumber, refuses}
+use Rattle.value.specs.Reasons.{reasonOf}
 use Rattle.value.specs.Refusals.{badCondition, tooDeep, wrongKind}
 use Rattle.value.specs.declared.Offset.{Offset}
 use Rattle.value_instants.specs.Ticks.{utc}
@@ -41,13 +42,13 @@ use Rattle.condition.specs.declared.Checked.the-variants as C
 literals-bad : (a : Answer (Unit {0})) → literals (badOf a) ≡ a
 unfolding literals
 literals-bad (gives tt) = refl
-literals-bad (refuses n) = refl
+literals-bad (refusesFor r) = refl
 
 shown-live : (a : Answer Datum) → resulting (givenOf a) ≡ asResult a
 unfolding resulting asResult
 shown-live (gives (value v)) = refl
 shown-live (gives (truth x)) = refl
-shown-live (refuses n) = refl
+shown-live (refusesFor r) = refl
 
 module _ (s : List ℕ) (a : Answer (Unit {0})) where
   pub check-short : length s < minLength → a ≡ refuses badCondition → a ≡ checkOf s
@@ -90,7 +91,7 @@ module _ (s : List ℕ) (a : Answer (Unit {0})) where
         check-got v n b e = by-tree f (tree-got (parse s) v n (sym b ∙ of-parse) e)
 
 module _ (zone : Offset) (s : List ℕ) (row : Row) (g : Read) (q : g ≡ readOf zone s row Live (parseWithin s)) where
-  live-bad : (p : Parsed Tree) → Bad ≡ readOf zone s row Live p → unreadable badCondition ≡ ofTree zone s row p
+  live-bad : (p : Parsed Tree) → Bad ≡ readOf zone s row Live p → unreadable (onlyNumber badCondition) ≡ ofTree zone s row p
   unfolding readOf ofTree
   live-bad none i = refl
   live-bad (got u n) i = no-part (partOf zone s row Live u) n i
@@ -100,18 +101,18 @@ module _ (zone : Offset) (s : List ℕ) (row : Row) (g : Read) (q : g ≡ readOf
   live-got none v n i = no-part v n (sym i)
   live-got (got u j) v n i = let w : v ≡ partOf zone s row Live u = cc in ap (λ x. resulting (x .given)) w ∙ shown-live (eval zone s row u)
 
-  pub judge-bad : g ≡ Bad → gives (unreadable badCondition) ≡ gives (resultAt zone s row)
+  pub judge-bad : (a : Answer Result) → g ≡ Bad → a ≡ gives (unreadable (onlyNumber badCondition)) → a ≡ gives (resultAt zone s row)
   unfolding resultAt
-  judge-bad b = ap gives (live-bad (parseWithin s) (sym b ∙ q))
+  judge-bad a b e = e ∙ ap gives (live-bad (parseWithin s) (sym b ∙ q))
 
   pub judge-got : (v : Part) (n : ℕ) (a : Answer Result) → g ≡ Got v n → a ≡ gives (resulting (v .given)) → a ≡ gives (resultAt zone s row)
   unfolding resultAt
   judge-got v n a b e = e ∙ ap gives (live-got (parseWithin s) v n (sym b ∙ q))
 
 module _ (s line : List ℕ) (x : Checked) (e : checked x ≡ checkOf s) where
-  pub result-refused : (r : Refusal) → x ≡ C.Refused r → refuses (r .number) ≡ resultOf s line
+  pub result-refused : (r : Refusal) → x ≡ C.Refused r → refusesFor (reasonOf r) ≡ resultOf s line
   unfolding resultOf ifAccepted
-  result-refused r b = let k : refuses (r .number) ≡ checkOf s = sym (ap checked b) ∙ e in rw (← k)
+  result-refused r b = let k : refusesFor (reasonOf r) ≡ checkOf s = sym (ap checked b) ∙ e in rw (← k)
 
   -- with no made text, and in UTC
   pub result-judged : (zone : Offset) (made : List ℕ) (a : Answer Result) → x ≡ C.Accepted → zone ≡ utc → made ≡ [] → a ≡ gives (resultAt zone s (rowWith line made))
@@ -148,7 +149,7 @@ module _ (g : Given) where
   unfolding literals
   truth-good b h = rw h
 
-  pub one-bad : (r : Refusal) → g ≡ G.Refused r → refuses (r .number) ≡ literals g
+  pub one-bad : (r : Refusal) → g ≡ G.Refused r → refusesFor (reasonOf r) ≡ literals g
   unfolding literals
   one-bad r h = rw h
 
@@ -156,7 +157,7 @@ pub first-good : (x y : Checked) → x ≡ C.Accepted → checked y ≡ first (c
 unfolding first
 first-good x y e = rw e
 
-pub first-bad : (x y : Checked) (r : Refusal) → x ≡ C.Refused r → refuses (r .number) ≡ first (checked x) (checked y)
+pub first-bad : (x y : Checked) (r : Refusal) → x ≡ C.Refused r → refusesFor (reasonOf r) ≡ first (checked x) (checked y)
 unfolding first
 first-bad x y r e = rw e
 
@@ -164,13 +165,13 @@ pub kinds-first : (x : Sort) (g : Given) (a b c : Answer (Unit {0})) → a ≡ b
 kinds-first x g a b c e f h = h ∙ (λ i. first (e i) (f i))
 
 module _ (g : Given) where
-  pub shows-nothing : g ≡ G.Nothing → gives (unreadable wrongKind) ≡ gives (resulting g)
+  pub shows-nothing : (a : Answer Result) → g ≡ G.Nothing → a ≡ gives (unreadable (onlyNumber wrongKind)) → a ≡ gives (resulting g)
   unfolding resulting
-  shows-nothing h = rw h
+  shows-nothing a h e = rw h e
 
-  pub shows-value : (v : Value) → g ≡ G.Is v → gives (unreadable wrongKind) ≡ gives (resulting g)
+  pub shows-value : (a : Answer Result) (v : Value) → g ≡ G.Is v → a ≡ gives (unreadable (onlyNumber wrongKind)) → a ≡ gives (resulting g)
   unfolding resulting
-  shows-value v h = rw h
+  shows-value a v h e = rw h e
 
   pub shows-hit : (b : Bool) → g ≡ G.Truth b → b ≡ true → gives hit ≡ gives (resulting g)
   unfolding resulting
@@ -180,6 +181,6 @@ module _ (g : Given) where
   unfolding resulting
   shows-miss b h e = rw (h, e)
 
-  pub shows-refused : (r : Refusal) → g ≡ G.Refused r → gives (unreadable (r .number)) ≡ gives (resulting g)
+  pub shows-refused : (r : Refusal) → g ≡ G.Refused r → gives (unreadable (reasonOf r)) ≡ gives (resulting g)
   unfolding resulting
   shows-refused r h = rw h

@@ -7,7 +7,8 @@ use mathlib.Core.List.{List}
 use lib.ListN.{length}
 use lib.Dec.{leb}
 use Rattle.basis.specs.Choice.{pick, both}
-use Rattle.basis.specs.Answer.{Answer, gives, refuses}
+use Rattle.basis.specs.Answer.{Reason, Answer, gives, refusesFor, onlyNumber, refuses}
+use Rattle.value.specs.Reasons.{reasonOf}
 use Rattle.value.specs.Refusals.{badCondition, tooDeep, wrongKind}
 use Rattle.value.specs.declared.Offset.{Offset}
 use Rattle.value_instants.specs.Ticks.{utc}
@@ -29,7 +30,7 @@ use Rattle.condition.specs.declared.Judged.the-variants as J
 -- whether an answer is no refusal
 unfoldable pub passes : Answer (Unit {0}) → Bool
 passes (gives x) = true
-passes (refuses n) = false
+passes (refusesFor r) = false
 
 -- "the whole condition need[s] truth values"
 unfoldable pub byKinds : Sort → Answer (Unit {0})
@@ -49,7 +50,7 @@ checkOf s =
 -- what an answer says: that the condition is accepted, or the number of a refusal
 abbrev pub checked : Checked → Answer (Unit {0})
 checked C.Accepted = gives tt
-checked (C.Refused r) = refuses (r .number)
+checked (C.Refused r) = refusesFor (reasonOf r)
 
 -- a condition that passes Open's checks
 unfoldable pub accepted : List ℕ → Bool
@@ -59,16 +60,16 @@ accepted s = passes (checkOf s)
 pub data Result : Type 0 where
   hit : Result
   miss : Result
-  unreadable : ℕ → Result
+  unreadable : Reason → Result
 
 -- "A refusal in an evaluated part is the line's result." No accepted condition gives a value.
 unfoldable pub asResult : Answer Datum → Result
-asResult (gives (value v)) = unreadable wrongKind
+asResult (gives (value v)) = unreadable (onlyNumber wrongKind)
 asResult (gives (truth x)) = pick x hit miss
-asResult (refuses n) = unreadable n
+asResult (refusesFor r) = unreadable r
 
 unfoldable pub ofTree : Offset → List ℕ → Row → Parsed Tree → Result
-ofTree zone s row none = unreadable badCondition
+ofTree zone s row none = unreadable (onlyNumber badCondition)
 ofTree zone s row (got t n) = asResult (eval zone s row t)
 
 -- the result of a condition at a row, in a zone; Unreadable with 7 of a text that is none by its length, depth or grammar, which Open does not
@@ -79,7 +80,7 @@ resultAt zone s row = ofTree zone s row (parseWithin s)
 -- the result of any text at a line as it stands, in UTC: Open's number where the text is not accepted
 unfoldable pub ifAccepted : Answer (Unit {0}) → Result → Answer Result
 ifAccepted (gives x) v = gives v
-ifAccepted (refuses n) v = refuses n
+ifAccepted (refusesFor r) v = refusesFor r
 
 unfoldable pub resultOf : List ℕ → List ℕ → Answer Result
 resultOf s line = ifAccepted (checkOf s) (resultAt utc s (rowOf line))
@@ -88,5 +89,5 @@ resultOf s line = ifAccepted (checkOf s) (resultAt utc s (rowOf line))
 abbrev pub judged : Judged → Answer Result
 judged J.Hit = gives hit
 judged J.Miss = gives miss
-judged (J.Unreadable r) = gives (unreadable (r .number))
-judged (J.Refused r) = refuses (r .number)
+judged (J.Unreadable r) = gives (unreadable (reasonOf r))
+judged (J.Refused r) = refusesFor (reasonOf r)

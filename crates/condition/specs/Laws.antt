@@ -7,7 +7,7 @@ use Prim.Native.Nat.{ℕ, _≤_}
 use lib.Dec.{eqb}
 use lib.ListN.{length}
 use Rattle.basis.specs.Choice.{pick}
-use Rattle.basis.specs.Answer.{gives, refuses}
+use Rattle.basis.specs.Answer.{Reason, gives, refusesFor, refuses}
 use Rattle.basis.specs.Exactly.{Exactly}
 use Rattle.value.specs.Refusals.{noField, badCondition, tooDeep, wrongKind}
 use Rattle.value.specs.Values.{okOffset}
@@ -53,14 +53,14 @@ abbrev pub atOpen : ℕ → Bool
 atOpen n = pick (ofText n) true (pick (eqb n badCondition) true (pick (eqb n tooDeep) true (eqb n wrongKind)))
 
 abbrev pub OpenNumbers : Type 0
-OpenNumbers = (s : List ℕ) (n : ℕ) → checkOf s ≡ refuses n → atOpen n ≡ true
+OpenNumbers = (s : List ℕ) (r : Reason) → checkOf s ≡ refusesFor r → atOpen (r .number) ≡ true
 
 -- of an accepted condition the result at any row, in any zone within its bounds, is hit, miss, or unreadable with 1, 2, 3, 4 or 6; proved
 -- as `accepted-readable`
 abbrev pub Readable : Result → Type 0
 Readable hit = Unit {0}
 Readable miss = Unit {0}
-Readable (unreadable n) = atRow n ≡ true
+Readable (unreadable r) = atRow (r .number) ≡ true
 
 abbrev pub AcceptedReadable : Type 0
 AcceptedReadable = (zone : Offset) (s : List ℕ) (row : Row) → okOffset zone ≡ true → accepted s ≡ true → Readable (resultAt zone s row)

@@ -9,10 +9,11 @@ use value::Offset;
 use value::Refusal;
 use value_instants::ticks;
 ghost use mathlib.Core.Path.{_≡_};
-ghost use Rattle.basis.specs.Answer.{gives, refuses};
+ghost use Rattle.basis.specs.Answer.{gives, onlyNumber, refuses};
 ghost use Rattle.timetable.specs.Rows.{rowWith};
 ghost use Rattle.condition_readers.specs.Meaning as meaning;
 ghost use Rattle.condition.specs.Condition.{checked, checkOf, resultAt, resultOf, judged, byKinds};
+ghost use Rattle.condition.specs.Condition as its;
 ghost use Rattle.condition.specs.Carried as the;
 
 // Whether a condition's text is accepted.
@@ -37,7 +38,7 @@ pub const MAX_LENGTH: usize = condition_readers::MAX_LENGTH;
 fn refused(number: u8) -> Checked
     ensures { λ r. ⌜ checked r ≡ refuses number ⌝ }
 {
-    Checked::Refused(Refusal { number })
+    Checked::Refused(Refusal::numbered(number))
 }
 
 // What the kinds say: a whole condition is a truth value.
@@ -103,17 +104,19 @@ pub fn check(text: &[u8]) -> Checked
     }
 }
 
+fn unreadable(number: u8) -> Judged
+    ensures { λ r. ⌜ judged r ≡ gives (its.unreadable (onlyNumber number)) ⌝ }
+{
+    Judged::Unreadable(Refusal::numbered(number))
+}
+
 // What an evaluated condition says of its row.
 fn judged_of(given: Given) -> Judged
     ensures { λ r. ⌜ judged r ≡ gives (the.resulting given) ⌝ }
 {
     match given {
-        Given::Nothing => Judged::Unreadable(Refusal {
-            number: Refusal::WRONG_KIND,
-        }),
-        Given::Is(_) => Judged::Unreadable(Refusal {
-            number: Refusal::WRONG_KIND,
-        }),
+        Given::Nothing => unreadable(Refusal::WRONG_KIND),
+        Given::Is(_) => unreadable(Refusal::WRONG_KIND),
         Given::Truth(x) => {
             if x {
                 return Judged::Hit;
@@ -130,9 +133,7 @@ pub fn judge(text: &[u8], line: &[u8], made: &[u8], zone: Offset) -> Judged
     ensures { λ r. ⌜ judged r ≡ gives (resultAt zone (now (text .entry)) (rowWith (now (line .entry)) (now (made .entry)))) ⌝ }
 {
     match condition_readers::whole(text, line, Mode::Live, made, zone) {
-        Read::Bad => Judged::Unreadable(Refusal {
-            number: Refusal::BAD_CONDITION,
-        }),
+        Read::Bad => unreadable(Refusal::BAD_CONDITION),
         Read::Got(part, _) => {
             let given = part.given;
             judged_of(given)

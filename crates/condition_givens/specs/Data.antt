@@ -1,6 +1,6 @@
 -- Document 01, "Conditions": what a part of a condition gives is a value or a truth value, or a refusal.
 use mathlib.Core.Bool.{Bool}
-use Rattle.basis.specs.Answer.{Answer, gives, refuses}
+use Rattle.basis.specs.Answer.{Answer, gives, refusesFor}
 use Rattle.value.specs.declared.Value.{Value}
 
 pub data Datum : Type 0 where
@@ -10,4 +10,4 @@ pub data Datum : Type 0 where
 -- a value that was answered
 abbrev pub valued : Answer Value → Answer Datum
 valued (gives v) = gives (value v)
-valued (refuses n) = refuses n
+valued (refusesFor r) = refusesFor r

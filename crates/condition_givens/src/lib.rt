@@ -33,7 +33,7 @@ pub enum Mode {
 pub fn refused(number: u8) -> Given
     ensures { λ r. ⌜ r ≡ the.givenOf (refuses number) ⌝ }
 {
-    Given::Refused(Refusal { number })
+    Given::Refused(Refusal::numbered(number))
 }
 
 // A value that was answered.

@@ -1,11 +1,11 @@
 -- On valid values, in a zone within its bounds, an operation is refused with 9 exactly where the kinds clash; and what `or` and `and`
 -- leave without evaluation.
-use mathlib.Core.Path.{_≡_, refl}
+use mathlib.Core.Path.{_≡_, refl, ap}
 use mathlib.Core.Bool.{Bool, true, false}
 use Prim.Native.Nat.{ℕ}
 use native.Mathlib.Omega.{arith}
 use Rattle.basis.specs.Choice.{pick, both}
-use Rattle.basis.specs.Answer.{Answer, gives, refuses, andThen}
+use Rattle.basis.specs.Answer.{Reason, Answer, gives, refusesFor, refuses, andThen}
 use Rattle.basis.specs.Exactly.{Exactly}
 use Rattle.value.specs.Kinds.{kindOf, okValue}
 use Rattle.value.specs.Refusals.{wrongKind}
@@ -22,6 +22,7 @@ use Rattle.operation_arithmetic.specs.Products.{timesOf}
 use Rattle.condition_sorts.specs.Sorts.{comparedKinds, addedKinds, lessKinds, sortCast, sortTimes}
 use Rattle.condition_parts.specs.Evaluation.{joined, ShortCircuit}
 use Rattle.condition_parts.specs.Fitting.{ClashIs9}
+use Rattle.basis.proofs.Answers.{refuses-same}
 use Rattle.condition_sorts.specs.declared.Sort.{Sort}
 use Rattle.condition_sorts.specs.declared.Sort.the-variants as S
 use Rattle.condition_parts.proofs.Settled.{Fits, FitsSort, plus-settled, minus-settled, times-settled}
@@ -37,7 +38,7 @@ no-refusal v e = let z : _≡_ {A = ℕ} 0 1 = cc in omega arith
 
 fits-no-9 : (k : Kind) (r : Answer Value) → Fits k r → r ≡ refuses wrongKind → ⊥
 fits-no-9 k (gives v) f e = no-refusal v e
-fits-no-9 k (refuses n) f e = let q : n ≡ wrongKind = cc in omega arith
+fits-no-9 k (refusesFor r) f e = let q : r .number ≡ wrongKind = ap (λ (x : Reason). x .number) (refuses-same r _ e) in omega arith
 
 -- by the sort that the kinds settle, and by a test of the kinds
 by-sort : (x : Sort) (r : Answer Value) → FitsSort x r → Exactly (x ≡ S.Clash) (r ≡ refuses wrongKind)
@@ -79,7 +80,7 @@ short-circuit zone =
       and-false = λ r. refl;
       or-false = λ y. refl;
       and-true = λ y. refl;
-      or-refused = λ n. refl;
-      and-refused = λ n. refl;
-      left-first = λ o n r. refl;
+      or-refused = λ why. refl;
+      and-refused = λ why. refl;
+      left-first = λ o why r. refl;
     }

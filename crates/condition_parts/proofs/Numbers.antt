@@ -6,7 +6,7 @@ use Prim.Native.Nat.{ℕ}
 use native.Mathlib.Omega.{arith}
 use lib.Dec.{eqb}
 use Rattle.basis.specs.Choice.{pick}
-use Rattle.basis.specs.Answer.{Answer, gives, refuses}
+use Rattle.basis.specs.Answer.{Answer, gives, refusesFor}
 use Rattle.value.specs.Refusals.{badText, beyondBounds, longFraction, beyondResult, noField}
 use Rattle.value.specs.declared.Kind.{Kind}
 use Rattle.value.specs.declared.Value.{Value}
@@ -28,7 +28,7 @@ text-at-row n h = by (eqb n badText) (eqb n beyondBounds) (eqb n longFraction) h
 -- an answer whose number is one of a value's text, if it is a refusal
 abbrev pub Only : {A : Type 0} → Answer A → Type 0
 Only (gives v) = Unit {0}
-Only (refuses n) = ofText n ≡ true
+Only (refusesFor r) = ofText (r .number) ≡ true
 
 -- reading a value is refused with one of them
 pub read-only : (k : Kind) (s : List ℕ) → Only (readAs k s)
@@ -42,4 +42,4 @@ read-only k s = by (readAs k s) refl
 
     by : (x : Answer Value) → readAs k s ≡ x → Only x
     by (gives v) e = tt
-    by (refuses n) e = listed (eqb n badText) (eqb n beyondBounds) (eqb n longFraction) (read-refuses k s n e)
+    by (refusesFor r) e = listed (eqb (r .number) badText) (eqb (r .number) beyondBounds) (eqb (r .number) longFraction) (read-refuses k s r e)

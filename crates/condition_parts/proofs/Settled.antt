@@ -7,7 +7,7 @@ use native.Mathlib.Omega.{arith}
 use lib.Dec.{leb}
 use borrow.Author.Tests.{le-leb}
 use Rattle.basis.specs.Choice.{pick, both}
-use Rattle.basis.specs.Answer.{Answer, gives, refuses}
+use Rattle.basis.specs.Answer.{Answer, gives, refusesFor, refuses}
 use Rattle.calendar.specs.Calendar.{monthCount}
 use Rattle.value.specs.Bounds.{minYear, maxYear}
 use Rattle.value.specs.Refusals.{wrongKind}
@@ -39,7 +39,7 @@ use Rattle.condition_sorts.specs.declared.Sort.the-variants as S
 -- a value of a kind, or 4
 abbrev pub Fits : Kind → Answer Value → Type 0
 Fits k (gives v) = kindOf v ≡ k
-Fits k (refuses n) = n ≡ 4
+Fits k (refusesFor r) = r .number ≡ 4
 
 -- the same, by the sort that the kinds settle, which of a sum, difference or product is no truth value; 9 where they clash
 abbrev pub FitsSort : Sort → Answer Value → Type 0

@@ -6,7 +6,7 @@ use mathlib.Core.Path.{_≡_}
 use mathlib.Core.Bool.{Bool, true, false}
 use Prim.Native.Nat.{ℕ}
 use Rattle.basis.specs.Choice.{pick}
-use Rattle.basis.specs.Answer.{Answer, gives, refuses, andThen}
+use Rattle.basis.specs.Answer.{Reason, Answer, gives, refusesFor, refuses, andThen}
 use Rattle.value.specs.Refusals.{wrongKind}
 use Rattle.value.specs.declared.Offset.{Offset}
 use Rattle.value.specs.declared.Kind.{Kind}
@@ -31,7 +31,7 @@ holds l e g greater = g
 -- what a comparison gives of the order that was answered
 abbrev pub tested : Bool → Bool → Bool → Answer Order → Answer Datum
 tested l e g (gives x) = gives (truth (holds l e g x))
-tested l e g (refuses n) = refuses n
+tested l e g (refusesFor r) = refusesFor r
 
 -- an operator between two values, by what it does
 abbrev pub ofValues : Offset → Role → Value → Value → Answer Datum
@@ -64,9 +64,9 @@ pub record ShortCircuit (zone : Offset) : Type 0 where
   pub and-false : (right : Answer Datum) → joined zone O.And (gives (truth false)) right ≡ gives (truth false)
   pub or-false : (y : Bool) → joined zone O.Or (gives (truth false)) (gives (truth y)) ≡ gives (truth y)
   pub and-true : (y : Bool) → joined zone O.And (gives (truth true)) (gives (truth y)) ≡ gives (truth y)
-  pub or-refused : (n : ℕ) → joined zone O.Or (gives (truth false)) (refuses n) ≡ refuses n
-  pub and-refused : (n : ℕ) → joined zone O.And (gives (truth true)) (refuses n) ≡ refuses n
-  pub left-first : (o : Op) (n : ℕ) (right : Answer Datum) → joined zone o (refuses n) right ≡ refuses n
+  pub or-refused : (why : Reason) → joined zone O.Or (gives (truth false)) (refusesFor why) ≡ refusesFor why
+  pub and-refused : (why : Reason) → joined zone O.And (gives (truth true)) (refusesFor why) ≡ refusesFor why
+  pub left-first : (o : Op) (why : Reason) (right : Answer Datum) → joined zone o (refusesFor why) right ≡ refusesFor why
 
 -- a sum that is cast, and a term times a whole number
 abbrev pub castDatum : Kind → Datum → Answer Datum

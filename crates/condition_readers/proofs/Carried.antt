@@ -5,7 +5,7 @@ use mathlib.Core.Bool.{Bool, true, false}
 use mathlib.Core.List.{List}
 use Prim.Native.Nat.{ℕ}
 use Rattle.basis.specs.Choice.{pick}
-use Rattle.basis.specs.Answer.{Answer, gives, refuses, andThen}
+use Rattle.basis.specs.Answer.{Answer, gives, refusesFor, andThen}
 use Rattle.value.specs.declared.Kind.{Kind}
 use Rattle.value.specs.declared.Offset.{Offset}
 use Rattle.timetable.specs.Rows.{Row}
@@ -37,22 +37,22 @@ with-given x g h e = ap (λ y. record { sort = x; given = y }) e
 bad-fits : {A : Type 0} (a : Answer A) → badOf a ≡ badOf (fits a)
 unfolding fits
 bad-fits (gives v) = refl
-bad-fits (refuses n) = refl
+bad-fits (refusesFor r) = refl
 
 -- one part below, checked and evaluated
 onto-bad : (f : Datum → Answer Datum) (a : Answer (Unit {0})) → ontoGiven (badOf a) f ≡ badOf a
 onto-bad f (gives x) = refl
-onto-bad f (refuses n) = refl
+onto-bad f (refusesFor r) = refl
 
 onto-live : (f : Datum → Answer Datum) (a : Answer Datum) → ontoGiven (givenOf a) f ≡ givenOf (andThen a f)
 unfolding andThen
 onto-live f (gives (value v)) = refl
 onto-live f (gives (truth x)) = refl
-onto-live f (refuses n) = refl
+onto-live f (refusesFor r) = refl
 
 refused-bad : (a : Answer (Unit {0})) → refusedGiven (badOf a) ≡ badOf a
 refused-bad (gives x) = refl
-refused-bad (refuses n) = refl
+refused-bad (refusesFor r) = refl
 
 module _ (zone : Offset) (s : List ℕ) (row : Row) where
   literal-carried : (m : Mode) (k : Kind) (w from to : ℕ) → givenOfText m (readAs k (between s from to)) ≡ givenIn zone s row m (leaf k w (literal from to))
@@ -78,7 +78,7 @@ module _ (zone : Offset) (s : List ℕ) (row : Row) where
   two-bad : (o : Op) (a : Answer (Unit {0})) (u : Tree) → twoGiven zone o (badOf a) (givenIn zone s row (afterGiven o Check (badOf a)) u) ≡ badOf (first a (firstBad s u))
   unfolding givenIn first
   two-bad o (gives x) u = refused-bad (firstBad s u)
-  two-bad o (refuses n) u = refl
+  two-bad o (refusesFor r) u = refl
 
   settled-live : (r : Role) (x : Bool) (u : Tree) (b : Bool) → pick b (G.Truth x) (ontoGiven (givenIn zone s row (pick b Dead Live) u) (applied zone r (truth x))) ≡
       givenOf (pick b (gives (truth x)) (andThen (eval zone s row u) (applied zone r (truth x))))
@@ -90,7 +90,7 @@ module _ (zone : Offset) (s : List ℕ) (row : Row) where
   unfolding givenIn joined andThen
   two-live o (gives (value v)) u = onto-live (applied zone (roleOf o) (value v)) (eval zone s row u)
   two-live o (gives (truth x)) u = settled-live (roleOf o) x u (settles (roleOf o) x)
-  two-live o (refuses n) u = refl
+  two-live o (refusesFor r) u = refl
 
   two-carried : (m : Mode) (o : Op) (b p : ℕ) (t u : Tree) →
       twoGiven zone o (givenIn zone s row m t) (givenIn zone s row (afterGiven o m (givenIn zone s row m t)) u) ≡ givenIn zone s row m (two o b p t u)

@@ -2,7 +2,7 @@
 -- at a row, in the zone that values without one count in.
 use Prim.Native.Nat.{ℕ}
 use mathlib.Core.List.{List}
-use Rattle.basis.specs.Answer.{Answer, gives, refuses, andThen}
+use Rattle.basis.specs.Answer.{Answer, gives, refusesFor, andThen}
 use Rattle.value.specs.declared.Offset.{Offset}
 use Rattle.timetable.specs.Rows.{Row}
 use Rattle.text.specs.Reading.{readAs}
@@ -25,11 +25,11 @@ sortOf (two o b p l r) = sortTwo o (sortOf l) (sortOf r)
 -- the leftmost bad literal's own number, or that there is none
 unfoldable pub fits : {A : Type 0} → Answer A → Answer (Unit {0})
 fits (gives v) = gives tt
-fits (refuses n) = refuses n
+fits (refusesFor r) = refusesFor r
 
 unfoldable pub first : Answer (Unit {0}) → Answer (Unit {0}) → Answer (Unit {0})
 first (gives x) b = b
-first (refuses n) b = refuses n
+first (refusesFor r) b = refusesFor r
 
 unfoldable pub firstBad : List ℕ → Tree → Answer (Unit {0})
 firstBad s (leaf k w (literal from to)) = fits (readAs k (between s from to))

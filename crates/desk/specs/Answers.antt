@@ -2,7 +2,8 @@
 -- beside its answer. For each answer enum there is one definition that gives document 01's number, or the values; that of a
 -- turn is `turnMeaning` of the crate `desk_seat`.
 use Prim.Native.Nat.{ℕ}
-use Rattle.basis.specs.Answer.{Answer, gives, refuses}
+use Rattle.basis.specs.Answer.{Answer, gives, refusesFor}
+use Rattle.value.specs.Reasons.{reasonOf}
 use Rattle.desk_seat.specs.Answers.{Turned, turnMeaning}
 use Rattle.desk.specs.declared.Desk.{Desk}
 use Rattle.desk.specs.declared.FreshAnswer.{FreshAnswer}
@@ -26,17 +27,17 @@ pub record After (A : Type 0) : Type 0 where
 -- a fresh desk is made, or not
 abbrev pub freshMeaning : FreshAnswer → Answer (Unit {0})
 freshMeaning FV.Made = gives tt
-freshMeaning (FV.Refused r) = refuses (r .number)
+freshMeaning (FV.Refused r) = refusesFor (reasonOf r)
 
 -- open gives a ticket
 abbrev pub openMeaning : OpenAnswer → Answer ℕ
 openMeaning (OV.Ticket k) = gives k
-openMeaning (OV.Refused r) = refuses (r .number)
+openMeaning (OV.Refused r) = refusesFor (reasonOf r)
 
 -- close gives nothing more
 abbrev pub closeMeaning : CloseAnswer → Answer (Unit {0})
 closeMeaning CV.Freed = gives tt
-closeMeaning (CV.Refused r) = refuses (r .number)
+closeMeaning (CV.Refused r) = refusesFor (reasonOf r)
 
 -- ---- what is handed back, desk and answer
 abbrev pub afterFresh : AfterFresh → After (Unit {0})

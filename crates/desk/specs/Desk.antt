@@ -5,7 +5,7 @@ use Prim.Native.Nat.{ℕ, _+_, _-_, _%_}
 use lib.Dec.{ltb, leb, eqb}
 use lib.ListN.{length, set, replicate}
 use Rattle.basis.specs.Choice.{pick}
-use Rattle.basis.specs.Answer.{Answer, gives, refuses}
+use Rattle.basis.specs.Answer.{Reason, Answer, gives, refusesFor, onlyNumber}
 use Rattle.value.specs.Refusals.{noSeat, wrongTimetable, notSound, noTicket, noMoreTickets}
 use Rattle.desk_seat.specs.Files.{Files}
 use Rattle.desk_seat.specs.Request.{Request}
@@ -21,8 +21,11 @@ use Rattle.desk.specs.Soundness.{soundOf}
 use Rattle.desk.specs.declared.Desk.{Desk}
 
 -- the desk as it was, and a refusal
+abbrev pub refusedFor : {A : Type 0} → Desk → Reason → After A
+refusedFor d r = record { desk = d; answer = refusesFor r }
+
 abbrev pub refused : {A : Type 0} → Desk → ℕ → After A
-refused d n = record { desk = d; answer = refuses n }
+refused d n = refusedFor d (onlyNumber n)
 
 -- ---- a fresh desk
 
@@ -63,7 +66,7 @@ openChecked r d (gives _) =
     (record { desk = seated r d (firstFrom d false 0); answer = gives (d .issued + 1) })
     (refused d noMoreTickets))
     (refused d noSeat)
-openChecked r d (refuses n) = refused d n
+openChecked r d (refusesFor why) = refusedFor d why
 
 unfoldable pub openOf : Request → Desk → After ℕ
 openOf r d = pick (soundOf d) (openChecked r d (checkOf (r .condition))) (refused d notSound)

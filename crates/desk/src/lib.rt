@@ -73,9 +73,7 @@ pub fn fresh(timetable_length: usize) -> AfterFresh
                 timetable_length: 0,
                 issued: 0,
             },
-            answer: FreshAnswer::Refused(Refusal {
-                number: Refusal::WRONG_TIMETABLE,
-            }),
+            answer: FreshAnswer::Refused(Refusal::numbered(Refusal::WRONG_TIMETABLE)),
         };
     }
     AfterFresh {
@@ -169,18 +167,18 @@ impl Desk {
         ensures { λ r. ⌜ afterOpen r ≡ openOf (asking (now (text .entry))) self ⌝ }
     {
         if !self.sound() {
-            return self.not_opened(Refusal::NOT_SOUND);
+            return self.not_opened(Refusal::numbered(Refusal::NOT_SOUND));
         }
         let checked = condition::check(text);
         if let Checked::Refused(refusal) = checked {
-            return self.not_opened(refusal.number);
+            return self.not_opened(refusal);
         }
         let i = self.find(false, 0);
         if Desk::SEATS <= i {
-            return self.not_opened(Refusal::NO_SEAT);
+            return self.not_opened(Refusal::numbered(Refusal::NO_SEAT));
         }
         if Desk::LAST_TICKET <= self.issued {
-            return self.not_opened(Refusal::NO_MORE_TICKETS);
+            return self.not_opened(Refusal::numbered(Refusal::NO_MORE_TICKETS));
         }
         let ticket = self.issued + 1;
         let mut next = self;
@@ -192,12 +190,12 @@ impl Desk {
         }
     }
 
-    fn not_opened(self, number: u8) -> AfterOpen
-        ensures { λ r. ⌜ (r .desk ≡ self) × (r .answer ≡ OpenAnswer.Refused (record { number = number })) ⌝ }
+    fn not_opened(self, refusal: Refusal) -> AfterOpen
+        ensures { λ r. ⌜ (r .desk ≡ self) × (r .answer ≡ OpenAnswer.Refused refusal) ⌝ }
     {
         AfterOpen {
             desk: self,
-            answer: OpenAnswer::Refused(Refusal { number }),
+            answer: OpenAnswer::Refused(refusal),
         }
     }
 
@@ -208,18 +206,14 @@ impl Desk {
         if !self.sound() {
             return AfterClose {
                 desk: self,
-                answer: CloseAnswer::Refused(Refusal {
-                    number: Refusal::NOT_SOUND,
-                }),
+                answer: CloseAnswer::Refused(Refusal::numbered(Refusal::NOT_SOUND)),
             };
         }
         let i = self.seat_of(ticket);
         if Desk::SEATS <= i {
             return AfterClose {
                 desk: self,
-                answer: CloseAnswer::Refused(Refusal {
-                    number: Refusal::NO_TICKET,
-                }),
+                answer: CloseAnswer::Refused(Refusal::numbered(Refusal::NO_TICKET)),
             };
         }
         let mut next = self;
@@ -237,17 +231,13 @@ impl Desk {
         if !self.sound() {
             return AfterTurn {
                 desk: self,
-                answer: TurnAnswer::Refused(Refusal {
-                    number: Refusal::NOT_SOUND,
-                }),
+                answer: TurnAnswer::Refused(Refusal::numbered(Refusal::NOT_SOUND)),
             };
         }
         if t.len() != self.timetable_length {
             return AfterTurn {
                 desk: self,
-                answer: TurnAnswer::Refused(Refusal {
-                    number: Refusal::WRONG_TIMETABLE,
-                }),
+                answer: TurnAnswer::Refused(Refusal::numbered(Refusal::WRONG_TIMETABLE)),
             };
         }
         self.next(t)

@@ -8,7 +8,7 @@ use native.Mathlib.Omega.{arith}
 use lib.Dec.{eqb}
 use lib.ListN.{replicate}
 use Rattle.basis.specs.Choice.{pick}
-use Rattle.basis.specs.Answer.{Answer, gives, refuses}
+use Rattle.basis.specs.Answer.{Answer, gives, refusesFor}
 use Rattle.desk_seat.specs.Files.{Files}
 use Rattle.desk_seat.specs.Answers.{Turned, ticketOf}
 use Rattle.desk.specs.Desk.{openOf, closeOf, turnOf}
@@ -19,7 +19,7 @@ use Rattle.desk_fairness.proofs.Aside.{only-turns, turns-count}
 use Rattle.desk_fairness.proofs.LineForLine.{demand3-lines}
 
 mine-append : (k : ℕ) (a : Answer Turned) (xs ys : List Turned) → mine k a (xs ++ ys) ≡ mine k a xs ++ ys
-mine-append k (refuses n) xs ys = refl
+mine-append k (refusesFor r) xs ys = refl
 mine-append k (gives a) xs ys = go (eqb (ticketOf a) k)
   where
     go : (b : Bool) → pick b (a ∷ (xs ++ ys)) (xs ++ ys) ≡ pick b (a ∷ xs) xs ++ ys

@@ -43,14 +43,14 @@ module _ (f : Files) where
   unfolding strip outcome onwardFrom
   outcome-seat s true hit = refl
   outcome-seat s true miss = refl
-  outcome-seat s true (unreadable n) = refl
+  outcome-seat s true (unreadable r) = refl
   outcome-seat s false v = refl
 
   outcome-answer : (s : Seat) (b : Bool) (v : Result) → ticketAside (outcome f s b v .answer) ≡ ticketAside (outcome f (strip s) b v .answer)
   unfolding strip outcome onwardFrom
   outcome-answer s true hit = refl
   outcome-answer s true miss = refl
-  outcome-answer s true (unreadable n) = refl
+  outcome-answer s true (unreadable r) = refl
   outcome-answer s false v = refl
 
   strip-seat : (s : Seat) → strip (serveOf f s .seat) ≡ strip (serveOf f (strip s) .seat)

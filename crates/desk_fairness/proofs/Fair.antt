@@ -8,7 +8,7 @@ use Prim.Native.Nat.{ℕ, zero, suc, _+_, _*_, _%_, _≤_}
 use native.Mathlib.Nat.{eq-or-lt-of-le}
 use native.Mathlib.Omega.{arith}
 use lib.ListN.{length}
-use Rattle.basis.specs.Answer.{gives, refuses}
+use Rattle.basis.specs.Answer.{gives, refusesFor}
 use Rattle.desk_seat.specs.Files.{Files}
 use Rattle.desk_seat.specs.Request.{Request}
 use Rattle.desk_seat.specs.Answers.{Turned}
@@ -95,7 +95,7 @@ pub seated-by : (f : Files) (c : Request) (d : Desk) (k : ℕ) → Query f c d k
 seated-by f c d k q =
     ⊎-elim
     (λ n.
-    let e : refuses (n .0) ≡ gives k = sym (ap (λ (x : After ℕ). x .answer) (n .1)) ∙ q .accepted in
+    let e : refusesFor (n .0) ≡ gives k = sym (ap (λ (x : After ℕ). x .answer) (n .1)) ∙ q .accepted in
     let z : _≡_ {A = ℕ} 0 1 = cc in
     absurd (omega arith))
     (λ w.

@@ -4,7 +4,7 @@ use mathlib.Core.List.{List, [], _∷_}
 use mathlib.Core.Logic.{⊎-elim}
 use Prim.Native.Nat.{ℕ, _+_, _≤_}
 use native.Mathlib.Omega.{arith}
-use Rattle.basis.specs.Answer.{gives, refuses}
+use Rattle.basis.specs.Answer.{gives, refusesFor}
 use Rattle.desk_seat.specs.Files.{Files}
 use Rattle.desk_seat.specs.Request.{Request}
 use Rattle.desk.specs.Answers.{After}
@@ -52,7 +52,7 @@ given-next : (c : Request) (d : Desk) (k : ℕ) → openOf c d .answer ≡ gives
 given-next c d k a =
     ⊎-elim
     (λ n.
-    let e : refuses (n .0) ≡ gives k = sym (ap (λ (x : After ℕ). x .answer) (n .1)) ∙ a in
+    let e : refusesFor (n .0) ≡ gives k = sym (ap (λ (x : After ℕ). x .answer) (n .1)) ∙ a in
     let f : _≡_ {A = ℕ} 0 1 = cc in
     absurd (omega arith))
     (λ w.

@@ -112,7 +112,7 @@ module _ (f : Files) where
   unfolding howMany
   one-case n to s hit ih = rw (ih, add-assoc, zero-add)
   one-case n to s miss ih = rw (ih, zero-add, zero-add)
-  one-case n to s (unreadable x) ih = rw (ih, add-assoc, zero-add)
+  one-case n to s (unreadable r) ih = rw (ih, add-assoc, zero-add)
 
   serves-left : (n : ℕ) (s : Seat) → turnsLeft f s ≡ n → serves (suc n) f s ≡ answersFrom f s
   unfolding serves howMany

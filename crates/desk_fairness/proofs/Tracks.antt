@@ -7,7 +7,7 @@ use mathlib.Core.Logic.{⊎-elim, _⊎_}
 use Prim.Native.Nat.{ℕ, _+_, _%_, _≤_, _<_}
 use native.Mathlib.Omega.{arith}
 use borrow.Author.Tests.{eq-eqb, ne-eqb}
-use Rattle.basis.specs.Answer.{Answer, gives, refuses}
+use Rattle.basis.specs.Answer.{Answer, gives, refusesFor}
 use Rattle.desk_seat.specs.Files.{Files}
 use Rattle.desk_seat.specs.Request.{Request}
 use Rattle.desk_seat.specs.Answers.{Turned, ticketOf}
@@ -30,11 +30,11 @@ use Rattle.desk_fairness.proofs.Round.{dist, there, nearer, not-there}
 -- the ticket that an answer names; 0 where it is a refusal
 abbrev pub whose : Answer Turned → ℕ
 whose (gives a) = ticketOf a
-whose (refuses n) = 0
+whose (refusesFor r) = 0
 
 pub not-mine : (k : ℕ) (a : Answer Turned) (others : List Turned) → (whose a ≡ k → ⊥) → mine k a others ≡ others
 not-mine k (gives a) others ne = rw (ne-eqb _ _ ne)
-not-mine k (refuses n) others ne = refl
+not-mine k (refusesFor r) others ne = refl
 
 pub is-mine : (k : ℕ) (a : Turned) (others : List Turned) → ticketOf a ≡ k → mine k (gives a) others ≡ a ∷ others
 is-mine k a others e = rw (eq-eqb _ _ e)

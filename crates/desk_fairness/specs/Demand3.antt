@@ -60,7 +60,7 @@ abbrev pub ticketAside : Turned → Turned
 ticketAside idle = idle
 ticketAside (hitAt k o p) = hitAt 0 o p
 ticketAside (missAt k o p) = missAt 0 o p
-ticketAside (unreadableAt k o n) = unreadableAt 0 o n
+ticketAside (unreadableAt k o r) = unreadableAt 0 o r
 ticketAside (doneWith k h u) = doneWith 0 h u
 
 -- "those it would get with the desk to itself": on a fresh desk for that timetable, which is asked to open this alone
@@ -78,7 +78,7 @@ Demand3 =
 abbrev pub answerFor : ℕ → ℕ → ℕ → Result → Turned
 answerFor k offset place hit = hitAt k offset place
 answerFor k offset place miss = missAt k offset place
-answerFor k offset place (unreadable n) = unreadableAt k offset n
+answerFor k offset place (unreadable r) = unreadableAt k offset r
 
 -- the answers at the cases of a line, the first at a place, to a query with the condition c
 unfoldable pub caseAnswers : ℕ → List ℕ → ℕ → ℕ → List Case → List Turned
@@ -95,14 +95,14 @@ abbrev pub hitIn : Turned → ℕ
 hitIn idle = 0
 hitIn (hitAt k o p) = 1
 hitIn (missAt k o p) = 0
-hitIn (unreadableAt k o n) = 0
+hitIn (unreadableAt k o r) = 0
 hitIn (doneWith k h u) = 0
 
 abbrev pub unreadableIn : Turned → ℕ
 unreadableIn idle = 0
 unreadableIn (hitAt k o p) = 0
 unreadableIn (missAt k o p) = 0
-unreadableIn (unreadableAt k o n) = 1
+unreadableIn (unreadableAt k o r) = 1
 unreadableIn (doneWith k h u) = 0
 
 unfoldable pub howMany : (Turned → ℕ) → List Turned → ℕ

@@ -5,7 +5,7 @@ use mathlib.Core.List.{List, [], _∷_}
 use Prim.Native.Nat.{ℕ, suc}
 use lib.Dec.{eqb}
 use Rattle.basis.specs.Choice.{pick}
-use Rattle.basis.specs.Answer.{Answer, gives, refuses}
+use Rattle.basis.specs.Answer.{Answer, gives, refusesFor}
 use Rattle.desk_seat.specs.Files.{Files}
 use Rattle.desk_seat.specs.Request.{Request}
 use Rattle.desk_seat.specs.Answers.{Turned, ticketOf}
@@ -31,7 +31,7 @@ afterAll f d (e ∷ es) = afterAll f (after f d e) es
 -- an answer before others, where it names the ticket k
 abbrev pub mine : ℕ → Answer Turned → List Turned → List Turned
 mine k (gives a) others = pick (eqb (ticketOf a) k) (a ∷ others) others
-mine k (refuses n) others = others
+mine k (refusesFor r) others = others
 
 -- the answers that ticket k gets over a course of events
 unfoldable pub answersOf : ℕ → Files → Desk → List Event → List Turned

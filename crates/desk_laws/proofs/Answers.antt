@@ -1,7 +1,8 @@
 -- Answers of equal meaning are equal, so that the contracts, which go through the meaning, determine the answer and the desk.
 use mathlib.Core.Path.{_≡_, refl, ap}
 use Prim.Native.Nat.{ℕ}
-use Rattle.basis.specs.Answer.{Answer, gives, refuses}
+use Rattle.basis.specs.Answer.{Answer, gives, refusesFor}
+use Rattle.value.specs.Reasons.{refusalOf}
 use Rattle.desk_seat.specs.Answers.{Turned, idle, hitAt, missAt, unreadableAt, doneWith, turnMeaning}
 use Rattle.desk.specs.Answers.{After, freshMeaning, openMeaning, closeMeaning, afterFresh, afterOpen, afterClose, afterTurn}
 use Rattle.desk.specs.declared.FreshAnswer.{FreshAnswer}
@@ -20,7 +21,7 @@ use Rattle.desk.specs.declared.AfterTurn.{AfterTurn}
 -- the answer with a meaning
 abbrev freshFrom : Answer (Unit {0}) → FreshAnswer
 freshFrom (gives u) = FV.Made
-freshFrom (refuses n) = FV.Refused (record { number = n })
+freshFrom (refusesFor r) = FV.Refused (refusalOf r)
 
 fresh-back : (a : FreshAnswer) → freshFrom (freshMeaning a) ≡ a
 fresh-back FV.Made = refl
@@ -31,7 +32,7 @@ fresh-determined a b e = cc (ap freshFrom e, fresh-back a, fresh-back b)
 
 abbrev openFrom : Answer ℕ → OpenAnswer
 openFrom (gives k) = OV.Ticket k
-openFrom (refuses n) = OV.Refused (record { number = n })
+openFrom (refusesFor r) = OV.Refused (refusalOf r)
 
 open-back : (a : OpenAnswer) → openFrom (openMeaning a) ≡ a
 open-back (OV.Ticket k) = refl
@@ -42,7 +43,7 @@ open-determined a b e = cc (ap openFrom e, open-back a, open-back b)
 
 abbrev closeFrom : Answer (Unit {0}) → CloseAnswer
 closeFrom (gives u) = CV.Freed
-closeFrom (refuses n) = CV.Refused (record { number = n })
+closeFrom (refusesFor r) = CV.Refused (refusalOf r)
 
 close-back : (a : CloseAnswer) → closeFrom (closeMeaning a) ≡ a
 close-back CV.Freed = refl
@@ -55,9 +56,9 @@ abbrev turnFrom : Answer Turned → TurnAnswer
 turnFrom (gives idle) = TV.Idle
 turnFrom (gives (hitAt k o p)) = TV.Hit (record { ticket = k; offset = o; place = p })
 turnFrom (gives (missAt k o p)) = TV.Miss (record { ticket = k; offset = o; place = p })
-turnFrom (gives (unreadableAt k o n)) = TV.Unreadable (record { ticket = k; offset = o }) (record { number = n })
+turnFrom (gives (unreadableAt k o r)) = TV.Unreadable (record { ticket = k; offset = o }) (refusalOf r)
 turnFrom (gives (doneWith k h u)) = TV.Done (record { ticket = k; hits = h; unreadable = u })
-turnFrom (refuses n) = TV.Refused (record { number = n })
+turnFrom (refusesFor r) = TV.Refused (refusalOf r)
 
 turn-back : (a : TurnAnswer) → turnFrom (turnMeaning a) ≡ a
 turn-back TV.Idle = refl

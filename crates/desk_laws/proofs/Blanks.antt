@@ -4,7 +4,7 @@ use mathlib.Core.Bool.{Bool, true, false}
 use mathlib.Core.List.{List, [], _∷_, _++_, map}
 use Prim.Native.Nat.{ℕ, zero, suc}
 use Rattle.basis.specs.Choice.{pick, both}
-use Rattle.basis.specs.Answer.{Answer, gives, refuses}
+use Rattle.basis.specs.Answer.{Answer, gives, refusesFor}
 use Rattle.basis.specs.Letters.{bytes}
 use Rattle.value.specs.declared.Value.the-variants as VV
 use Rattle.value_instants.specs.Ticks.{utc}
@@ -52,7 +52,7 @@ module _ (c a b : List ℕ) (h : AlikeLines a b) where
   run-same : (r : Answer RunFields) → Results (runCases utc a r) ≡ Results (runCases utc b r)
   run-same (gives r) =
       or-miss (occurrences a r 0 (countOf (timesIn utc r))) ∙ ap resultsOr (all-same r (countOf (timesIn utc r)) 0) ∙ sym (or-miss (occurrences b r 0 (countOf (timesIn utc r))))
-  run-same (refuses n) = refl
+  run-same (refusesFor r) = refl
 
   lines-same : Results (standsFor utc a) ≡ Results (standsFor utc b)
   unfolding standsFor

@@ -6,7 +6,8 @@ use native.Mathlib.Omega.{arith}
 use borrow.Author.Tests.{lt-ltb, le-ltb, le-leb, lt-leb, eq-eqb, leb-false, ltb-true, ltb-false}
 use lib.Dec.{leb, ltb}
 use Rattle.basis.specs.Choice.{both}
-use Rattle.basis.specs.Answer.{Answer, gives, refuses}
+use Rattle.basis.specs.Answer.{Reason, Answer, gives, refusesFor, onlyNumber, refuses}
+use Rattle.basis.proofs.Answers.{refuses-same, refuses-number}
 use Rattle.value.specs.Refusals.{noSeat, wrongTimetable, notSound, noTicket, noMoreTickets}
 use Rattle.desk_seat.specs.Files.{Files}
 use Rattle.desk_seat.specs.Request.{Request}
@@ -32,16 +33,17 @@ use Rattle.desk_laws.proofs.Sound.{own-seat, seat-found}
 use Rattle.desk_laws.proofs.NewDesk.{no-desk-sound}
 
 -- ---- one answer, one number
+one-number : {A : Type 0} {a : Answer A} (r s : Reason) → a ≡ refusesFor r → a ≡ refusesFor s → r .number ≡ s .number
+one-number r s e f = ap (λ (x : Reason). x .number) (refuses-same r s (sym e ∙ f))
+
 same-number : {A : Type 0} {a : Answer A} (m n : ℕ) → a ≡ refuses m → a ≡ refuses n → m ≡ n
-same-number {A} {a} m n e f =
-    let q : _≡_ {A = Answer A} (refuses m) (refuses n) = sym e ∙ f in
-    cc
+same-number m n e f = refuses-number m n (sym e ∙ f)
 
 abbrev isGiven : {A : Type 0} → Answer A → Bool
 isGiven (gives x) = true
-isGiven (refuses n) = false
+isGiven (refusesFor r) = false
 
-given-no : {A : Type 0} {a : Answer A} {n : ℕ} → isGiven a ≡ true → a ≡ refuses n → ⊥
+given-no : {A : Type 0} {a : Answer A} {r : Reason} → isGiven a ≡ true → a ≡ refusesFor r → ⊥
 given-no e f = true≢false (sym e ∙ ap isGiven f)
 
 refused-no : {A : Type 0} {a : Answer A} {x : A} → isGiven a ≡ false → a ≡ gives x → ⊥
@@ -145,7 +147,7 @@ fresh-in-words long =
 -- ---- open, by the four tests of its definition
 data Opens (r : Request) (d : Desk) : Type 0 where
   unsound : soundOf d ≡ false → openOf r d .answer ≡ refuses notSound → openOf r d .desk ≡ d → Opens r d
-  own : (n : ℕ) → soundOf d ≡ true → checkOf (r .condition) ≡ refuses n → openOf r d .answer ≡ refuses n → openOf r d .desk ≡ d → Opens r d
+  own : (why : Reason) → soundOf d ≡ true → checkOf (r .condition) ≡ refusesFor why → openOf r d .answer ≡ refusesFor why → openOf r d .desk ≡ d → Opens r d
   full : soundOf d ≡ true → accepted (r .condition) ≡ true → seatCount ≤ firstFrom d false 0 → openOf r d .answer ≡ refuses noSeat → openOf r d .desk ≡ d → Opens r d
   spent : soundOf d ≡ true → accepted (r .condition) ≡ true → firstFrom d false 0 < seatCount → lastTicket ≤ d .issued
       → openOf r d .answer ≡ refuses noMoreTickets → openOf r d .desk ≡ d → Opens r d
@@ -154,7 +156,7 @@ data Opens (r : Request) (d : Desk) : Type 0 where
 module _ (r : Request) (d : Desk) where
   opens-checked : (a : Answer (Unit {0})) → soundOf d ≡ true → checkOf (r .condition) ≡ a → Opens r d
   unfolding openOf
-  opens-checked (refuses n) e f = own n e f (rw (e, f)) (rw (e, f))
+  opens-checked (refusesFor why) e f = own why e f (rw (e, f)) (rw (e, f))
   opens-checked (gives u) e f = go (ltb (firstFrom d false 0) seatCount) (ltb (d .issued) lastTicket) refl refl
     where
       go : (x y : Bool) → ltb (firstFrom d false 0) seatCount ≡ x → ltb (d .issued) lastTicket ≡ y → Opens r d
@@ -172,21 +174,21 @@ module _ (r : Request) (d : Desk) where
 
   not-sound-if : Opens r d → openOf r d .answer ≡ refuses notSound → soundOf d ≡ false
   not-sound-if (unsound s e k) h = s
-  not-sound-if (own n s f e k) h = absurd (omega (arith, own-low (r .condition) n f, same-number n notSound e h))
+  not-sound-if (own why s f e k) h = absurd (omega (arith, own-low (r .condition) why f, one-number why (onlyNumber notSound) e h))
   not-sound-if (full s g l e k) h = absurd (omega (arith, same-number noSeat notSound e h))
   not-sound-if (spent s g l i e k) h = absurd (omega (arith, same-number noMoreTickets notSound e h))
   not-sound-if (given e) h = absurd (given-no (ap isGiven e) h)
 
-  own-if : (m : ℕ) → checkOf (r .condition) ≡ refuses m → Opens r d → openOf r d .answer ≡ refuses m → soundOf d ≡ true
-  own-if m f (unsound s e k) h = absurd (omega (arith, own-low (r .condition) m f, same-number notSound m e h))
-  own-if m f (own n s g e k) h = s
-  own-if m f (full s g l e k) h = s
-  own-if m f (spent s g l i e k) h = s
-  own-if m f (given e) h = absurd (given-no (ap isGiven e) h)
+  own-if : (why : Reason) → checkOf (r .condition) ≡ refusesFor why → Opens r d → openOf r d .answer ≡ refusesFor why → soundOf d ≡ true
+  own-if why f (unsound s e k) h = absurd (omega (arith, own-low (r .condition) why f, one-number (onlyNumber notSound) why e h))
+  own-if why f (own its s g e k) h = s
+  own-if why f (full s g l e k) h = s
+  own-if why f (spent s g l i e k) h = s
+  own-if why f (given e) h = absurd (given-no (ap isGiven e) h)
 
   full-if : Opens r d → openOf r d .answer ≡ refuses noSeat → (soundOf d ≡ true) × (accepted (r .condition) ≡ true) × AllHeld d
   full-if (unsound s e k) h = absurd (omega (arith, same-number notSound noSeat e h))
-  full-if (own n s f e k) h = absurd (omega (arith, own-low (r .condition) n f, same-number n noSeat e h))
+  full-if (own why s f e k) h = absurd (omega (arith, own-low (r .condition) why f, one-number why (onlyNumber noSeat) e h))
   full-if (full s g l e k) h = (s, g, all-held d l)
   full-if (spent s g l i e k) h = absurd (omega (arith, same-number noMoreTickets noSeat e h))
   full-if (given e) h = absurd (given-no (ap isGiven e) h)
@@ -194,24 +196,24 @@ module _ (r : Request) (d : Desk) where
   spent-if : Opens r d → openOf r d .answer ≡ refuses noMoreTickets
       → (soundOf d ≡ true) × (accepted (r .condition) ≡ true) × SomeFree d × (lastTicket ≤ d .issued)
   spent-if (unsound s e k) h = absurd (omega (arith, same-number notSound noMoreTickets e h))
-  spent-if (own n s f e k) h = absurd (omega (arith, own-low (r .condition) n f, same-number n noMoreTickets e h))
+  spent-if (own why s f e k) h = absurd (omega (arith, own-low (r .condition) why f, one-number why (onlyNumber noMoreTickets) e h))
   spent-if (full s g l e k) h = absurd (omega (arith, same-number noSeat noMoreTickets e h))
   spent-if (spent s g l i e k) h = (s, g, found-free d l, i)
   spent-if (given e) h = absurd (given-no (ap isGiven e) h)
 
   open-back : Opens r d → HandsBack d (openOf r d)
-  open-back (unsound s e k) n h = k
-  open-back (own m s f e k) n h = k
-  open-back (full s g l e k) n h = k
-  open-back (spent s g l i e k) n h = k
-  open-back (given e) n h = absurd (given-no (ap isGiven e) h)
+  open-back (unsound s e k) why h = k
+  open-back (own its s f e k) why h = k
+  open-back (full s g l e k) why h = k
+  open-back (spent s g l i e k) why h = k
+  open-back (given e) why h = absurd (given-no (ap isGiven e) h)
 
   pub open-in-words : OpenInWords r d
   unfolding openOf
   open-in-words =
       record {
         unsound = record { only = not-sound-if opens; always = λ e. rw e };
-        own = λ n f. record { only = own-if n f opens; always = λ e. rw (e, f) };
+        own = λ why f. record { only = own-if why f opens; always = λ e. rw (e, f) };
         full = record {
           only = full-if opens;
           always = λ w.
@@ -249,7 +251,7 @@ module _ (k : ℕ) (d : Desk) where
 
   close-back : HandsBack d (closeOf k d)
   unfolding closeOf
-  close-back n h = go (soundOf d) (ltb (seatOf d k) seatCount) refl refl
+  close-back why h = go (soundOf d) (ltb (seatOf d k) seatCount) refl refl
     where
       go : (a b : Bool) → soundOf d ≡ a → ltb (seatOf d k) seatCount ≡ b → closeOf k d .desk ≡ d
       go false b e f = rw e
@@ -322,7 +324,7 @@ module _ (f : Files) (d : Desk) where
 
   turn-back : HandsBack d (turnOf f d)
   unfolding turnOf nextOf
-  turn-back n h = go (soundOf d) (haveLengths f d) (ltb (firstFrom d true (d .«last_served» + 1)) (d .«last_served» + 1 + seatCount)) refl refl refl
+  turn-back why h = go (soundOf d) (haveLengths f d) (ltb (firstFrom d true (d .«last_served» + 1)) (d .«last_served» + 1 + seatCount)) refl refl refl
     where
       go : (a b x : Bool) → soundOf d ≡ a → haveLengths f d ≡ b
           → ltb (firstFrom d true (d .«last_served» + 1)) (d .«last_served» + 1 + seatCount) ≡ x → turnOf f d .desk ≡ d
@@ -355,7 +357,7 @@ module _ (f : Files) (d : Desk) where
 -- ---- a refused call hands the desk back as it came
 fresh-back : (long : ℕ) → HandsBack noDesk (freshOf long)
 unfolding freshOf
-fresh-back long n h = go (leb long maxTimetable) refl
+fresh-back long why h = go (leb long maxTimetable) refl
   where
     go : (b : Bool) → leb long maxTimetable ≡ b → freshOf long .desk ≡ noDesk
     go false f = rw f

@@ -7,7 +7,7 @@ use native.Mathlib.Omega.{arith}
 use borrow.Author.Tests.{eqb-true}
 use lib.Dec.{eqb}
 use Rattle.basis.specs.Choice.{pick}
-use Rattle.basis.specs.Answer.{refuses}
+use Rattle.basis.specs.Answer.{Reason, refusesFor}
 use Rattle.value.specs.Refusals.{badText, beyondBounds, longFraction, badCondition, tooDeep, wrongKind}
 use Rattle.condition.specs.Condition.{checkOf}
 use Rattle.condition.specs.Laws.{atOpen}
@@ -25,5 +25,5 @@ low n h = by (eqb n badText) (eqb n beyondBounds) (eqb n longFraction) (eqb n ba
     by false false false false true p q r s u e = omega (arith, eqb-true n tooDeep u)
     by false false false false false p q r s u e = omega (arith, eqb-true n wrongKind e)
 
-pub own-low : (s : List ℕ) (n : ℕ) → checkOf s ≡ refuses n → n ≤ wrongKind
-own-low s n e = low n (open-numbers s n e)
+pub own-low : (s : List ℕ) (r : Reason) → checkOf s ≡ refusesFor r → r .number ≤ wrongKind
+own-low s r e = low (r .number) (open-numbers s r e)

@@ -174,9 +174,9 @@ judged-in f k s to miss r i v =
     let c = r .counts in
     servable-sound k (length (f .timetable)) (judgedAs to s miss .seat) i
     (record { numbered = v .numbered; good = v .good; room = v .room; within = r .within; place = r .place; counts = omega arith })
-judged-in f k s to (unreadable n) r i v =
+judged-in f k s to (unreadable why) r i v =
     let c = r .counts in
-    servable-sound k (length (f .timetable)) (judgedAs to s (unreadable n) .seat) i
+    servable-sound k (length (f .timetable)) (judgedAs to s (unreadable why) .seat) i
     (record { numbered = v .numbered; good = v .good; room = v .room; within = r .within; place = r .place; counts = omega arith })
 
 pub judged-sound : (f : Files) (k : ℕ) (s : Seat) (v : Result) → hasLine f s ≡ true → seatSound k (length (f .timetable)) s ≡ true

@@ -8,7 +8,7 @@ use borrow.Author.Tests.{lt-ltb, ltb-true}
 use lib.Dec.{ltb}
 use lib.ListN.{length}
 use lib.Seq.{take-append-seam}
-use Rattle.basis.specs.Answer.{Answer, gives, refuses}
+use Rattle.basis.specs.Answer.{Reason, Answer, gives, refusesFor, onlyNumber}
 use Rattle.value.specs.Refusals.{noSeat, wrongTimetable, notSound, noMoreTickets}
 use Rattle.desk_seat.specs.Files.{Files}
 use Rattle.desk_seat.specs.Request.{Request}
@@ -25,7 +25,7 @@ use Rattle.desk.specs.Bounds.{seatCount, lastTicket}
 use Rattle.desk.specs.Scan.{firstPassing}
 use Rattle.desk.specs.Seats.{seatAt, heldIs, firstFrom, seatOf}
 use Rattle.desk.specs.Soundness.{soundOf}
-use Rattle.desk.specs.Desk.{refused, openOf, closeOf, afterStep, turnAt, nextOf, haveLengths, turnOf}
+use Rattle.desk.specs.Desk.{refusedFor, refused, openOf, closeOf, afterStep, turnAt, nextOf, haveLengths, turnOf}
 use Rattle.desk.specs.declared.Desk.{Desk}
 use Rattle.desk.proofs.Scans.{beq-true, beq-false, first-ge, first-found}
 use Rattle.desk.proofs.Lengths.{lengths-same}
@@ -46,23 +46,23 @@ pub record Seated (r : Request) (d : Desk) : Type 0 where
   pub is : openOf r d ≡ record { desk = replaced d (firstFrom d false 0) (seatFor (d .issued + 1) r) (d .«last_served») (d .issued + 1); answer = gives (d .issued + 1) }
 
 open-checked : (r : Request) (d : Desk) (a : Answer (Unit {0})) → soundOf d ≡ true → checkOf (r .condition) ≡ a
-    → ((n : ℕ) × (openOf r d ≡ refused d n)) ⊎ Seated r d
+    → ((why : Reason) × (openOf r d ≡ refusedFor d why)) ⊎ Seated r d
 unfolding openOf
-open-checked r d (refuses n) e f = inl (n, rw (e, f))
+open-checked r d (refusesFor why) e f = inl (why, rw (e, f))
 open-checked r d (gives u) e f = go (ltb (firstFrom d false 0) seatCount) (ltb (d .issued) lastTicket) refl refl
   where
-    go : (x y : Bool) → ltb (firstFrom d false 0) seatCount ≡ x → ltb (d .issued) lastTicket ≡ y → ((n : ℕ) × (openOf r d ≡ refused d n)) ⊎ Seated r d
-    go false y g h = inl (noSeat, rw (e, f, g))
-    go true false g h = inl (noMoreTickets, rw (e, f, g, h))
+    go : (x y : Bool) → ltb (firstFrom d false 0) seatCount ≡ x → ltb (d .issued) lastTicket ≡ y → ((why : Reason) × (openOf r d ≡ refusedFor d why)) ⊎ Seated r d
+    go false y g h = inl (onlyNumber noSeat, rw (e, f, g))
+    go true false g h = inl (onlyNumber noMoreTickets, rw (e, f, g, h))
     go true true g h =
         inr (record { sound = e; good = checked-accepted (r .condition) u f; free = ltb-true _ _ g; is = rw (e, f, g, h) })
 
-pub open-cases : (r : Request) (d : Desk) → ((n : ℕ) × (openOf r d ≡ refused d n)) ⊎ Seated r d
+pub open-cases : (r : Request) (d : Desk) → ((why : Reason) × (openOf r d ≡ refusedFor d why)) ⊎ Seated r d
 unfolding openOf
 open-cases r d = go (soundOf d) refl
   where
-    go : (a : Bool) → soundOf d ≡ a → ((n : ℕ) × (openOf r d ≡ refused d n)) ⊎ Seated r d
-    go false e = inl (notSound, rw e)
+    go : (a : Bool) → soundOf d ≡ a → ((why : Reason) × (openOf r d ≡ refusedFor d why)) ⊎ Seated r d
+    go false e = inl (onlyNumber notSound, rw e)
     go true e = open-checked r d (checkOf (r .condition)) e refl
 
 pub old-ticket : (d : Desk) (o : Sound d) (j : ℕ) → j < seatCount → seatAt d j .held ≡ true → seatAt d j .ticket ≤ d .issued

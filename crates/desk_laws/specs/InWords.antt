@@ -6,7 +6,7 @@ use mathlib.Core.Path.{_≡_}
 use mathlib.Core.Bool.{true, false}
 use Prim.Native.Nat.{ℕ, _+_, _%_, _≤_, _<_}
 use lib.ListN.{length}
-use Rattle.basis.specs.Answer.{gives, refuses}
+use Rattle.basis.specs.Answer.{Reason, gives, refusesFor, refuses}
 use Rattle.basis.specs.Exactly.{Exactly}
 use Rattle.value.specs.Refusals.{noSeat, wrongTimetable, notSound, noTicket, noMoreTickets}
 use Rattle.desk_seat.specs.Files.{Files}
@@ -76,7 +76,7 @@ pub record OpenInWords (r : Request) (d : Desk) : Type 0 where
   -- 12: "desk not sound"
   pub unsound : Exactly (openOf r d .answer ≡ refuses notSound) (soundOf d ≡ false)
   -- 7, 8, 9, or a literal's own number: that of the condition's checks, where the desk is sound
-  pub own : (n : ℕ) → checkOf (r .condition) ≡ refuses n → Exactly (openOf r d .answer ≡ refuses n) (soundOf d ≡ true)
+  pub own : (why : Reason) → checkOf (r .condition) ≡ refusesFor why → Exactly (openOf r d .answer ≡ refusesFor why) (soundOf d ≡ true)
   -- 10: "all seats held", where the desk is sound and the condition accepted
   pub full : Exactly (openOf r d .answer ≡ refuses noSeat) ((soundOf d ≡ true) × (accepted (r .condition) ≡ true) × AllHeld d)
   -- 14: "ticket 4,294,967,295 was already issued", where besides a seat is free
@@ -119,7 +119,7 @@ pub record TurnInWords (f : Files) (d : Desk) : Type 0 where
 
 -- where the answer is a refusal, this desk is handed back
 abbrev pub HandsBack : {A : Type 0} → Desk → After A → Type 0
-HandsBack d r = (n : ℕ) → r .answer ≡ refuses n → r .desk ≡ d
+HandsBack d r = (why : Reason) → r .answer ≡ refusesFor why → r .desk ≡ d
 
 pub record RefusedAltersNothing : Type 0 where
   pub byOpen : (r : Request) (d : Desk) → HandsBack d (openOf r d)

@@ -6,7 +6,8 @@ use mathlib.Core.List.{List}
 use Prim.Native.Nat.{ℕ, _≤_}
 use native.Mathlib.Omega.{arith}
 use lib.ListN.{length}
-use Rattle.basis.specs.Answer.{Answer, gives, refuses}
+use Rattle.basis.specs.Answer.{Reason, Answer, gives, refusesFor}
+use Rattle.value.specs.Reasons.{reasonOf}
 use Rattle.value.specs.declared.Refusal.{Refusal}
 use Rattle.condition.specs.Condition.{checked}
 use Rattle.condition.proofs.Accepted.{accepted-gives, not-accepted-refuses, accepted-length}
@@ -31,17 +32,17 @@ checked-accepted c u e = go (accepted c) refl
     go true h = h
     go false h =
         let r = not-accepted-refuses c h in
-        let q : refuses (r .0) ≡ gives u = sym (r .1) ∙ e in
+        let q : refusesFor (r .0) ≡ gives u = sym (r .1) ∙ e in
         let z : _≡_ {A = ℕ} 0 1 = cc in
         absurd (omega arith)
 
-pub refused-not-accepted : (c : List ℕ) (n : ℕ) → checkOf c ≡ refuses n → accepted c ≡ false
-refused-not-accepted c n e = go (accepted c) refl
+pub refused-not-accepted : (c : List ℕ) (r : Reason) → checkOf c ≡ refusesFor r → accepted c ≡ false
+refused-not-accepted c r e = go (accepted c) refl
   where
     go : (b : Bool) → accepted c ≡ b → accepted c ≡ false
     go false h = h
     go true h =
-        let q : gives tt ≡ refuses n = sym (accepted-gives c h) ∙ e in
+        let q : gives tt ≡ refusesFor r = sym (accepted-gives c h) ∙ e in
         let z : _≡_ {A = ℕ} 0 1 = cc in
         absurd (omega arith)
 
@@ -50,7 +51,7 @@ pub said-accepted : {r : Checked} (c : List ℕ) → checked r ≡ checkOf c →
 said-accepted c e h = checked-accepted c tt (sym e ∙ rw h)
 
 pub said-refused : {r : Checked} {x : Refusal} (c : List ℕ) → checked r ≡ checkOf c → r ≡ CV.Refused x → accepted c ≡ false
-said-refused {r} {x} c e h = refused-not-accepted c (x .number) (sym e ∙ rw h)
+said-refused {r} {x} c e h = refused-not-accepted c (reasonOf x) (sym e ∙ rw h)
 
 -- what a judgement with a result says
 pub said-hit : {v : Judged} {x : Result} → judged v ≡ gives x → v ≡ JV.Hit → hit ≡ x
@@ -63,13 +64,13 @@ said-miss {v} {x} e h =
     let f : gives miss ≡ gives x = rw h at e in
     cc
 
-pub said-unreadable : {v : Judged} {x : Result} {r : Refusal} → judged v ≡ gives x → v ≡ JV.Unreadable r → unreadable (r .number) ≡ x
+pub said-unreadable : {v : Judged} {x : Result} {r : Refusal} → judged v ≡ gives x → v ≡ JV.Unreadable r → unreadable (reasonOf r) ≡ x
 said-unreadable {v} {x} {r} e h =
-    let f : gives (unreadable (r .number)) ≡ gives x = rw h at e in
+    let f : gives (unreadable (reasonOf r)) ≡ gives x = rw h at e in
     cc
 
 pub never-refused : {v : Judged} {x : Result} {r : Refusal} → judged v ≡ gives x → v ≡ JV.Refused r → ⊥
 never-refused {v} {x} {r} e h =
-    let f : refuses (r .number) ≡ gives x = rw h at e in
+    let f : refusesFor (reasonOf r) ≡ gives x = rw h at e in
     let z : _≡_ {A = ℕ} 0 1 = cc in
     omega arith

@@ -75,27 +75,27 @@ module _ (f : Files) (s : Seat) where
   judged-held : (to : Spot) (v : Result) → judgedAs to s v .seat .held ≡ s .held
   judged-held to hit = refl
   judged-held to miss = refl
-  judged-held to (unreadable n) = refl
+  judged-held to (unreadable r) = refl
 
   judged-ticket : (to : Spot) (v : Result) → judgedAs to s v .seat .ticket ≡ s .ticket
   judged-ticket to hit = refl
   judged-ticket to miss = refl
-  judged-ticket to (unreadable n) = refl
+  judged-ticket to (unreadable r) = refl
 
   judged-offset : (to : Spot) (v : Result) → judgedAs to s v .seat .offset ≡ to .offset
   judged-offset to hit = refl
   judged-offset to miss = refl
-  judged-offset to (unreadable n) = refl
+  judged-offset to (unreadable r) = refl
 
   judged-place : (to : Spot) (v : Result) → judgedAs to s v .seat .place ≡ to .place
   judged-place to hit = refl
   judged-place to miss = refl
-  judged-place to (unreadable n) = refl
+  judged-place to (unreadable r) = refl
 
   judged-answer : (to : Spot) (v : Result) → ticketOf (judgedAs to s v .answer) ≡ s .ticket
   judged-answer to hit = refl
   judged-answer to miss = refl
-  judged-answer to (unreadable n) = refl
+  judged-answer to (unreadable r) = refl
 
   -- while lines are left
   pub on-held : hasLine f s ≡ true → serveOf f s .seat .held ≡ s .held

@@ -44,8 +44,8 @@ judgedAs to s hit =
     record { seat = seatMoved s to (s .hits + 1) (s .unreadable); answer = hitAt (s .ticket) (s .offset) (s .place) }
 judgedAs to s miss =
     record { seat = seatMoved s to (s .hits) (s .unreadable); answer = missAt (s .ticket) (s .offset) (s .place) }
-judgedAs to s (unreadable n) =
-    record { seat = seatMoved s to (s .hits) (s .unreadable + 1); answer = unreadableAt (s .ticket) (s .offset) n }
+judgedAs to s (unreadable r) =
+    record { seat = seatMoved s to (s .hits) (s .unreadable + 1); answer = unreadableAt (s .ticket) (s .offset) r }
 
 -- whether a line is left: the offset is not at the timetable's end
 abbrev pub hasLine : Files → Seat → Bool
@@ -63,7 +63,7 @@ casesAt f offset = casesOf (lineAt (f .timetable) offset .text)
 abbrev pub caseResult : List ℕ → Case → Result
 caseResult c (rowCase row) = resultAt utc c row
 caseResult c missCase = miss
-caseResult c (refusalCase n) = unreadable n
+caseResult c (refusalCase r) = unreadable r
 
 -- the result of the seat's condition at its place
 abbrev pub seatResult : Files → Seat → Result

@@ -20,6 +20,7 @@ ghost use Rattle.run_cases.specs.Carried.{caseSaid};
 ghost use Rattle.desk_seat.specs.Bounds.{conditionRoom, maxTimetable, maxCount};
 ghost use Rattle.desk_seat.specs.Files.{Files, over};
 ghost use Rattle.desk_seat.specs.Request.{asking};
+ghost use Rattle.value.specs.Reasons.{reasonOf};
 ghost use Rattle.desk_seat.specs.Conditions.{accepted, judged, Result, unreadable};
 ghost use Rattle.desk_seat.specs.Seat.{freeSeat, seatFor};
 ghost use Rattle.desk_seat.specs.Soundness.{seatSound};
@@ -224,7 +225,7 @@ fn result_at(text: &[u8], line: &[u8], there: CaseAtPlace) -> Judged
 // The seat after a case that is unreadable, going on at `to`.
 fn at_unreadable(s: Seat, to: Spot, refusal: Refusal) -> AfterServing
     requires { ⌜ s .unreadable < maxCount ⌝ }
-    ensures { λ r. ⌜ Steps r (judgedAs to s (unreadable (refusal .number))) ⌝ }
+    ensures { λ r. ⌜ Steps r (judgedAs to s (unreadable (reasonOf refusal))) ⌝ }
 {
     let mut moved = s;
     moved.offset = to.offset;

@@ -1,7 +1,8 @@
 -- Answers of equal meaning are equal, so that a contract on the meaning determines the answer.
 use mathlib.Core.Path.{_≡_, refl, ap}
 use mathlib.Core.Bool.{Bool, true, false}
-use Rattle.basis.specs.Answer.{Answer, gives, refuses}
+use Rattle.basis.specs.Answer.{Answer, gives, refusesFor}
+use Rattle.value.specs.Reasons.{refusalOf}
 use Rattle.library_lines.specs.Late.{latenessMeaning}
 use Rattle.library_lines.specs.declared.late.Lateness.{Lateness}
 use Rattle.library_lines.specs.declared.late.Lateness.the-variants as LV
@@ -9,7 +10,7 @@ use Rattle.library_lines.specs.declared.late.Lateness.the-variants as LV
 abbrev latenessOf : Answer Bool → Lateness
 latenessOf (gives true) = LV.Late
 latenessOf (gives false) = LV.InTime
-latenessOf (refuses n) = LV.Refused (record { number = n })
+latenessOf (refusesFor r) = LV.Refused (refusalOf r)
 
 lateness-back : (a : Lateness) → latenessOf (latenessMeaning a) ≡ a
 lateness-back LV.Late = refl

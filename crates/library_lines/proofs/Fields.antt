@@ -16,6 +16,7 @@ use Rattle.condition_symbols.specs.Symbols.{named}
 use Rattle.condition_symbols.specs.declared.Named.{Named}
 use Rattle.line_fields.specs.Numbers.{greatest, numberOf}
 use Rattle.line_fields.specs.declared.numbers.FieldNumber.{FieldNumber}
+use Rattle.value.specs.Clocks.{durationOf}
 use Rattle.value.specs.declared.Offset.{Offset}
 use Rattle.value.specs.declared.Offset.the-variants.{East, West}
 use Rattle.value.specs.declared.Zone.{Zone}
@@ -114,10 +115,10 @@ pub is-moment : (k′ : Kind) (m : Moment) {k : Kind} → k ≡ k′ → not (m 
 is-moment k′ m {k} e q = ap (λ (x : Kind). recordOfKind x (m .parts)) (sym e) ∙ first-of {b = m .good} (recordOfKind k (m .parts)) G.No (yes refl q)
 
 pub no-day-time : (n : Signed) → not (n .good) ≡ true → G.No ≡ givenDayTime n
-no-day-time n q = second-of {b = n .good} (G.Is (VV.DayTime (record { negative = n .negative; micros = n .value }))) G.No (no refl q)
+no-day-time n q = second-of {b = n .good} (G.Is (VV.DayTime (durationOf (n .negative) (n .value)))) G.No (no refl q)
 
-pub is-day-time : (n : Signed) → not (n .good) ≡ false → G.Is (VV.DayTime (record { negative = n .negative; micros = n .value })) ≡ givenDayTime n
-is-day-time n q = first-of {b = n .good} (G.Is (VV.DayTime (record { negative = n .negative; micros = n .value }))) G.No (yes refl q)
+pub is-day-time : (n : Signed) → not (n .good) ≡ false → G.Is (VV.DayTime (durationOf (n .negative) (n .value))) ≡ givenDayTime n
+is-day-time n q = first-of {b = n .good} (G.Is (VV.DayTime (durationOf (n .negative) (n .value)))) G.No (yes refl q)
 
 pub no-year-month : (n : Signed) → not (n .good) ≡ true → G.No ≡ givenYearMonth n
 no-year-month n q = second-of {b = n .good} (G.Is (VV.YearMonth (record { negative = n .negative; months = n .value }))) G.No (no refl q)

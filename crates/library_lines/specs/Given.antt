@@ -15,6 +15,7 @@ use Rattle.condition_symbols.specs.declared.Named.{Named}
 use Rattle.condition_symbols.specs.declared.Named.the-variants as N
 use Rattle.line_fields.specs.Numbers.{greatest, numberOf}
 use Rattle.line_fields.specs.declared.numbers.FieldNumber.{FieldNumber}
+use Rattle.value.specs.Clocks.{atClock, durationOf}
 use Rattle.value.specs.declared.Offset.{Offset}
 use Rattle.value.specs.declared.Offset.the-variants.{East, West}
 use Rattle.value.specs.declared.Zone.{Zone}
@@ -75,7 +76,7 @@ unfoldable pub dayAt : List ℕ → ℕ → Day
 dayAt line i = dayGiven (numberOf twoBytes (fieldAt line i)) (numberOf oneByte (fieldAt line (i + 1))) (numberOf oneByte (fieldAt line (i + 2)))
 
 abbrev pub recordParts : Day → ℕ → Zone → DateTime
-recordParts d micros zone = record { year = d .year; month = d .month; day = d .day; micros = micros; zone = zone }
+recordParts d ticks zone = atClock (record { year = d .year; month = d .month; day = d .day }) ticks zone
 
 -- Y, M, D, MICROS and Z in five fields
 abbrev pub momentGiven : Day → FieldNumber → Zoned → Moment
@@ -96,7 +97,7 @@ abbrev pub givenMoment : Kind → Moment → GivenRecord
 givenMoment k m = pick (m .good) (recordOfKind k (m .parts)) G.No
 
 abbrev pub givenDayTime : Signed → GivenRecord
-givenDayTime n = pick (n .good) (G.Is (VV.DayTime (record { negative = n .negative; micros = n .value }))) G.No
+givenDayTime n = pick (n .good) (G.Is (VV.DayTime (durationOf (n .negative) (n .value)))) G.No
 
 abbrev pub givenYearMonth : Signed → GivenRecord
 givenYearMonth n = pick (n .good) (G.Is (VV.YearMonth (record { negative = n .negative; months = n .value }))) G.No

@@ -1,5 +1,6 @@
 // Numbers with a sign, zones and records, as fields of a line. They are as wide as the records' own numbers, so that those beyond the
 // bounds can be given too: whether a record is within them is for the library to say.
+use calendar::Date;
 use condition_symbols::Named;
 use condition_symbols::kind_named;
 use condition_words::cut;
@@ -11,12 +12,12 @@ use numerals::byte;
 use timetable::fields::field;
 use timetable::fields::has_field;
 use value::DateTime;
-use value::DayTime;
 use value::Kind;
 use value::Offset;
 use value::Value;
 use value::YearMonth;
 use value::Zone;
+use value::clocks;
 ghost use mathlib.Core.Path.{_≡_};
 ghost use mathlib.Core.List.{[], _∷_};
 ghost use Prim.Native.Nat.{_≤_};
@@ -147,16 +148,15 @@ pub fn day_at(line: &[u8], at: usize) -> Day
     }
 }
 
-fn parts_of(d: Day, micros: u64, zone: Zone) -> DateTime
-    ensures { λ r. ⌜ r ≡ the.recordParts d micros zone ⌝ }
+fn parts_of(d: Day, ticks: u64, zone: Zone) -> DateTime
+    ensures { λ r. ⌜ r ≡ the.recordParts d ticks zone ⌝ }
 {
-    DateTime {
+    let e = Date {
         year: d.year,
         month: d.month,
         day: d.day,
-        micros,
-        zone,
-    }
+    };
+    clocks::of_ticks(e, ticks, zone)
 }
 
 // Year, month, day, microseconds and zone in five fields.
@@ -195,10 +195,7 @@ fn given_day_time(n: Signed) -> GivenRecord
     if !n.good {
         return GivenRecord::No;
     }
-    GivenRecord::Is(Value::DayTime(DayTime {
-        negative: n.negative,
-        micros: n.value as u64,
-    }))
+    GivenRecord::Is(Value::DayTime(clocks::duration(n.negative, n.value as u64)))
 }
 
 fn given_year_month(n: Signed) -> GivenRecord

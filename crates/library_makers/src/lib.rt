@@ -72,6 +72,7 @@ pub fn make_time(line: &[u8]) {
 // `dateTime→Y→M→D→MICROS→Z`
 pub fn make_date_time(line: &[u8]) {
     let m = moment_at(line, 2);
+    let n = read(field(line, 5), GREATEST);
     let good = m.good & !has_field(line, 7);
     if !good {
         tell_no_call();
@@ -79,7 +80,7 @@ pub fn make_date_time(line: &[u8]) {
     }
     let d = m.parts;
     let zone = d.zone;
-    tell_made(DateTime::new(d.year, d.month, d.day, d.micros, zone));
+    tell_made(DateTime::new(d.year, d.month, d.day, n.value as u64, zone));
 }
 
 // `dayTime→S`

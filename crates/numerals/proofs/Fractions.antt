@@ -7,16 +7,17 @@ use Prim.Native.Char.{code}
 use native.Mathlib.Omega.{arith}
 use lib.Dec.{eqb, leb, lit≤}
 use lib.ListN.{length, getD, drop}
-use borrow.Author.Tests.{le-leb, lt-leb, leb-true, ne-eqb}
+use borrow.Author.Tests.{le-leb, lt-leb, leb-true, leb-false, ne-eqb}
 use Rattle.basis.specs.Choice.{pick}
+use Rattle.basis.proofs.Tests.{never}
 use Rattle.numerals.specs.declared.DigitsRead.{DigitsRead}
 use Rattle.numerals.specs.declared.Kept.{Kept}
 use Rattle.numerals.specs.declared.Text.{Text}
-use Rattle.numerals.specs.Reading.{isDigit, number, numeralAt, fractionDigits, fractionOf, fractionAt}
+use Rattle.numerals.specs.Reading.{isDigit, number, numeralAt, at, fractionDigits, fractionOf, fractionAt}
 use Rattle.numerals.specs.Carried.{Found, Added}
 use Rattle.numerals.specs.Writing.{digits, keptDigits, fractionText}
 use Rattle.numerals.proofs.Powers.{widened, filled}
-use Rattle.numerals.proofs.Stretches.{stretch-le, stretch-lt}
+use Rattle.numerals.proofs.Stretches.{stretch-le, stretch-lt, stretch-digit}
 use Rattle.numerals.proofs.Decimals.{length-digits, digits-stretch}
 use Rattle.numerals.proofs.Stripping.{strip-le, strip-lt, given-back}
 use Rattle.numerals.proofs.Texts.{then, unchanged, named}
@@ -54,6 +55,15 @@ fraction-end s i = go (leb (numeralAt s i .count) fractionDigits) refl
 
 pub fraction-le : (s : List ℕ) (i : ℕ) → i ≤ length s → fractionAt s i .end ≤ length s
 fraction-le s i h = omega (arith, fraction-end s i, stretch-le s i h)
+
+-- digits that are too many: every one of them, the first that is too many among them, is there
+pub digit-too-many : (s : List ℕ) (i : ℕ) → fractionAt s i .long ≡ true → (j : ℕ) → j ≤ fractionDigits → isDigit (at s (i + j)) ≡ true
+unfolding fractionAt
+digit-too-many s i e j h = go (leb (numeralAt s i .count) fractionDigits) refl
+  where
+    go : (b : Bool) → leb (numeralAt s i .count) fractionDigits ≡ b → isDigit (at s (i + j)) ≡ true
+    go true q = absurd (never (rw q at e))
+    go false q = stretch-digit s i (i + j) (omega arith) (omega (arith, leb-false (numeralAt s i .count) fractionDigits q))
 
 -- there are never ticks for a whole second
 pub fraction-lt : (s : List ℕ) (i : ℕ) → fractionAt s i .ticks < 10 ^ fractionDigits

@@ -1,5 +1,5 @@
 -- Stretches of digits: a digit is passed, another byte stops the stretch; a stretch stays within the text, all its bytes are digits, and
--- one of k digits is a number below 10 ^ k.
+-- one of k digits is a number below 10 ^ k, and a tenth of that at least where the first digit is not 0.
 use mathlib.Core.Path.{_≡_, refl, ap, sym, _∙_}
 use mathlib.Core.Bool.{Bool, true, false}
 use mathlib.Core.List.{List, [], _∷_}
@@ -8,12 +8,13 @@ use Prim.Native.Char.{code}
 use native.Mathlib.Nat.{pow-suc}
 use native.Mathlib.Omega.{arith}
 use lib.ListN.{length, getD, drop, length-drop}
+use lib.Dec.{leb}
 use lib.Seq.{getD-drop}
-use borrow.Author.Tests.{le-leb, leb-true}
+use borrow.Author.Tests.{le-leb, leb-true, leb-false}
 use Rattle.basis.specs.Choice.{both, pick}
 use Rattle.basis.proofs.Tests.{both-left, both-right}
 use Rattle.numerals.specs.Reading.{isDigit, number, numeralAt, at}
-use Rattle.numerals.proofs.Positions.{within}
+use Rattle.numerals.proofs.Positions.{within, head}
 
 pub record Digit (b : ℕ) : Type 0 where
   pub from : code "0" ≤ b
@@ -68,6 +69,46 @@ number-lt v k (x ∷ xs) h = go (isDigit x) refl (number-lt (v * 10 + (x - code 
 
 pub stretch-lt : (s : List ℕ) (i : ℕ) → numeralAt s i .value < 10 ^ numeralAt s i .count
 stretch-lt s i = number-lt 0 0 (drop i s) (omega arith)
+
+number-from : (v k : ℕ) (xs : List ℕ) → 10 ^ k ≤ 10 * v → 10 ^ number v k xs .count ≤ 10 * number v k xs .value
+unfolding number
+number-from v k [] h = h
+number-from v k (x ∷ xs) h = go (isDigit x) (number-from (v * 10 + (x - code "0")) (suc k) xs)
+  where
+    go : (b : Bool)
+        → (10 ^ suc k ≤ 10 * (v * 10 + (x - code "0")) → 10 ^ number (v * 10 + (x - code "0")) (suc k) xs .count ≤ 10 * number (v * 10 + (x - code "0")) (suc k) xs .value)
+        → 10 ^ pick b (number (v * 10 + (x - code "0")) (suc k) xs) (record { value = v; count = k }) .count
+        ≤ 10 * pick b (number (v * 10 + (x - code "0")) (suc k) xs) (record { value = v; count = k }) .value
+    go true r = r (omega (arith, pow-suc 10 k))
+    go false r = h
+
+led-from : (xs : List ℕ) → (getD xs 0 0 ≡ code "0" → ⊥) → 1 ≤ number 0 0 xs .count → 10 ^ number 0 0 xs .count ≤ 10 * number 0 0 xs .value
+unfolding number
+led-from [] e h = absurd (bad h)
+  where
+    bad : 1 ≤ 0 → ⊥
+    bad g = omega arith
+led-from (x ∷ xs) e h = go (isDigit x) refl h
+  where
+    some : isDigit x ≡ true → 1 ≤ x - code "0"
+    some q = by (leb 1 (x - code "0")) refl
+      where
+        by : (b : Bool) → leb 1 (x - code "0") ≡ b → 1 ≤ x - code "0"
+        by true f = leb-true 1 (x - code "0") f
+        by false f = absurd (e (omega (arith, leb-false 1 (x - code "0") f, a-digit x q)))
+
+    go : (b : Bool) → isDigit x ≡ b → 1 ≤ pick b (number (0 * 10 + (x - code "0")) 1 xs) (record { value = 0; count = 0 }) .count
+        → 10 ^ pick b (number (0 * 10 + (x - code "0")) 1 xs) (record { value = 0; count = 0 }) .count
+        ≤ 10 * pick b (number (0 * 10 + (x - code "0")) 1 xs) (record { value = 0; count = 0 }) .value
+    go true q l = number-from (0 * 10 + (x - code "0")) 1 xs (omega (arith, some q))
+    go false q l = absurd (bad l)
+      where
+        bad : 1 ≤ 0 → ⊥
+        bad g = omega arith
+
+-- a stretch that does not begin with 0
+pub stretch-from : (s : List ℕ) (i : ℕ) → (at s i ≡ code "0" → ⊥) → 1 ≤ numeralAt s i .count → 10 ^ numeralAt s i .count ≤ 10 * numeralAt s i .value
+stretch-from s i e h = led-from (drop i s) (λ q. e (head s i refl ∙ q)) h
 
 -- every byte of a stretch is a digit
 counted-digit : (v k : ℕ) (xs : List ℕ) (j : ℕ) → k + j < number v k xs .count → isDigit (getD xs j 0) ≡ true

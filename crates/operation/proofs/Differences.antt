@@ -7,9 +7,10 @@ use native.Mathlib.Omega.{arith}
 use lib.Dec.{eqb, leb, ltb}
 use borrow.Author.Tests.{ltb-true, ltb-false, eq-eqb, ne-eqb, eqb-true}
 use Rattle.basis.specs.Choice.{pick, both}
-use Rattle.basis.specs.Answer.{gives, refuses}
+use Rattle.basis.specs.Answer.{gives}
 use Rattle.value.specs.Refusals.{outside, wrongKind, beyondResult}
-use Rattle.value.specs.Durations.{plusHalf, minusHalf, apart, lessTicks, lessMonths}
+use Rattle.value.specs.Clocks.{ticksIn}
+use Rattle.value.specs.Durations.{plusHalf, minusHalf, plusTicks, minusTicks, apart, lessTicks, lessMonths}
 use Rattle.value.specs.Values.{okDayTime, okYearMonth}
 use Rattle.value.specs.Kinds.{kindOf, okValue}
 use Rattle.value_instants.specs.Ticks.{instantOf}
@@ -20,13 +21,14 @@ use Rattle.value.specs.declared.YearMonth as Y
 use Rattle.value.specs.declared.Kind.{Kind}
 use Rattle.value.specs.declared.Value.{Value}
 use Rattle.value.specs.declared.Value.the-variants as VV
+use Rattle.value.proofs.ClockLaws.{ticks-of-duration}
 use Rattle.operation_quantities.specs.Operands.{operandOf, kindNumber, sameKind}
 use Rattle.operation_quantities.specs.Results.{inTicks, inMonths}
 use Rattle.operation_quantities.specs.declared.Operand.{Operand}
 use Rattle.operation_quantities.specs.declared.Operand.the-variants.{Moment, DayTime, YearMonth}
 use Rattle.operation_quantities.proofs.Given.{given-rest, gives-same}
 use Rattle.operation_arithmetic.specs.Sums.{opposite, oppositeMonths, sumOf, lessMoment, differenceIn, minusIn}
-use Rattle.operation_arithmetic.proofs.Opposites.{plus-opposite, minus-opposite}
+use Rattle.operation_arithmetic.proofs.Opposites.{plus-opposite, minus-opposite, plus-ticks-opposite, minus-ticks-opposite}
 use Rattle.operation_ordering.specs.Order.{Order, less, equal, greater, up, down, order, operandOrder, orderIn}
 use Rattle.operation_ordering.proofs.OrderLaws.{Comparable, ordered, comparable}
 
@@ -38,7 +40,7 @@ abbrev pub toZero : Value → Order
 toZero (VV.Date d) = equal
 toZero (VV.Time d) = equal
 toZero (VV.DateTime d) = equal
-toZero (VV.DayTime t) = signOrder (t .negative) (t .micros)
+toZero (VV.DayTime t) = signOrder (t .negative) (ticksIn t)
 toZero (VV.YearMonth m) = signOrder (m .negative) (m .months)
 
 -- p - q stands to zero as p stands to q
@@ -59,7 +61,7 @@ ticks-order : (p q : ℕ) (v : Value) → inTicks p q ≡ gives v → toZero v �
 unfolding inTicks
 ticks-order p q v e =
     let s = gives-same (VV.DayTime (lessTicks p q)) v (given-rest (okDayTime (lessTicks p q)) (gives (VV.DayTime (lessTicks p q))) beyondResult v e) in
-    ap toZero (sym s) ∙ sign-is-order p q
+    ap toZero (sym s) ∙ ap (signOrder (ltb p q)) (ticks-of-duration (ltb p q) (apart p q)) ∙ sign-is-order p q
 
 months-order : (p q : ℕ) (v : Value) → inMonths p q ≡ gives v → toZero v ≡ order p q
 unfolding inMonths
@@ -99,12 +101,12 @@ module _ (o : Offset) where
   operand-sign (Moment j d) (YearMonth n) v h g = cc
   operand-sign (DayTime t) (Moment k e) v h g = cc
   operand-sign (DayTime t) (DayTime s) v h g =
-      let p = plus-opposite (s .negative) (s .micros) in
-      let q = minus-opposite (s .negative) (s .micros) in
-      let f : inTicks (plusHalf (t .negative) (t .micros) + minusHalf (s .negative) (s .micros)) (minusHalf (t .negative) (t .micros) + plusHalf (s .negative) (s .micros)) ≡ gives v
-      = sym (λ i. inTicks (plusHalf (t .negative) (t .micros) + p i) (minusHalf (t .negative) (t .micros) + q i)) ∙ g in
+      let p = plus-ticks-opposite s in
+      let q = minus-ticks-opposite s in
+      let f : inTicks (plusTicks t + minusTicks s) (minusTicks t + plusTicks s) ≡ gives v
+      = sym (λ i. inTicks (plusTicks t + p i) (minusTicks t + q i)) ∙ g in
       ticks-order _ _ v f
-      ∙ swapped (plusHalf (t .negative) (t .micros)) (minusHalf (t .negative) (t .micros)) (plusHalf (s .negative) (s .micros)) (minusHalf (s .negative) (s .micros))
+      ∙ swapped (plusTicks t) (minusTicks t) (plusTicks s) (minusTicks s)
   operand-sign (DayTime t) (YearMonth n) v h g = cc
   operand-sign (YearMonth m) (Moment k e) v h g = cc
   operand-sign (YearMonth m) (DayTime s) v h g = cc

@@ -2,16 +2,17 @@
 -- the date in the new zone at the instant at which it started.
 use mathlib.Core.Path.{_≡_, refl, ap, sym, _∙_}
 use mathlib.Core.Bool.{true}
-use Prim.Native.Nat.{ℕ, _+_, _-_, _*_, _%_, _≤_, _<_}
+use Prim.Native.Nat.{ℕ, _+_, _-_, _*_, _/_, _%_, _≤_, _<_}
 use native.Mathlib.Omega.{arith}
 use Rattle.basis.specs.Choice.{pick, both}
 use Rattle.basis.specs.Answer.{gives, refuses}
 use Rattle.basis.proofs.Tests.{both-left, both-right}
-use Rattle.calendar.specs.Calendar.{total, dayNumber}
+use Rattle.calendar.specs.Calendar.{total, dayNumber, dateOf}
 use Rattle.value.specs.Bounds.{maxZone, minuteTicks, dayTicks}
+use Rattle.value.specs.Clocks.{clockOf}
 use Rattle.value.specs.Refusals.{outside, badZone}
-use Rattle.value.specs.Values.{okDateTime, okOffset}
-use Rattle.value.specs.Kinds.{kept, okValue}
+use Rattle.value.specs.Values.{dateIn, okDateTime, okOffset}
+use Rattle.value.specs.Kinds.{template, kept, okValue}
 use Rattle.value_instants.specs.Ticks.{localOf, atLocal, instantAt, instantOf, offsetIn, east, west}
 use Rattle.value.specs.declared.Offset.{Offset}
 use Rattle.value.specs.declared.Zone.{Zone}
@@ -22,6 +23,7 @@ use Rattle.value.specs.declared.Kind.{Kind}
 use Rattle.value.specs.declared.Kind.the-variants as KV
 use Rattle.value.specs.declared.Value.{Value}
 use Rattle.value.specs.declared.Value.the-variants as VV
+use Rattle.value.proofs.ClockLaws.{clock-at, clock-kept}
 use Rattle.value_instants.proofs.Within.{timed, east-to, west-to}
 use Rattle.value_instants.proofs.Locals.{local-of-placed}
 use Rattle.operation_quantities.specs.Operands.{valueOf}
@@ -85,6 +87,10 @@ adjust-keeps-instant o d e t w z h =
     let m : localOf e ≡ l = ap localOf (sym x) ∙ local-of-placed l (At (zoneOf t)) in
     (own-instant o e (zoneOf t) n ∙ ap (λ (s : ℕ). instantAt s (zoneOf t)) m ∙ instant-back i (zoneOf t) (a .zone-good) (r .from) ∙ sym (own-instant o d w z), n)
 
+-- the time of day at a local time
+clock-placed : (l : ℕ) (z : Zone) → clockOf (atLocal l z) ≡ l % dayTicks
+clock-placed l z = clock-at (dateOf (l / dayTicks)) (l % dayTicks) z
+
 -- the local time of a time is on the reference day
 abbrev pub referenceDay : ℕ
 referenceDay = dayNumber 1972 12 31
@@ -93,9 +99,9 @@ reference-from : 1 ≤ referenceDay
 unfolding total
 reference-from = omega arith
 
-pub on-reference : (d : DateTime) → localOf (kept KV.Time d) ≡ referenceDay * dayTicks + d .micros
+pub on-reference : (d : DateTime) → localOf (kept KV.Time d) ≡ referenceDay * dayTicks + clockOf d
 unfolding localOf
-on-reference d = refl
+on-reference d = ap (λ (u : ℕ). referenceDay * dayTicks + u) (clock-kept (dateIn (template KV.Time)) d (d .zone))
 
 pub adjust-keeps-time : (o : Offset) (d e : DateTime) (t : D.DayTime) (w : Offset) → d .zone ≡ At w
     → adjustOf (VV.Time d) (VV.DayTime t) ≡ gives (VV.Time e) → (instantOf o e % dayTicks ≡ instantOf o d % dayTicks) × (e .zone ≡ At (zoneOf t))
@@ -110,7 +116,7 @@ adjust-keeps-time o d e t w z h =
     let x : kept KV.Time (atLocal l (At (zoneOf t))) ≡ e = cc in
     let r = instant-reaches d w g (own-zone d w g z) in
     let n : e .zone ≡ At (zoneOf t) = ap (λ (s : DateTime). s .zone) (sym x) in
-    let m : localOf e ≡ referenceDay * dayTicks + l % dayTicks = ap localOf (sym x) ∙ on-reference (atLocal l (At (zoneOf t))) in
+    let m : localOf e ≡ referenceDay * dayTicks + l % dayTicks = ap localOf (sym x) ∙ on-reference (atLocal l (At (zoneOf t))) ∙ ap (λ (u : ℕ). referenceDay * dayTicks + u) (clock-placed l (At (zoneOf t))) in
     let q : instantOf o e ≡ instantAt (referenceDay * dayTicks + l % dayTicks) (zoneOf t) = own-instant o e (zoneOf t) n ∙ ap (λ (s : ℕ). instantAt s (zoneOf t)) m in (
       ap (λ (s : ℕ). s % dayTicks) q
           ∙ round-day referenceDay i (east (zoneOf t)) (west (zoneOf t)) (east-to (zoneOf t) (a .zone-good)) (west-to (zoneOf t) (a .zone-good)) reference-from (r .from)
@@ -119,9 +125,14 @@ adjust-keeps-time o d e t w z h =
     )
 
 -- the start of a local time's day
-start-of-day : (x : DateTime) → localOf (kept KV.Date x) + x .micros ≡ localOf x
+start-of-day : (x : DateTime) → localOf (kept KV.Date x) + clockOf x ≡ localOf x
 unfolding localOf
-start-of-day x = omega arith
+start-of-day x =
+    omega (
+      arith,
+      clock-kept (dateIn x) (template KV.Date) (x .zone),
+      clock-at (dateIn (template KV.Date)) 0 (template KV.Date .zone),
+    )
 
 module _ (l i s e w : ℕ) (he : e ≤ maxZone) (hw : w ≤ maxZone) (hi : dayTicks ≤ i) (hs : dayTicks ≤ s) (hl : l ≡ i + e * minuteTicks - w * minuteTicks) (m : s + l % dayTicks ≡ l) where
   within-day : (s + w * minuteTicks - e * minuteTicks ≤ i) × (i < s + w * minuteTicks - e * minuteTicks + dayTicks)
@@ -143,7 +154,7 @@ adjust-keeps-day o d e t w z h =
     let n : e .zone ≡ At (zoneOf t) = ap (λ (s : DateTime). s .zone) (sym x) in
     let k : okDateTime (kept KV.Date (atLocal l (At (zoneOf t)))) ≡ true = ap okDateTime x ∙ moment-ok KV.Date e (adjust-within (VV.Date d) (VV.DayTime t) (VV.Date e) h) in
     let q = timed (kept KV.Date (atLocal l (At (zoneOf t)))) k .local-from in
-    let m : localOf (kept KV.Date (atLocal l (At (zoneOf t)))) + l % dayTicks ≡ l = start-of-day (atLocal l (At (zoneOf t))) ∙ local-of-placed l (At (zoneOf t)) in
+    let m : localOf (kept KV.Date (atLocal l (At (zoneOf t)))) + l % dayTicks ≡ l = ap (λ (u : ℕ). localOf (kept KV.Date (atLocal l (At (zoneOf t)))) + u) (sym (clock-placed l (At (zoneOf t)))) ∙ start-of-day (atLocal l (At (zoneOf t))) ∙ local-of-placed l (At (zoneOf t)) in
     let b = within-day l i (localOf (kept KV.Date (atLocal l (At (zoneOf t))))) (east (zoneOf t)) (west (zoneOf t)) (east-to (zoneOf t) (a .zone-good)) (west-to (zoneOf t) (a .zone-good)) (r .from) q refl m in
     let c : instantOf o e ≡ instantAt (localOf (kept KV.Date (atLocal l (At (zoneOf t))))) (zoneOf t) = own-instant o e (zoneOf t) n ∙ ap (λ (s : DateTime). instantAt (localOf s) (zoneOf t)) (sym x) in
     let u : instantOf o d ≡ i = own-instant o d w z in

@@ -5,7 +5,7 @@ use mathlib.Core.Bool.{Bool, true, false}
 use mathlib.Core.List.{List, [], _∷_}
 use Prim.Native.Nat.{ℕ}
 use Rattle.basis.specs.Choice.{pick, both, among}
-use Rattle.basis.specs.Answer.{Answer, gives, refuses}
+use Rattle.basis.specs.Answer.{Reason, Answer, gives, refusesFor, refuses}
 use Rattle.value.specs.Refusals.{outside, wrongKind, badZone, beyondResult}
 use Rattle.value.specs.Values.{okOffset}
 use Rattle.value.specs.Kinds.{kindOf, okValue}
@@ -38,20 +38,20 @@ order-numbers o a b =
     (pick (sameKind (kindOf a) (kindOf b)) (gives (operandOrder o (operandOf a) (operandOf b))) (refuses wrongKind)) (refuses outside)
     (only-either kindNumbers (sameKind (kindOf a) (kindOf b)) (gives (operandOrder o (operandOf a) (operandOf b))) (refuses wrongKind) refl refl) refl
 
-pub compare-refuses : (o : Offset) (a b : Value) (n : ℕ) → orderIn o a b ≡ refuses n → among kindNumbers n ≡ true
-compare-refuses o a b n e = only-refused kindNumbers (orderIn o a b) n (order-numbers o a b) e
+pub compare-refuses : (o : Offset) (a b : Value) (r : Reason) → orderIn o a b ≡ refusesFor r → among kindNumbers (r .number) ≡ true
+compare-refuses o a b r e = only-refused kindNumbers (orderIn o a b) r (order-numbers o a b) e
 
-pub compare-for-refuses : (zone : Offset) (a b : Value) (n : ℕ) → orderFor zone a b ≡ refuses n → among kindNumbers n ≡ true
+pub compare-for-refuses : (zone : Offset) (a b : Value) (r : Reason) → orderFor zone a b ≡ refusesFor r → among kindNumbers (r .number) ≡ true
 unfolding orderFor
-compare-for-refuses zone a b n e =
-    only-refused kindNumbers (orderFor zone a b) n
+compare-for-refuses zone a b r e =
+    only-refused kindNumbers (orderFor zone a b) r
     (only-either kindNumbers (okOffset zone) (orderIn zone a b) (refuses outside) (order-numbers zone a b) refl)
     e
 
-pub cast-refuses : (a : Value) (k : Kind) (n : ℕ) → castOf a k ≡ refuses n → among kindNumbers n ≡ true
+pub cast-refuses : (a : Value) (k : Kind) (r : Reason) → castOf a k ≡ refusesFor r → among kindNumbers (r .number) ≡ true
 unfolding castOf
-cast-refuses a k n e =
-    only-refused kindNumbers (castOf a k) n
+cast-refuses a k r e =
+    only-refused kindNumbers (castOf a k) r
     (only-either kindNumbers (okValue a) (pick (castsTo (kindOf a) k) (gives (castTo k (operandOf a))) (refuses wrongKind)) (refuses outside)
     (only-either kindNumbers (castsTo (kindOf a) k) (gives (castTo k (operandOf a))) (refuses wrongKind) refl refl) refl)
     e
@@ -62,10 +62,10 @@ without-numbers (Moment k d) = refl
 without-numbers (DayTime t) = refl
 without-numbers (YearMonth m) = refl
 
-pub unzone-refuses : (a : Value) (n : ℕ) → unzoneOf a ≡ refuses n → among kindNumbers n ≡ true
+pub unzone-refuses : (a : Value) (r : Reason) → unzoneOf a ≡ refusesFor r → among kindNumbers (r .number) ≡ true
 unfolding unzoneOf
-unzone-refuses a n e =
-    only-refused kindNumbers (unzoneOf a) n
+unzone-refuses a r e =
+    only-refused kindNumbers (unzoneOf a) r
     (only-either kindNumbers (okValue a) (withoutZone (operandOf a)) (refuses outside) (without-numbers (operandOf a)) refl)
     e
 
@@ -87,10 +87,10 @@ operand-numbers (Moment k d) y = moment-numbers k d y
 operand-numbers (DayTime t) y = refl
 operand-numbers (YearMonth m) y = refl
 
-pub adjust-refuses : (a z : Value) (n : ℕ) → adjustOf a z ≡ refuses n → among adjustNumbers n ≡ true
+pub adjust-refuses : (a z : Value) (r : Reason) → adjustOf a z ≡ refusesFor r → among adjustNumbers (r .number) ≡ true
 unfolding adjustOf
-adjust-refuses a z n e =
-    only-refused adjustNumbers (adjustOf a z) n
+adjust-refuses a z r e =
+    only-refused adjustNumbers (adjustOf a z) r
     (only-either adjustNumbers (both (okValue a) (okValue z)) (operandTo (operandOf a) (operandOf z)) (refuses outside)
     (operand-numbers (operandOf a) (operandOf z)) refl)
     e

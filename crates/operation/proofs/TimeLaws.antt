@@ -11,10 +11,11 @@ use Rattle.basis.specs.Answer.{gives, refuses}
 use Rattle.basis.proofs.Tests.{both-true}
 use Rattle.calendar.specs.Calendar.{total, yearDays, dateOf}
 use Rattle.calendar.proofs.Years.{years-grow, year-up-to, days-up-to}
-use Rattle.value.specs.Bounds.{minYear, maxYear, maxZone, maxMicros, minuteTicks, dayTicks}
+use Rattle.value.specs.Bounds.{minYear, maxYear, maxZone, maxClock, minuteTicks, dayTicks}
+use Rattle.value.specs.Clocks.{clockOf}
 use Rattle.value.specs.Refusals.{outside, badZone}
 use Rattle.value.specs.Values.{okOffset}
-use Rattle.value.specs.Durations.{plusHalf, minusHalf}
+use Rattle.value.specs.Durations.{plusTicks, minusTicks}
 use Rattle.value.specs.Kinds.{kept, okValue}
 use Rattle.value_instants.specs.Ticks.{localOf, atLocal, inYears, instantAt, east, west}
 use Rattle.value.specs.declared.Offset.{Offset}
@@ -23,31 +24,32 @@ use Rattle.value.specs.declared.DateTime.{DateTime}
 use Rattle.value.specs.declared.DayTime as D
 use Rattle.value.specs.declared.Kind.the-variants as KV
 use Rattle.value.specs.declared.Value.the-variants as VV
+use Rattle.value.proofs.ClockLaws.{clock-to}
 use Rattle.value.proofs.Good.{good}
 use Rattle.value_instants.proofs.Within.{east-to, west-to}
 use Rattle.value.proofs.KindParts.{time-good, of-kind-kept}
 use Rattle.operation_shifting.specs.Shifts.{wrapped, shifted}
 use Rattle.operation_shifting.proofs.Undo.{placed-gives}
 use Rattle.operation_arithmetic.specs.Sums.{sumOf, plusOf, differenceIn, minusIn}
-use Rattle.operation_arithmetic.proofs.Opposites.{plus-opposite, minus-opposite}
+use Rattle.operation_arithmetic.proofs.Opposites.{plus-ticks-opposite, minus-ticks-opposite}
 use Rattle.operation_adjusting.specs.Adjustment.{isZone, zoneOf, localAt, adjustedFrom, adjustedTo, momentTo, operandTo, adjustOf}
 use Rattle.operation.proofs.Keeping.{referenceDay, on-reference}
 use Rattle.operation_adjusting.proofs.Zones.{zone-ok, own-zone}
 
 pub time-plus-given : (d : DateTime) (t : D.DayTime) → okValue (VV.Time d) ≡ true → okValue (VV.DayTime t) ≡ true
-    → plusOf (VV.Time d) (VV.DayTime t) ≡ gives (VV.Time (wrapped d (plusHalf (t .negative) (t .micros)) (minusHalf (t .negative) (t .micros))))
+    → plusOf (VV.Time d) (VV.DayTime t) ≡ gives (VV.Time (wrapped d (plusTicks t) (minusTicks t)))
 unfolding plusOf sumOf shifted
 time-plus-given d t g h =
     let b : both (okValue (VV.Time d)) (okValue (VV.DayTime t)) ≡ true = both-true _ _ g h in
-    λ i. pick (b i) (gives (VV.Time (wrapped d (plusHalf (t .negative) (t .micros)) (minusHalf (t .negative) (t .micros))))) (refuses outside)
+    λ i. pick (b i) (gives (VV.Time (wrapped d (plusTicks t) (minusTicks t)))) (refuses outside)
 
 pub time-minus-given : (o : Offset) (d : DateTime) (t : D.DayTime) → okValue (VV.Time d) ≡ true → okValue (VV.DayTime t) ≡ true
-    → minusIn o (VV.Time d) (VV.DayTime t) ≡ gives (VV.Time (wrapped d (minusHalf (t .negative) (t .micros)) (plusHalf (t .negative) (t .micros))))
+    → minusIn o (VV.Time d) (VV.DayTime t) ≡ gives (VV.Time (wrapped d (minusTicks t) (plusTicks t)))
 unfolding minusIn differenceIn sumOf shifted
 time-minus-given o d t g h =
     let b : both (okValue (VV.Time d)) (okValue (VV.DayTime t)) ≡ true = both-true _ _ g h in
-    let p = plus-opposite (t .negative) (t .micros) in
-    let q = minus-opposite (t .negative) (t .micros) in
+    let p = plus-ticks-opposite t in
+    let q = minus-ticks-opposite t in
     λ i. pick (b i) (gives (VV.Time (wrapped d (p i) (q i)))) (refuses outside)
 
 -- a local time whose day is between the first and the last of the years
@@ -74,7 +76,7 @@ near-reference t h l =
     let g = years-grow 1974 (maxYear + 1) (omega arith) in
     in-years-by t (omega arith) (omega arith)
 
-time-local : (d : DateTime) → okValue (VV.Time d) ≡ true → localOf d ≡ referenceDay * dayTicks + d .micros
+time-local : (d : DateTime) → okValue (VV.Time d) ≡ true → localOf d ≡ referenceDay * dayTicks + clockOf d
 time-local d g =
     let e : kept KV.Time d ≡ d = of-kind-kept KV.Time d (time-good (VV.Time d) g d refl .1) in
     ap localOf (sym e) ∙ on-reference d
@@ -84,7 +86,7 @@ unfolding okValue
 zone-within t h i = zone-ok t h i
 
 -- moved by less than two days
-module _ (n u e w a b : ℕ) (hu : u ≤ maxMicros) (he : e ≤ maxZone) (hw : w ≤ maxZone) (ha : a ≤ maxZone) (hb : b ≤ maxZone) (hn : 3 ≤ n) where
+module _ (n u e w a b : ℕ) (hu : u ≤ maxClock) (he : e ≤ maxZone) (hw : w ≤ maxZone) (ha : a ≤ maxZone) (hb : b ≤ maxZone) (hn : 3 ≤ n) where
   abbrev moved-time : ℕ
   moved-time = n * dayTicks + u + w * minuteTicks - e * minuteTicks + a * minuteTicks - b * minuteTicks
 
@@ -102,9 +104,9 @@ time-adjust-given d t w z g h i =
     let o = own-zone d w k z in
     let l : ℕ = localAt (instantAt (localOf d) w) (zoneOf t) in
     let b : both (okValue (VV.Time d)) (okValue (VV.DayTime t)) ≡ true = both-true _ _ g h in
-    let r = two-days-around referenceDay (d .micros) (east w) (west w) (east (zoneOf t)) (west (zoneOf t)) (good d k .micros-to)
+    let r = two-days-around referenceDay (clockOf d) (east w) (west w) (east (zoneOf t)) (west (zoneOf t)) (clock-to d (good d k .time))
     (east-to w o) (west-to w o) (east-to (zoneOf t) q) (west-to (zoneOf t) q) (omega (arith, reference-inside)) in
-    let s : l ≡ referenceDay * dayTicks + d .micros + west w * minuteTicks - east w * minuteTicks + east (zoneOf t) * minuteTicks - west (zoneOf t) * minuteTicks
+    let s : l ≡ referenceDay * dayTicks + clockOf d + west w * minuteTicks - east w * minuteTicks + east (zoneOf t) * minuteTicks - west (zoneOf t) * minuteTicks
     = ap (λ (x : ℕ). localAt (instantAt x w) (zoneOf t)) (time-local d g) in
     let y : inYears l ≡ true = ap inYears s ∙ near-reference _ (r .0) (r .1) in
     (λ j. pick (b j) (adjustedTo KV.Time d t) (refuses outside)) ∙ (λ j. pick (i j) (adjustedFrom KV.Time d (z j) (zoneOf t)) (refuses badZone))

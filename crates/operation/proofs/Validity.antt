@@ -5,7 +5,7 @@ use Rattle.basis.specs.Choice.{pick, both}
 use Rattle.basis.specs.Answer.{gives, refuses}
 use Rattle.basis.proofs.Tests.{both-left, both-right, both-true}
 use Rattle.value.specs.Refusals.{outside, wrongKind, badZone}
-use Rattle.value.specs.Values.{okDateTime, okOffset, okZone}
+use Rattle.value.specs.Values.{dateIn, okDateTime, okOffset, okZone}
 use Rattle.value.specs.Kinds.{kindOf, ofKind, okValue}
 use Rattle.value_instants.specs.Ticks.{localOf, instantAt}
 use Rattle.value.specs.declared.Offset.{Offset}
@@ -15,7 +15,9 @@ use Rattle.value.specs.declared.DateTime.{DateTime}
 use Rattle.value.specs.declared.Kind.{Kind}
 use Rattle.value.specs.declared.Kind.the-variants as KV
 use Rattle.value.specs.declared.Value.{Value}
+use Rattle.value.proofs.ClockLaws.{time-part-kept}
 use Rattle.value.proofs.Good.{good, record-ok}
+use Rattle.value.proofs.KindParts.{of-kind-kept, kept-of-kind}
 use Rattle.operation_quantities.specs.Operands.{operandOf, valueOf}
 use Rattle.operation_quantities.specs.declared.Operand.{Operand}
 use Rattle.operation_quantities.specs.declared.Operand.the-variants.{Moment, DayTime, YearMonth}
@@ -42,15 +44,24 @@ cast-valid a k =
 
 -- adjustment
 zoned-record : (d : DateTime) (z : Zone) → okDateTime d ≡ true → okZone z ≡ true → okDateTime (withZone d z) ≡ true
-zoned-record d z g h = let r = good d g in record-ok (withZone d z) (record { day = r .day; micros-to = r .micros-to; zone = h })
+zoned-record d z g h =
+    let r = good d g in
+    record-ok (withZone d z) (record { day = r .day; time = time-part-kept (dateIn d) d z (r .time); zone = h })
+
+-- a kind keeps all of a record in any zone where it does so in its own
+zoned-date : (d : DateTime) (z : Zone) → ofKind KV.Date d ≡ true → ofKind KV.Date (withZone d z) ≡ true
+zoned-date d z e = kept-of-kind KV.Date (withZone d z) (λ i. withZone (of-kind-kept KV.Date d e i) z)
+
+zoned-time : (d : DateTime) (z : Zone) → ofKind KV.Time d ≡ true → ofKind KV.Time (withZone d z) ≡ true
+zoned-time d z e = kept-of-kind KV.Time (withZone d z) (λ i. withZone (of-kind-kept KV.Time d e i) z)
 
 zoned-valid : (k : Kind) (d : DateTime) (z : Zone) → okValue (valueOf k d) ≡ true → okZone z ≡ true → okValue (valueOf k (withZone d z)) ≡ true
-unfolding okValue ofKind
-zoned-valid KV.Date d z g h = both-true _ _ (zoned-record d z (both-left _ _ g) h) (both-right _ _ g)
-zoned-valid KV.Time d z g h = both-true _ _ (zoned-record d z (both-left _ _ g) h) (both-right _ _ g)
+unfolding okValue
+zoned-valid KV.Date d z g h = both-true _ _ (zoned-record d z (both-left _ _ g) h) (zoned-date d z (both-right _ _ g))
+zoned-valid KV.Time d z g h = both-true _ _ (zoned-record d z (both-left _ _ g) h) (zoned-time d z (both-right _ _ g))
 zoned-valid KV.DateTime d z g h = zoned-record d z g h
-zoned-valid KV.DayTimeDuration d z g h = both-true _ _ (zoned-record d z (both-left _ _ g) h) (both-right _ _ g)
-zoned-valid KV.YearMonthDuration d z g h = both-true _ _ (zoned-record d z (both-left _ _ g) h) (both-right _ _ g)
+zoned-valid KV.DayTimeDuration d z g h = both-true _ _ (zoned-record d z (both-left _ _ g) h) (zoned-time d z (both-right _ _ g))
+zoned-valid KV.YearMonthDuration d z g h = both-true _ _ (zoned-record d z (both-left _ _ g) h) (zoned-time d z (both-right _ _ g))
 
 adjusted-valid : (k : Kind) (d : DateTime) (x : Zone) (z : Offset) → okValue (valueOf k d) ≡ true → okOffset z ≡ true
     → valid (adjustedFrom k d x z) ≡ true

@@ -31,9 +31,7 @@ pub fn compare_for(a: Value, b: Value, zone: Offset) -> Compared
     ensures { λ r. ⌜ order.comparedMeaning r ≡ order.orderFor zone a b ⌝ }
 {
     if !valid::offset_ok(zone) {
-        return Compared::Refused(Refusal {
-            number: Refusal::OUTSIDE,
-        });
+        return Compared::Refused(Refusal::numbered(Refusal::OUTSIDE));
     }
     operation_ordering::compare_in(a, b, zone)
 }

@@ -3,14 +3,16 @@ use mathlib.Core.Path.{_≡_, refl, ap, sym, _∙_}
 use mathlib.Core.Bool.{Bool, true, false}
 use Prim.Native.Nat.{ℕ, _+_, _-_, _*_, _/_, _%_, _≤_, _<_, _^_}
 use native.Mathlib.Omega.{arith}
-use borrow.Author.Tests.{leb-true, le-leb, eqb-true, ltb-true}
-use Rattle.basis.specs.Choice.{pick, every}
+use lib.Dec.{eqb, leb}
+use borrow.Author.Tests.{leb-true, le-leb, eqb-true, eq-eqb, ne-eqb, ltb-true}
+use Rattle.basis.specs.Choice.{pick, both, every}
 use Rattle.basis.specs.Answer.{gives}
 use Rattle.basis.proofs.Tests.{both-left, both-right, both-true}
 use Rattle.value.specs.Bounds.{maxYear, secondTicks, maxZone, maxDayTime, minuteTicks, dayTicks}
+use Rattle.value.specs.Clocks.{ticksIn}
 use Rattle.value.specs.Values.{okSigned, okDayTime, okOffset, okZone, okDateTime}
 use Rattle.value_instants.specs.Ticks.{utc, localOf, instantAt}
-use Rattle.value_instants.specs.Carried.{ticksOf, spanOf}
+use Rattle.value.specs.Carried.{ticksOf, spanOf}
 use Rattle.value.specs.declared.Offset.{Offset}
 use Rattle.value.specs.declared.Offset.the-variants.{East, West}
 use Rattle.value.specs.declared.Zone.{Zone}
@@ -20,22 +22,47 @@ use Rattle.value.specs.declared.DayTime as D
 use Rattle.value.specs.declared.Kind.{Kind}
 use Rattle.value.specs.declared.Value.{Value}
 use Rattle.value.specs.declared.Span.{Span}
+use Rattle.value.proofs.ClockLaws.{day-time-signed}
 use Rattle.value.proofs.Good.{good}
 use Rattle.value_instants.proofs.Within.{timed, east-to, west-to}
-use Rattle.value_instants.proofs.TwoParts.{span-is}
+use Rattle.value.proofs.Spans.{span-is}
 use Rattle.operation_quantities.specs.Operands.{valueOf}
 use Rattle.operation_quantities.specs.Results.{atTicks}
 use Rattle.operation_adjusting.specs.Adjustment.{isZone, zoneOf, localAt, withZone, adjustedFrom}
 use Rattle.operation_quantities.proofs.Spanned.{ticks-of, part-of, seconds-of}
 use Rattle.operation_shifting.proofs.Reach.{local-from}
 
-pub zone-minutes : (z : D.DayTime) → isZone z ≡ true → z .micros / minuteTicks ≤ maxZone
+pub zone-minutes : (z : D.DayTime) → isZone z ≡ true → ticksIn z / minuteTicks ≤ maxZone
 unfolding isZone
 zone-minutes z e = leb-true _ _ (both-right _ _ e)
 
-zone-whole : (z : D.DayTime) → isZone z ≡ true → z .micros % minuteTicks ≡ 0
+zone-whole : (z : D.DayTime) → isZone z ≡ true → ticksIn z % minuteTicks ≡ 0
 unfolding isZone
 zone-whole z e = eqb-true _ _ (both-left _ _ e)
+
+-- the same, through the span that the code has in hand
+module _ (z : D.DayTime) (s : Span) (e : s ≡ spanOf (ticksIn z)) where
+  pub minutes-of : s .seconds / 60 ≡ ticksIn z / minuteTicks
+  minutes-of = omega (arith, seconds-of s (ticksIn z) e)
+
+  part-is : s .part ≡ ticksIn z % secondTicks
+  part-is = ap (λ (x : Span). x .part) e
+
+  not-whole : (ticksIn z % minuteTicks ≡ 0 → ⊥) → false ≡ isZone z
+  unfolding isZone both
+  not-whole h = sym (λ i. both (ne-eqb (ticksIn z % minuteTicks) 0 h i) (leb (ticksIn z / minuteTicks) maxZone))
+
+  pub part-no-zone : (s .part ≡ 0 → ⊥) → false ≡ isZone z
+  part-no-zone h = not-whole (λ w. h (omega (arith, part-is)))
+
+  pub seconds-no-zone : (s .seconds % 60 ≡ 0 → ⊥) → false ≡ isZone z
+  seconds-no-zone h = not-whole (λ w. h (omega (arith, seconds-of s (ticksIn z) e)))
+
+  pub minutes-zone : s .part ≡ 0 → s .seconds % 60 ≡ 0 → leb (s .seconds / 60) maxZone ≡ isZone z
+  unfolding isZone both
+  minutes-zone p q =
+      let w : eqb (ticksIn z % minuteTicks) 0 ≡ true = eq-eqb (ticksIn z % minuteTicks) 0 (omega (arith, part-is, seconds-of s (ticksIn z) e)) in
+      λ i. both (sym w i) (leb (minutes-of i) maxZone)
 
 zone-good : (n : Bool) (m : ℕ) → okSigned maxDayTime n m ≡ true → m / minuteTicks ≤ maxZone → m % minuteTicks ≡ 0
     → okOffset (pick n (West (m / minuteTicks)) (East (m / minuteTicks))) ≡ true
@@ -46,7 +73,7 @@ zone-good true m g h w =
 zone-good false m g h w = le-leb _ _ h
 
 pub zone-ok : (z : D.DayTime) → okDayTime z ≡ true → isZone z ≡ true → okOffset (zoneOf z) ≡ true
-zone-ok z g e = zone-good (z .negative) (z .micros) g (zone-minutes z e) (zone-whole z e)
+zone-ok z g e = zone-good (z .negative) (ticksIn z) (day-time-signed z g) (zone-minutes z e) (zone-whole z e)
 
 pub own-zone : (d : DateTime) (w : Offset) → okDateTime d ≡ true → d .zone ≡ At w → okOffset w ≡ true
 unfolding okZone

@@ -7,7 +7,9 @@ use lib.Dec.{eqb, leb}
 use Rattle.basis.specs.Choice.{pick, both}
 use Rattle.basis.specs.Answer.{Answer, gives, refuses}
 use Rattle.value.specs.Bounds.{maxZone, minuteTicks}
+use Rattle.value.specs.Clocks.{atClockOf, ticksIn}
 use Rattle.value.specs.Refusals.{badZone, wrongKind, outside}
+use Rattle.value.specs.Values.{dateIn}
 use Rattle.value.specs.Kinds.{okValue}
 use Rattle.value_instants.specs.Ticks.{localOf, instantAt, east, west}
 use Rattle.value.specs.declared.Offset.{Offset}
@@ -25,10 +27,10 @@ use Rattle.operation_quantities.specs.declared.Operand.the-variants.{Moment, Da
 
 -- Z is a number of whole minutes, within 14 hours
 unfoldable pub isZone : D.DayTime → Bool
-isZone z = both (eqb (z .micros % minuteTicks) 0) (leb (z .micros / minuteTicks) maxZone)
+isZone z = both (eqb (ticksIn z % minuteTicks) 0) (leb (ticksIn z / minuteTicks) maxZone)
 
 abbrev pub zoneOf : D.DayTime → Offset
-zoneOf z = pick (z .negative) (West (z .micros / minuteTicks)) (East (z .micros / minuteTicks))
+zoneOf z = pick (z .negative) (West (ticksIn z / minuteTicks)) (East (ticksIn z / minuteTicks))
 
 -- the local time of an instant: east of UTC it is later, west of it earlier
 abbrev pub localAt : ℕ → Offset → ℕ
@@ -36,7 +38,7 @@ localAt i o = i + east o * minuteTicks - west o * minuteTicks
 
 -- the record with its local fields, in another zone or in none
 abbrev pub withZone : DateTime → Zone → DateTime
-withZone d z = record { year = d .year; month = d .month; day = d .day; micros = d .micros; zone = z }
+withZone d z = atClockOf (dateIn d) d z
 
 unfoldable pub adjustedFrom : Kind → DateTime → Zone → Offset → Answer Value
 adjustedFrom k d Absent z = gives (valueOf k (withZone d (At z)))

@@ -1,4 +1,5 @@
 // A value in another zone, or in none.
+use calendar::Date;
 use operation_quantities::Operand;
 use operation_quantities::operands;
 use operation_quantities::results;
@@ -11,6 +12,7 @@ use value::Refusal;
 use value::Span;
 use value::Value;
 use value::Zone;
+use value::clocks;
 use value_instants::ticks;
 ghost use mathlib.Core.Path.{_≡_};
 ghost use mathlib.Core.Bool.{true};
@@ -18,26 +20,29 @@ ghost use Prim.Native.Nat.{_*_, _<_, _≤_, _^_};
 ghost use Rattle.value.specs.Bounds.{secondTicks, minuteSeconds, maxZone};
 ghost use Rattle.value.specs.Values.{okOffset, okDateTime, okDayTime};
 ghost use Rattle.value.specs.Kinds.{okValue, meaning};
-ghost use Rattle.value_instants.specs.Carried.{spanOf, ticksOf};
+ghost use Rattle.value.specs.Carried.{spanOf, ticksOf};
 ghost use Rattle.operation_quantities.specs.Operands.{operandOf};
 ghost use Rattle.operation_adjusting.specs.Adjustment as the;
-
-const MINUTE_TICKS: u64 = Span::MINUTE * Span::TICKS as u64;
 
 fn is_zone(z: DayTime) -> bool
     ensures { λ r. ⌜ r ≡ the.isZone z ⌝ }
 {
-    if z.micros % MINUTE_TICKS != 0 {
+    let size = clocks::size(z);
+    if size.part != 0 {
         return false;
     }
-    z.micros / MINUTE_TICKS <= DateTime::MAX_ZONE as u64
+    if size.seconds % Span::MINUTE != 0 {
+        return false;
+    }
+    size.seconds / Span::MINUTE <= DateTime::MAX_ZONE as u64
 }
 
 fn zone_of(z: DayTime) -> Offset
     requires { ⌜ the.isZone z ≡ true ⌝ }
     ensures { λ r. ⌜ r ≡ the.zoneOf z ⌝ }
 {
-    let m = (z.micros / MINUTE_TICKS) as u16;
+    let size = clocks::size(z);
+    let m = (size.seconds / Span::MINUTE) as u16;
     if z.negative {
         return Offset::West(m);
     }
@@ -66,13 +71,12 @@ fn local_at(t: Span, o: Offset) -> Span
 fn with_zone(d: DateTime, zone: Zone) -> DateTime
     ensures { λ r. ⌜ r ≡ the.withZone d zone ⌝ }
 {
-    DateTime {
+    let e = Date {
         year: d.year,
         month: d.month,
         day: d.day,
-        micros: d.micros,
-        zone,
-    }
+    };
+    clocks::at_clock_of(e, d, zone)
 }
 
 fn adjusted_from(kind: Kind, d: DateTime, z: Offset) -> Outcome

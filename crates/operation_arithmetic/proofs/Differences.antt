@@ -6,7 +6,6 @@ use borrow.Author.Tests.{eq-eqb}
 use Rattle.basis.specs.Choice.{pick, both}
 use Rattle.basis.specs.Answer.{gives, refuses}
 use Rattle.basis.proofs.Tests.{both-true}
-use Rattle.value.specs.Bounds.{maxDayTime}
 use Rattle.value.specs.Refusals.{wrongKind, outside, beyondResult}
 use Rattle.value.specs.Durations.{lessTicks}
 use Rattle.value.specs.Values.{okOffset, okDayTime}
@@ -17,7 +16,7 @@ use Rattle.value.specs.declared.DateTime.{DateTime}
 use Rattle.value.specs.declared.Kind.{Kind}
 use Rattle.value.specs.declared.Value.{Value}
 use Rattle.value.specs.declared.Value.the-variants as VV
-use Rattle.value.proofs.Signs.{difference-ok}
+use Rattle.value.proofs.ClockLaws.{less-ok}
 use Rattle.operation_quantities.specs.Operands.{operandOf, sameKind, kindNumber}
 use Rattle.operation_quantities.specs.Results.{inTicks}
 use Rattle.operation_quantities.specs.declared.Operand.{Operand}
@@ -47,7 +46,7 @@ difference-given o a b k d e go ga gb ea eb =
     let q = instant-to o e go (moment-good b (operandOf b) gb refl k e eb) in
     let t : both (okValue a) (okValue b) ≡ true = both-true _ _ ga gb in
     let s : sameKind k k ≡ true = eq-eqb (kindNumber k) (kindNumber k) refl in
-    let w : okDayTime (lessTicks (instantOf o d) (instantOf o e)) ≡ true = difference-ok maxDayTime (instantOf o d) (instantOf o e) (omega arith) in
+    let w : okDayTime (lessTicks (instantOf o d) (instantOf o e)) ≡ true = less-ok (instantOf o d) (instantOf o e) (omega arith) in
     (λ i. pick (t i) (differenceIn o (ea i) (eb i)) (refuses outside))
     ∙ (λ i. pick (s i) (inTicks (instantOf o d) (instantOf o e)) (refuses wrongKind))
     ∙ (λ i. pick (w i) (gives (VV.DayTime (lessTicks (instantOf o d) (instantOf o e)))) (refuses beyondResult))

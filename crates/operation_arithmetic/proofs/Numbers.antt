@@ -5,7 +5,7 @@ use mathlib.Core.List.{List, [], _∷_}
 use Prim.Native.Nat.{ℕ, _+_, _-_, _*_, _/_}
 use lib.Dec.{leb}
 use Rattle.basis.specs.Choice.{pick, both, among}
-use Rattle.basis.specs.Answer.{Answer, gives, refuses}
+use Rattle.basis.specs.Answer.{Reason, Answer, gives, refusesFor, refuses}
 use Rattle.calendar.specs.Calendar.{monthCount}
 use Rattle.value.specs.Bounds.{minYear, maxYear}
 use Rattle.value.specs.Refusals.{outside, wrongKind, beyondResult}
@@ -87,26 +87,26 @@ product-numbers (Moment k d) negative n = refl
 product-numbers (DayTime t) negative n = either negative _ _ (ticks-numbers _ _) (ticks-numbers _ _)
 product-numbers (YearMonth m) negative n = either negative _ _ (months-numbers _ _) (months-numbers _ _)
 
-pub plus-refuses : (a b : Value) (n : ℕ) → plusOf a b ≡ refuses n → among resultNumbers n ≡ true
+pub plus-refuses : (a b : Value) (r : Reason) → plusOf a b ≡ refusesFor r → among resultNumbers (r .number) ≡ true
 unfolding plusOf
-plus-refuses a b n e =
-    only-refused resultNumbers (plusOf a b) n (either (both (okValue a) (okValue b)) _ _ (sum-numbers (operandOf a) (operandOf b)) refl) e
+plus-refuses a b r e =
+    only-refused resultNumbers (plusOf a b) r (either (both (okValue a) (okValue b)) _ _ (sum-numbers (operandOf a) (operandOf b)) refl) e
 
 minus-numbers : (o : Offset) (a b : Value) → Fits (minusIn o a b)
 unfolding minusIn
 minus-numbers o a b = either (both (okValue a) (okValue b)) _ _ (difference-numbers o (operandOf a) (operandOf b)) refl
 
-pub minus-refuses : (o : Offset) (a b : Value) (n : ℕ) → minusIn o a b ≡ refuses n → among resultNumbers n ≡ true
-minus-refuses o a b n e = only-refused resultNumbers (minusIn o a b) n (minus-numbers o a b) e
+pub minus-refuses : (o : Offset) (a b : Value) (r : Reason) → minusIn o a b ≡ refusesFor r → among resultNumbers (r .number) ≡ true
+minus-refuses o a b r e = only-refused resultNumbers (minusIn o a b) r (minus-numbers o a b) e
 
-pub minus-for-refuses : (zone : Offset) (a b : Value) (n : ℕ) → minusFor zone a b ≡ refuses n → among resultNumbers n ≡ true
+pub minus-for-refuses : (zone : Offset) (a b : Value) (r : Reason) → minusFor zone a b ≡ refusesFor r → among resultNumbers (r .number) ≡ true
 unfolding minusFor
-minus-for-refuses zone a b n e =
-    only-refused resultNumbers (minusFor zone a b) n (either (okOffset zone) (minusIn zone a b) (refuses outside) (minus-numbers zone a b) refl) e
+minus-for-refuses zone a b r e =
+    only-refused resultNumbers (minusFor zone a b) r (either (okOffset zone) (minusIn zone a b) (refuses outside) (minus-numbers zone a b) refl) e
 
-pub times-refuses : (a : Value) (negative : Bool) (m n : ℕ) → timesOf a negative m ≡ refuses n → among resultNumbers n ≡ true
+pub times-refuses : (a : Value) (negative : Bool) (m : ℕ) (r : Reason) → timesOf a negative m ≡ refusesFor r → among resultNumbers (r .number) ≡ true
 unfolding timesOf
-times-refuses a negative m n e =
-    only-refused resultNumbers (timesOf a negative m) n
+times-refuses a negative m r e =
+    only-refused resultNumbers (timesOf a negative m) r
     (either (both (okValue a) (leb m maxFactor)) _ _ (product-numbers (operandOf a) negative m) refl)
     e

@@ -6,7 +6,7 @@ use native.Mathlib.Omega.{arith}
 use Rattle.basis.specs.Choice.{pick, both}
 use Rattle.basis.specs.Answer.{refuses}
 use Rattle.value.specs.Refusals.{outside}
-use Rattle.value.specs.Durations.{plusHalf, minusHalf}
+use Rattle.value.specs.Durations.{plusHalf, minusHalf, plusTicks, minusTicks}
 use Rattle.value.specs.Kinds.{okValue}
 use Rattle.value.specs.declared.Value.{Value}
 use Rattle.operation_quantities.specs.Operands.{operandOf}
@@ -32,9 +32,7 @@ sum-turned (Moment k d) (DayTime t) = refl
 sum-turned (Moment k d) (YearMonth m) = refl
 sum-turned (DayTime t) (Moment k d) = refl
 sum-turned (DayTime t) (DayTime s) =
-    λ i.
-    inTicks (added-turned (plusHalf (t .negative) (t .micros)) (plusHalf (s .negative) (s .micros)) i)
-    (added-turned (minusHalf (t .negative) (t .micros)) (minusHalf (s .negative) (s .micros)) i)
+    λ i. inTicks (added-turned (plusTicks t) (plusTicks s) i) (added-turned (minusTicks t) (minusTicks s) i)
 sum-turned (DayTime t) (YearMonth m) = refl
 sum-turned (YearMonth m) (Moment k d) = refl
 sum-turned (YearMonth m) (DayTime t) = refl

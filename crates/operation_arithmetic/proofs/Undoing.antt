@@ -10,7 +10,8 @@ use Rattle.basis.specs.Answer.{gives, refuses}
 use Rattle.basis.proofs.Tests.{both-left, both-right, both-true}
 use Rattle.value.specs.Bounds.{dayTicks}
 use Rattle.value.specs.Refusals.{outside}
-use Rattle.value.specs.Durations.{plusHalf, minusHalf}
+use Rattle.value.specs.Clocks.{ticksIn}
+use Rattle.value.specs.Durations.{plusHalf, minusHalf, plusTicks, minusTicks}
 use Rattle.value.specs.Kinds.{hasDate, hasTime, kept, kindOf, okValue}
 use Rattle.value_instants.specs.Ticks.{localOf, atLocal}
 use Rattle.value.specs.declared.Offset.{Offset}
@@ -28,12 +29,12 @@ use Rattle.operation_quantities.proofs.Shapes.{moment-ok}
 use Rattle.operation_quantities.proofs.Given.{given-test, gives-same}
 use Rattle.operation_shifting.proofs.Undo.{placed-gives, given-in-years, date-time-undone, time-undone, date-undone}
 use Rattle.operation_arithmetic.specs.Sums.{sumOf, plusOf, differenceIn, minusIn}
-use Rattle.operation_arithmetic.proofs.Opposites.{plus-opposite, minus-opposite}
+use Rattle.operation_arithmetic.proofs.Opposites.{plus-ticks-opposite, minus-ticks-opposite}
 use Rattle.operation_arithmetic.proofs.Validity.{plus-within, minus-within}
 
 -- the kinds and durations of which this holds
 abbrev pub comesBack : Kind → D.DayTime → Bool
-comesBack k t = pick (hasTime k) true (both (hasDate k) (eqb (t .micros % dayTicks) 0))
+comesBack k t = pick (hasTime k) true (both (hasDate k) (eqb (ticksIn t % dayTicks) 0))
 
 -- the record of a shift
 abbrev shiftedRecord : Kind → DateTime → ℕ → ℕ → DateTime
@@ -55,11 +56,11 @@ half-whole false m e = (e, refl)
 
 -- forth by p - q and back, p and q being whole days for a date
 back : (k : Kind) (d : DateTime) (t : D.DayTime) (p q : ℕ) (b : Value) → okValue (valueOf k d) ≡ true → comesBack k t ≡ true
-    → (t .micros % dayTicks ≡ 0 → (p % dayTicks ≡ 0) × (q % dayTicks ≡ 0)) → shifted k d p q ≡ gives b
+    → (ticksIn t % dayTicks ≡ 0 → (p % dayTicks ≡ 0) × (q % dayTicks ≡ 0)) → shifted k d p q ≡ gives b
     → shifted k (shiftedRecord k d p q) q p ≡ gives (valueOf k d)
 unfolding both
 back KV.Date d t p q b g c w e =
-    let h = w (eqb-true (t .micros % dayTicks) 0 c) in
+    let h = w (eqb-true (ticksIn t % dayTicks) 0 c) in
     let own = date-good (VV.Date d) g d refl in
     let f = shift-given KV.Date d p q b e in
     date-undone d (shiftedRecord KV.Date d p q) p q (own .0) (own .1) (h .0) (h .1) (e ∙ ap gives f)
@@ -93,7 +94,7 @@ minus-tested o a b v e = given-test (both (okValue a) (okValue b)) (differenceIn
 
 -- plus and minus of a duration as shifts
 plus-shift : (k : Kind) (d : DateTime) (t : D.DayTime) → comesBack k t ≡ true → okValue (valueOf k d) ≡ true → okValue (VV.DayTime t) ≡ true
-    → plusOf (valueOf k d) (VV.DayTime t) ≡ shifted k d (plusHalf (t .negative) (t .micros)) (minusHalf (t .negative) (t .micros))
+    → plusOf (valueOf k d) (VV.DayTime t) ≡ shifted k d (plusTicks t) (minusTicks t)
 unfolding plusOf sumOf
 plus-shift k d t c g h =
     let o = its-operand k d t c in
@@ -101,13 +102,13 @@ plus-shift k d t c g h =
     λ i. pick (b i) (sumOf (o i) (DayTime t)) (refuses outside)
 
 minus-shift : (o : Offset) (k : Kind) (d : DateTime) (t : D.DayTime) → comesBack k t ≡ true → okValue (valueOf k d) ≡ true → okValue (VV.DayTime t) ≡ true
-    → minusIn o (valueOf k d) (VV.DayTime t) ≡ shifted k d (minusHalf (t .negative) (t .micros)) (plusHalf (t .negative) (t .micros))
+    → minusIn o (valueOf k d) (VV.DayTime t) ≡ shifted k d (minusTicks t) (plusTicks t)
 unfolding minusIn differenceIn sumOf
 minus-shift o k d t c g h =
     let e = its-operand k d t c in
     let b : both (okValue (valueOf k d)) (okValue (VV.DayTime t)) ≡ true = both-true _ _ g h in
     (λ i. pick (b i) (differenceIn o (e i) (DayTime t)) (refuses outside))
-    ∙ (λ i. shifted k d (plus-opposite (t .negative) (t .micros) i) (minus-opposite (t .negative) (t .micros) i))
+    ∙ (λ i. shifted k d (plus-ticks-opposite t i) (minus-ticks-opposite t i))
 
 module _ (o : Offset) (k : Kind) (d : DateTime) (t : D.DayTime) (c : comesBack k t ≡ true) where
   plus-back : (b : Value) → plusOf (valueOf k d) (VV.DayTime t) ≡ gives b → minusIn o b (VV.DayTime t) ≡ gives (valueOf k d)
@@ -116,11 +117,11 @@ module _ (o : Offset) (k : Kind) (d : DateTime) (t : D.DayTime) (c : comesBack k
       let ga = both-left _ _ g in
       let gt = both-right _ _ g in
       let s = sym (plus-shift k d t c ga gt) ∙ e in
-      let r = shift-given k d (plusHalf (t .negative) (t .micros)) (minusHalf (t .negative) (t .micros)) b s in
-      let gb : okValue (valueOf k (shiftedRecord k d (plusHalf (t .negative) (t .micros)) (minusHalf (t .negative) (t .micros)))) ≡ true
+      let r = shift-given k d (plusTicks t) (minusTicks t) b s in
+      let gb : okValue (valueOf k (shiftedRecord k d (plusTicks t) (minusTicks t))) ≡ true
       = ap okValue (sym r) ∙ plus-within (valueOf k d) (VV.DayTime t) b e in
       ap (λ (v : Value). minusIn o v (VV.DayTime t)) r ∙ minus-shift o k _ t c gb gt
-      ∙ back k d t _ _ b ga c (λ w. half-whole (t .negative) (t .micros) w) s
+      ∙ back k d t _ _ b ga c (λ w. half-whole (t .negative) (ticksIn t) w) s
 
   minus-back : (b : Value) → minusIn o (valueOf k d) (VV.DayTime t) ≡ gives b → plusOf b (VV.DayTime t) ≡ gives (valueOf k d)
   minus-back b e =
@@ -128,11 +129,11 @@ module _ (o : Offset) (k : Kind) (d : DateTime) (t : D.DayTime) (c : comesBack k
       let ga = both-left _ _ g in
       let gt = both-right _ _ g in
       let s = sym (minus-shift o k d t c ga gt) ∙ e in
-      let r = shift-given k d (minusHalf (t .negative) (t .micros)) (plusHalf (t .negative) (t .micros)) b s in
-      let gb : okValue (valueOf k (shiftedRecord k d (minusHalf (t .negative) (t .micros)) (plusHalf (t .negative) (t .micros)))) ≡ true
+      let r = shift-given k d (minusTicks t) (plusTicks t) b s in
+      let gb : okValue (valueOf k (shiftedRecord k d (minusTicks t) (plusTicks t))) ≡ true
       = ap okValue (sym r) ∙ minus-within o (valueOf k d) (VV.DayTime t) b e in
       ap (λ (v : Value). plusOf v (VV.DayTime t)) r ∙ plus-shift k _ t c gb gt
-      ∙ back k d t _ _ b ga c (λ w. let h = half-whole (t .negative) (t .micros) w in (h .1, h .0)) s
+      ∙ back k d t _ _ b ga c (λ w. let h = half-whole (t .negative) (ticksIn t) w in (h .1, h .0)) s
 
 pub plus-undone : (o : Offset) (a b : Value) (t : D.DayTime) → comesBack (kindOf a) t ≡ true
     → plusOf a (VV.DayTime t) ≡ gives b → minusIn o b (VV.DayTime t) ≡ gives a

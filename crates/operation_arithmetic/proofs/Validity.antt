@@ -7,7 +7,7 @@ use Rattle.basis.specs.Choice.{both}
 use Rattle.basis.specs.Answer.{gives, refuses}
 use Rattle.basis.proofs.Tests.{both-left, both-right}
 use Rattle.value.specs.Refusals.{outside, wrongKind}
-use Rattle.value.specs.Durations.{plusHalf, minusHalf}
+use Rattle.value.specs.Durations.{plusHalf, minusHalf, plusTicks, minusTicks}
 use Rattle.value.specs.Values.{okOffset}
 use Rattle.value.specs.Kinds.{okValue}
 use Rattle.value_instants.specs.Ticks.{instantOf}
@@ -39,10 +39,10 @@ module _ (a b : Value) (e : both (okValue a) (okValue b) ≡ true) where
 -- sums and differences
 sum-valid : (x y : Operand) → okValue (valueBack x) ≡ true → okValue (valueBack y) ≡ true → valid (sumOf x y) ≡ true
 unfolding sumOf
-sum-valid (Moment k d) (DayTime t) gx gy = shifted-valid k d (plusHalf (t .negative) (t .micros)) (minusHalf (t .negative) (t .micros)) gx
+sum-valid (Moment k d) (DayTime t) gx gy = shifted-valid k d (plusTicks t) (minusTicks t) gx
 sum-valid (Moment k d) (YearMonth m) gx gy = moved-valid k d (plusHalf (m .negative) (m .months)) (minusHalf (m .negative) (m .months)) gx
 sum-valid (Moment k d) (Moment j e) gx gy = refl
-sum-valid (DayTime t) (Moment k d) gx gy = shifted-valid k d (plusHalf (t .negative) (t .micros)) (minusHalf (t .negative) (t .micros)) gy
+sum-valid (DayTime t) (Moment k d) gx gy = shifted-valid k d (plusTicks t) (minusTicks t) gy
 sum-valid (DayTime t) (DayTime s) gx gy = ticks-valid _ _
 sum-valid (DayTime t) (YearMonth m) gx gy = refl
 sum-valid (YearMonth m) (Moment k d) gx gy = moved-valid k d (plusHalf (m .negative) (m .months)) (minusHalf (m .negative) (m .months)) gy

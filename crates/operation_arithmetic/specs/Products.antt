@@ -5,7 +5,7 @@ use lib.Dec.{leb}
 use Rattle.basis.specs.Choice.{pick, both}
 use Rattle.basis.specs.Answer.{Answer, refuses}
 use Rattle.value.specs.Refusals.{wrongKind, outside}
-use Rattle.value.specs.Durations.{plusHalf, minusHalf}
+use Rattle.value.specs.Durations.{plusHalf, minusHalf, plusTicks, minusTicks}
 use Rattle.value.specs.Kinds.{okValue}
 use Rattle.value.specs.declared.Value.{Value}
 use Rattle.operation_quantities.specs.Operands.{operandOf}
@@ -22,7 +22,7 @@ signedTimes result negative n p q = pick negative (result (q * n) (p * n)) (resu
 
 unfoldable pub productOf : Operand → Bool → ℕ → Answer Value
 productOf (Moment k d) negative n = refuses wrongKind
-productOf (DayTime t) negative n = signedTimes inTicks negative n (plusHalf (t .negative) (t .micros)) (minusHalf (t .negative) (t .micros))
+productOf (DayTime t) negative n = signedTimes inTicks negative n (plusTicks t) (minusTicks t)
 productOf (YearMonth m) negative n = signedTimes inMonths negative n (plusHalf (m .negative) (m .months)) (minusHalf (m .negative) (m .months))
 
 unfoldable pub timesOf : Value → Bool → ℕ → Answer Value

@@ -4,7 +4,7 @@ use Prim.Native.Nat.{_+_}
 use Rattle.basis.specs.Choice.{pick, both}
 use Rattle.basis.specs.Answer.{Answer, refuses}
 use Rattle.value.specs.Refusals.{wrongKind, outside}
-use Rattle.value.specs.Durations.{plusHalf, minusHalf, lessTicks, lessMonths}
+use Rattle.value.specs.Durations.{plusHalf, minusHalf, plusTicks, minusTicks, lessTicks, lessMonths}
 use Rattle.value.specs.Values.{okOffset}
 use Rattle.value.specs.Kinds.{okValue}
 use Rattle.value_instants.specs.Ticks.{instantOf}
@@ -26,10 +26,7 @@ sumOf (Moment k d) (DayTime t) = shiftedBy k d t
 sumOf (Moment k d) (YearMonth m) = movedBy k d m
 sumOf (Moment k d) (Moment j e) = refuses wrongKind
 sumOf (DayTime t) (Moment k d) = shiftedBy k d t
-sumOf (DayTime t) (DayTime s) =
-    inTicks
-    (plusHalf (t .negative) (t .micros) + plusHalf (s .negative) (s .micros))
-    (minusHalf (t .negative) (t .micros) + minusHalf (s .negative) (s .micros))
+sumOf (DayTime t) (DayTime s) = inTicks (plusTicks t + plusTicks s) (minusTicks t + minusTicks s)
 sumOf (DayTime t) (YearMonth m) = refuses wrongKind
 sumOf (YearMonth m) (Moment k d) = movedBy k d m
 sumOf (YearMonth m) (DayTime t) = refuses wrongKind
@@ -43,7 +40,7 @@ plusOf a b = pick (both (okValue a) (okValue b)) (sumOf (operandOf a) (operandOf
 
 -- the opposite of p - q is q - p
 abbrev pub opposite : D.DayTime → D.DayTime
-opposite t = lessTicks (minusHalf (t .negative) (t .micros)) (plusHalf (t .negative) (t .micros))
+opposite t = lessTicks (minusTicks t) (plusTicks t)
 
 abbrev pub oppositeMonths : Y.YearMonth → Y.YearMonth
 oppositeMonths m = lessMonths (minusHalf (m .negative) (m .months)) (plusHalf (m .negative) (m .months))

@@ -5,16 +5,15 @@ use operation_quantities::results;
 use value::DayTime;
 use value::Outcome;
 use value::Refusal;
-use value::Span;
 use value::Value;
 use value::YearMonth;
 use value_instants::spans;
 ghost use mathlib.Core.Path.{_≡_};
 ghost use mathlib.Core.Bool.{true};
-ghost use Prim.Native.Nat.{_*_, _≤_};
+ghost use Prim.Native.Nat.{_≤_};
 ghost use Rattle.value.specs.Bounds.{maxDayTime};
+ghost use Rattle.value.specs.Clocks.{ticksIn};
 ghost use Rattle.value.specs.Kinds.{okValue, meaning};
-ghost use Rattle.value_instants.specs.Carried.{spanOf};
 ghost use Rattle.operation_quantities.specs.Operands.{operandOf};
 ghost use Rattle.operation_arithmetic.specs.Products as the;
 ghost use Rattle.operation_quantities.specs.declared.Operand.the-variants as X;
@@ -27,19 +26,12 @@ pub fn max_factor() -> u32
     MAX_FACTOR
 }
 
-fn ticks_times(micros: u64, n: u32) -> Span
-    requires { ⌜ (micros ≤ maxDayTime) × (n ≤ the.maxFactor) ⌝ }
-    ensures { λ r. ⌜ r ≡ spanOf (micros * n) ⌝ }
-{
-    spans::times(spans::from_micros(micros), n)
-}
-
 fn day_time_times(t: DayTime, negative: bool, n: u32) -> Outcome
-    requires { ⌜ (t .micros ≤ maxDayTime) × (n ≤ the.maxFactor) ⌝ }
+    requires { ⌜ (ticksIn t ≤ maxDayTime) × (n ≤ the.maxFactor) ⌝ }
     ensures { λ r. ⌜ meaning r ≡ the.productOf (X.DayTime t) negative n ⌝ }
 {
-    let p = ticks_times(operands::plus_half(t.negative, t.micros), n);
-    let q = ticks_times(operands::minus_half(t.negative, t.micros), n);
+    let p = spans::times(operands::plus_ticks(t), n);
+    let q = spans::times(operands::minus_ticks(t), n);
     if negative {
         return results::in_ticks(q, p);
     }

@@ -13,6 +13,7 @@ use value::Refusal;
 use value::Span;
 use value::Value;
 use value::YearMonth;
+use value::clocks;
 use value::valid;
 use value_instants::spans;
 use value_instants::ticks;
@@ -21,10 +22,11 @@ ghost use mathlib.Core.Bool.{true};
 ghost use Prim.Native.Nat.{_+_, _≤_};
 ghost use lib.Dec.{ltb};
 ghost use Rattle.value.specs.Bounds.{maxDayTime, maxYearMonth};
+ghost use Rattle.value.specs.Clocks.{ticksIn};
 ghost use Rattle.value.specs.Durations as halves;
 ghost use Rattle.value.specs.Values.{okOffset, okDateTime};
 ghost use Rattle.value.specs.Kinds.{okValue, meaning};
-ghost use Rattle.value_instants.specs.Carried.{spanOf};
+ghost use Rattle.value.specs.Carried.{spanOf};
 ghost use Rattle.operation_quantities.specs.Operands.{operandOf};
 ghost use Rattle.operation_arithmetic.specs.Sums as the;
 ghost use Rattle.operation_quantities.specs.declared.Operand.the-variants as X;
@@ -42,25 +44,21 @@ fn moment_plus(kind: Kind, d: DateTime, b: Value) -> Outcome
 }
 
 fn plus_halves(a: DayTime, b: DayTime) -> Span
-    requires { ⌜ (a .micros ≤ maxDayTime) × (b .micros ≤ maxDayTime) ⌝ }
-    ensures { λ r. ⌜ r ≡ spanOf (halves.plusHalf (a .negative) (a .micros) + halves.plusHalf (b .negative) (b .micros)) ⌝ }
+    requires { ⌜ (ticksIn a ≤ maxDayTime) × (ticksIn b ≤ maxDayTime) ⌝ }
+    ensures { λ r. ⌜ r ≡ spanOf (halves.plusTicks a + halves.plusTicks b) ⌝ }
 {
-    let p = operands::plus_half(a.negative, a.micros);
-    let q = operands::plus_half(b.negative, b.micros);
-    spans::plus(spans::from_micros(p), spans::from_micros(q))
+    spans::plus(operands::plus_ticks(a), operands::plus_ticks(b))
 }
 
 fn minus_halves(a: DayTime, b: DayTime) -> Span
-    requires { ⌜ (a .micros ≤ maxDayTime) × (b .micros ≤ maxDayTime) ⌝ }
-    ensures { λ r. ⌜ r ≡ spanOf (halves.minusHalf (a .negative) (a .micros) + halves.minusHalf (b .negative) (b .micros)) ⌝ }
+    requires { ⌜ (ticksIn a ≤ maxDayTime) × (ticksIn b ≤ maxDayTime) ⌝ }
+    ensures { λ r. ⌜ r ≡ spanOf (halves.minusTicks a + halves.minusTicks b) ⌝ }
 {
-    let p = operands::minus_half(a.negative, a.micros);
-    let q = operands::minus_half(b.negative, b.micros);
-    spans::plus(spans::from_micros(p), spans::from_micros(q))
+    spans::plus(operands::minus_ticks(a), operands::minus_ticks(b))
 }
 
 fn day_time_plus(t: DayTime, b: Value) -> Outcome
-    requires { ⌜ (t .micros ≤ maxDayTime) × (okValue b ≡ true) ⌝ }
+    requires { ⌜ (ticksIn t ≤ maxDayTime) × (okValue b ≡ true) ⌝ }
     ensures { λ r. ⌜ meaning r ≡ the.sumOf (X.DayTime t) (operandOf b) ⌝ }
 {
     let y = operands::operand(b);
@@ -105,20 +103,21 @@ pub fn sum(a: Value, b: Value) -> Outcome
     }
 }
 
+// The sign is set only where the size is not zero.
+fn opposite(t: DayTime) -> DayTime
+    requires { ⌜ ticksIn t ≤ maxDayTime ⌝ }
+    ensures { λ r. ⌜ r ≡ the.opposite t ⌝ }
+{
+    let p = operands::plus_ticks(t);
+    let q = operands::minus_ticks(t);
+    clocks::lasting(spans::is_less(q, p), clocks::size(t))
+}
+
 // Zero has no sign.
 fn opposite_sign(negative: bool, n: u64) -> bool
     ensures { λ r. ⌜ r ≡ ltb (halves.minusHalf negative n) (halves.plusHalf negative n) ⌝ }
 {
     if negative { false } else { 0 < n }
-}
-
-fn opposite(t: DayTime) -> DayTime
-    ensures { λ r. ⌜ r ≡ the.opposite t ⌝ }
-{
-    DayTime {
-        negative: opposite_sign(t.negative, t.micros),
-        micros: t.micros,
-    }
 }
 
 fn opposite_months(m: YearMonth) -> YearMonth

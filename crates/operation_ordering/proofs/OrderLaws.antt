@@ -11,6 +11,7 @@ use Rattle.basis.specs.Answer.{gives, refuses}
 use Rattle.basis.proofs.Tests.{both-left, both-right, both-true}
 use Rattle.value.specs.Bounds.{maxDayTime, maxYearMonth}
 use Rattle.value.specs.Refusals.{outside, wrongKind}
+use Rattle.value.specs.Clocks.{ticksIn}
 use Rattle.value.specs.Durations.{plusHalf, minusHalf}
 use Rattle.value.specs.Values.{okSigned, okOffset}
 use Rattle.value.specs.Kinds.{kindOf, okValue}
@@ -22,6 +23,7 @@ use Rattle.value.specs.declared.YearMonth as Y
 use Rattle.value.specs.declared.Kind.{Kind}
 use Rattle.value.specs.declared.Value.{Value}
 use Rattle.value.specs.declared.Value.the-variants as VV
+use Rattle.value.proofs.ClockLaws.{one-duration, day-time-signed}
 use Rattle.value.proofs.Signs.{same-difference, signed-back}
 use Rattle.operation_quantities.specs.Operands.{operandOf, kindNumber, sameKind}
 use Rattle.operation_quantities.specs.declared.Operand.the-variants.{Moment}
@@ -202,8 +204,8 @@ module _ (o : Offset) where
   equal-day-times s t e =
       let c = comparable (VV.DayTime s) (VV.DayTime t) equal e in
       let x = order-equal (side (VV.DayTime s) (VV.DayTime t)) (side (VV.DayTime t) (VV.DayTime s)) (order-of (VV.DayTime s) (VV.DayTime t) equal e) in
-      let r = one-number maxDayTime (s .micros) (t .micros) (s .negative) (t .negative) (c .left-ok) (c .right-ok) x in
-      λ i. record { negative = r .0 i; micros = r .1 i }
+      let r = one-number maxDayTime (ticksIn s) (ticksIn t) (s .negative) (t .negative) (day-time-signed s (c .left-ok)) (day-time-signed t (c .right-ok)) x in
+      one-duration s t (c .left-ok) (c .right-ok) (r .0) (r .1)
 
   pub equal-year-months : (s t : Y.YearMonth) → orderIn o (VV.YearMonth s) (VV.YearMonth t) ≡ gives equal → s ≡ t
   unfolding up down okValue

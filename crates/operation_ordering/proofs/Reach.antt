@@ -5,12 +5,14 @@ use Prim.Native.Nat.{_≤_}
 use native.Mathlib.Omega.{arith}
 use Rattle.basis.proofs.Tests.{both-left}
 use Rattle.value.specs.Bounds.{maxDayTime, maxYearMonth}
+use Rattle.value.specs.Clocks.{ticksIn}
 use Rattle.value.specs.Values.{okOffset}
 use Rattle.value.specs.Kinds.{okValue}
 use Rattle.value.specs.declared.Offset.{Offset}
 use Rattle.value.specs.declared.DateTime.{DateTime}
 use Rattle.value.specs.declared.Value.{Value}
 use Rattle.value.specs.declared.Value.the-variants as VV
+use Rattle.value.proofs.ClockLaws.{ticks-to}
 use Rattle.value.proofs.Signs.{signed-within}
 use Rattle.operation_quantities.specs.Operands.{operandOf}
 use Rattle.operation_ordering.specs.Order.{up, down}
@@ -23,8 +25,8 @@ up-to o (VV.Date d) go g = instant-to o d go (both-left _ _ g)
 up-to o (VV.Time d) go g = instant-to o d go (both-left _ _ g)
 up-to o (VV.DateTime d) go g = instant-to o d go g
 up-to o (VV.DayTime t) go g =
-    let h = signed-within maxDayTime (t .micros) (t .negative) g in
-    omega (arith, plus-to (t .negative) (t .micros))
+    let h = ticks-to t g in
+    omega (arith, plus-to (t .negative) (ticksIn t))
 up-to o (VV.YearMonth m) go g =
     let h = signed-within maxYearMonth (m .months) (m .negative) g in
     omega (arith, plus-to (m .negative) (m .months))
@@ -35,8 +37,8 @@ down-to o (VV.Date d) g = omega arith
 down-to o (VV.Time d) g = omega arith
 down-to o (VV.DateTime d) g = omega arith
 down-to o (VV.DayTime t) g =
-    let h = signed-within maxDayTime (t .micros) (t .negative) g in
-    omega (arith, minus-to (t .negative) (t .micros))
+    let h = ticks-to t g in
+    omega (arith, minus-to (t .negative) (ticksIn t))
 down-to o (VV.YearMonth m) g =
     let h = signed-within maxYearMonth (m .months) (m .negative) g in
     omega (arith, minus-to (m .negative) (m .months))

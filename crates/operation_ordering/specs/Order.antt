@@ -4,9 +4,10 @@
 use Prim.Native.Nat.{ℕ, _+_}
 use lib.Dec.{ltb}
 use Rattle.basis.specs.Choice.{pick, both}
-use Rattle.basis.specs.Answer.{Answer, gives, refuses}
+use Rattle.basis.specs.Answer.{Answer, gives, refusesFor, refuses}
+use Rattle.value.specs.Reasons.{reasonOf}
 use Rattle.value.specs.Refusals.{outside, wrongKind}
-use Rattle.value.specs.Durations.{plusHalf, minusHalf}
+use Rattle.value.specs.Durations.{plusHalf, minusHalf, plusTicks, minusTicks}
 use Rattle.value.specs.Values.{okOffset}
 use Rattle.value.specs.Kinds.{kindOf, okValue}
 use Rattle.value_instants.specs.Ticks.{instantOf}
@@ -28,18 +29,18 @@ abbrev pub comparedMeaning : Compared → Answer Order
 comparedMeaning CV.Less = gives less
 comparedMeaning CV.Equal = gives equal
 comparedMeaning CV.Greater = gives greater
-comparedMeaning (CV.Refused r) = refuses (r .number)
+comparedMeaning (CV.Refused r) = refusesFor (reasonOf r)
 
 -- what a value is ordered by, as the whole number up - down: its instant (a date is at 00:00:00, a time on 1972-12-31),
 -- or a duration's number
 unfoldable pub up : Offset → Operand → ℕ
 up o (Moment k d) = instantOf o d
-up o (DayTime t) = plusHalf (t .negative) (t .micros)
+up o (DayTime t) = plusTicks t
 up o (YearMonth m) = plusHalf (m .negative) (m .months)
 
 unfoldable pub down : Offset → Operand → ℕ
 down o (Moment k d) = 0
-down o (DayTime t) = minusHalf (t .negative) (t .micros)
+down o (DayTime t) = minusTicks t
 down o (YearMonth m) = minusHalf (m .negative) (m .months)
 
 abbrev pub order : ℕ → ℕ → Order

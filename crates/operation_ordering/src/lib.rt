@@ -5,6 +5,7 @@ use value::Offset;
 use value::Refusal;
 use value::Span;
 use value::Value;
+use value::clocks;
 use value::valid;
 use value_instants::spans;
 use value_instants::ticks;
@@ -14,7 +15,7 @@ ghost use Prim.Native.Nat.{_+_};
 ghost use Rattle.basis.specs.Answer.{gives, refuses};
 ghost use Rattle.value.specs.Values.{okOffset};
 ghost use Rattle.value.specs.Kinds.{okValue};
-ghost use Rattle.value_instants.specs.Carried.{spanOf};
+ghost use Rattle.value.specs.Carried.{spanOf};
 ghost use Rattle.operation_quantities.specs.Operands.{operandOf};
 ghost use Rattle.operation_ordering.specs.Order as the;
 
@@ -34,11 +35,8 @@ fn up(v: Value, given: Offset) -> Span
     let x = operands::operand(v);
     match x {
         Operand::Moment(_, d) => ticks::instant(d, given),
-        Operand::DayTime(t) => spans::from_micros(operands::plus_half(t.negative, t.micros)),
-        Operand::YearMonth(m) => spans::from_micros(operands::plus_half(
-            m.negative,
-            m.months as u64,
-        )),
+        Operand::DayTime(t) => operands::plus_ticks(t),
+        Operand::YearMonth(m) => clocks::span(operands::plus_half(m.negative, m.months as u64)),
     }
 }
 
@@ -47,12 +45,9 @@ fn down(v: Value, given: Offset) -> Span
 {
     let x = operands::operand(v);
     match x {
-        Operand::Moment(_, _) => spans::from_micros(0),
-        Operand::DayTime(t) => spans::from_micros(operands::minus_half(t.negative, t.micros)),
-        Operand::YearMonth(m) => spans::from_micros(operands::minus_half(
-            m.negative,
-            m.months as u64,
-        )),
+        Operand::Moment(_, _) => clocks::span(0),
+        Operand::DayTime(t) => operands::minus_ticks(t),
+        Operand::YearMonth(m) => clocks::span(operands::minus_half(m.negative, m.months as u64)),
     }
 }
 
@@ -84,7 +79,7 @@ fn order_of(a: Value, b: Value, given: Offset) -> Compared
 fn refused(number: u8) -> Compared
     ensures { λ r. ⌜ the.comparedMeaning r ≡ refuses number ⌝ }
 {
-    Compared::Refused(Refusal { number })
+    Compared::Refused(Refusal::numbered(number))
 }
 
 // A value without zone counts in the given offset.

@@ -1,5 +1,5 @@
 -- A difference is within its kind's bounds exactly where its magnitude is at most the bound.
-use mathlib.Core.Path.{_≡_, refl, ap, sym, _∙_}
+use mathlib.Core.Path.{_≡_, refl, sym, _∙_}
 use mathlib.Core.Bool.{Bool, true, false}
 use Prim.Native.Nat.{ℕ, _-_, _≤_, _<_}
 use lib.Dec.{leb, ltb}
@@ -8,13 +8,16 @@ use Rattle.basis.specs.Choice.{pick}
 use Rattle.basis.specs.Answer.{Answer, gives, refuses}
 use Rattle.basis.proofs.Tests.{every-fails}
 use Rattle.value.specs.Bounds.{maxDayTime, maxYearMonth}
+use Rattle.value.specs.Clocks.{durationOf}
 use Rattle.value.specs.Refusals.{beyondResult}
 use Rattle.value.specs.Values.{okSigned}
 use Rattle.value.specs.Durations.{apart, lessTicks, lessMonths}
-use Rattle.value_instants.specs.Carried.{ticksOf, spanOf}
+use Rattle.value.specs.Carried.{ticksOf, spanOf}
+use Rattle.value.specs.declared.DayTime.{DayTime}
 use Rattle.value.specs.declared.Span.{Span}
 use Rattle.value.specs.declared.Value.{Value}
 use Rattle.value.specs.declared.Value.the-variants as VV
+use Rattle.value.proofs.ClockLaws.{day-time-is}
 use Rattle.value.proofs.Signs.{difference-ok, apart-below, apart-above}
 use Rattle.operation_quantities.specs.Results.{inTicks, inMonths}
 use Rattle.operation_quantities.proofs.Spanned.{ticks-of}
@@ -29,7 +32,7 @@ bounded bound p q = go (leb (apart p q) bound) refl
 
 -- a sign and a magnitude with its test, as the code makes them
 abbrev madeTicks : Bool → ℕ → Answer Value
-madeTicks n a = pick (leb a maxDayTime) (gives (VV.DayTime (record { negative = n; micros = a }))) (refuses beyondResult)
+madeTicks n a = pick (leb a maxDayTime) (gives (VV.DayTime (durationOf n a))) (refuses beyondResult)
 
 abbrev madeMonths : Bool → ℕ → Answer Value
 madeMonths n a = pick (leb a maxYearMonth) (gives (VV.YearMonth (record { negative = n; months = a }))) (refuses beyondResult)
@@ -39,7 +42,7 @@ module _ (p q : ℕ) (n : Bool) (a : ℕ) (en : ltb p q ≡ n) (ea : apart p q �
   unfolding inTicks
   ticks-made =
       (λ i. madeTicks (sym en i) (sym ea i))
-      ∙ (λ i. pick (sym (bounded maxDayTime p q) i) (gives (VV.DayTime (lessTicks p q))) (refuses beyondResult))
+      ∙ (λ i. pick (sym (day-time-is (ltb p q) (apart p q) ∙ bounded maxDayTime p q) i) (gives (VV.DayTime (lessTicks p q))) (refuses beyondResult))
 
   pub months-made : madeMonths n a ≡ inMonths p q
   unfolding inMonths
@@ -65,20 +68,16 @@ module _ (p q s : Span) where
       ticks-made (ticksOf p) (ticksOf q) false (ticksOf s) e (h .1 ∙ sym (ticks-of s (ticksOf p - ticksOf q) f))
 
 -- a span beside the longest duration, as the code tests it
-module _ (n : Bool) (m s : Span) (b : Bool) (e : m ≡ spanOf maxDayTime) (f : b ≡ ltb (ticksOf m) (ticksOf s)) where
-  tested : ltb maxDayTime (ticksOf s) ≡ b
-  tested = sym (ap (λ (t : ℕ). ltb t (ticksOf s)) (ticks-of m maxDayTime e)) ∙ sym f
-
+module _ (n : Bool) (s : Span) (b : Bool) (f : b ≡ ltb maxDayTime (ticksOf s)) where
   pub not-longer : b ≡ false → ticksOf s ≤ maxDayTime
-  not-longer h = ltb-false maxDayTime (ticksOf s) (tested ∙ h)
+  not-longer h = ltb-false maxDayTime (ticksOf s) (sym f ∙ h)
 
   pub longer-refused : b ≡ true → refuses beyondResult ≡ madeTicks n (ticksOf s)
   longer-refused h =
-      let t : leb (ticksOf s) maxDayTime ≡ false = lt-leb (ticksOf s) maxDayTime (ltb-true maxDayTime (ticksOf s) (tested ∙ h)) in
-      sym (λ i. pick (t i) (gives (VV.DayTime (record { negative = n; micros = ticksOf s }))) (refuses beyondResult))
+      let t : leb (ticksOf s) maxDayTime ≡ false = lt-leb (ticksOf s) maxDayTime (ltb-true maxDayTime (ticksOf s) (sym f ∙ h)) in
+      sym (λ i. pick (t i) (gives (VV.DayTime (durationOf n (ticksOf s)))) (refuses beyondResult))
 
-  pub not-longer-made : (u : ℕ) → b ≡ false → u ≡ ticksOf s → gives (VV.DayTime (record { negative = n; micros = u })) ≡ madeTicks n (ticksOf s)
-  not-longer-made u h g =
+  pub not-longer-made : (d : DayTime) → b ≡ false → d ≡ durationOf n (ticksOf s) → gives (VV.DayTime d) ≡ madeTicks n (ticksOf s)
+  not-longer-made d h g =
       let t : leb (ticksOf s) maxDayTime ≡ true = le-leb (ticksOf s) maxDayTime (not-longer h) in
-      (λ i. gives (VV.DayTime (record { negative = n; micros = g i })))
-      ∙ sym (λ i. pick (t i) (gives (VV.DayTime (record { negative = n; micros = ticksOf s }))) (refuses beyondResult))
+      (λ i. gives (VV.DayTime (g i))) ∙ sym (λ i. pick (t i) (gives (VV.DayTime (durationOf n (ticksOf s)))) (refuses beyondResult))

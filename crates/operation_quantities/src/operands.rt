@@ -1,10 +1,14 @@
 // A value taken apart by its shape, and put together again; and the halves of a signed number.
 use crate::Operand;
 use value::DateTime;
+use value::DayTime;
 use value::Kind;
+use value::Span;
 use value::Value;
+use value::clocks;
 use value::kinds;
 ghost use mathlib.Core.Path.{_≡_};
+ghost use Rattle.value.specs.Carried.{spanOf};
 ghost use Rattle.value.specs.Durations as halves;
 ghost use Rattle.operation_quantities.specs.Operands as the;
 
@@ -62,4 +66,23 @@ pub fn minus_half(negative: bool, n: u64) -> u64
     ensures { λ r. ⌜ r ≡ halves.minusHalf negative n ⌝ }
 {
     if negative { n } else { 0 }
+}
+
+// The same of a dayTimeDuration, as spans.
+pub fn plus_ticks(t: DayTime) -> Span
+    ensures { λ r. ⌜ r ≡ spanOf (halves.plusTicks t) ⌝ }
+{
+    if t.negative {
+        return clocks::span(0);
+    }
+    clocks::size(t)
+}
+
+pub fn minus_ticks(t: DayTime) -> Span
+    ensures { λ r. ⌜ r ≡ spanOf (halves.minusTicks t) ⌝ }
+{
+    if t.negative {
+        return clocks::size(t);
+    }
+    clocks::span(0)
 }

@@ -8,6 +8,7 @@ use value::Span;
 use value::Value;
 use value::YearMonth;
 use value::Zone;
+use value::clocks;
 use value::kinds;
 use value_instants::Placed;
 use value_instants::spans;
@@ -18,29 +19,31 @@ ghost use lib.Dec.{leb};
 ghost use Rattle.basis.specs.Choice.{pick};
 ghost use Rattle.basis.specs.Answer.{gives, refuses};
 ghost use Rattle.value.specs.Bounds.{secondTicks, maxDayTime, maxYearMonth};
+ghost use Rattle.value.specs.Clocks.{durationOf};
 ghost use Rattle.value.specs.Refusals.{beyondResult};
 ghost use Rattle.value.specs.Kinds.{meaning};
-ghost use Rattle.value_instants.specs.Carried.{ticksOf};
+ghost use Rattle.value.specs.Carried.{ticksOf};
 ghost use Rattle.value.specs.declared.Value.the-variants as VV;
 ghost use Rattle.operation_quantities.specs.Results as the;
 
 pub fn refused(number: u8) -> Outcome
     ensures { λ r. ⌜ meaning r ≡ refuses number ⌝ }
 {
-    Outcome::Refused(Refusal { number })
+    Outcome::Refused(Refusal::numbered(number))
 }
 
 fn day_time(negative: bool, s: Span) -> Outcome
     requires { ⌜ s .part < secondTicks ⌝ }
-    ensures { λ r. ⌜ meaning r ≡ pick (leb (ticksOf s) maxDayTime) (gives (VV.DayTime (record { negative = negative; micros = ticksOf s }))) (refuses beyondResult) ⌝ }
+    ensures { λ r. ⌜ meaning r ≡ pick (leb (ticksOf s) maxDayTime) (gives (VV.DayTime (durationOf negative (ticksOf s)))) (refuses beyondResult) ⌝ }
 {
-    if spans::is_less(spans::from_micros(DayTime::MAX), s) {
+    let longest = Span {
+        seconds: DayTime::MAX_SECONDS,
+        part: 0,
+    };
+    if spans::is_less(longest, s) {
         return refused(Refusal::BEYOND_RESULT);
     }
-    Outcome::Is(Value::DayTime(DayTime {
-        negative,
-        micros: spans::to_micros(s),
-    }))
+    Outcome::Is(Value::DayTime(clocks::lasting(negative, s)))
 }
 
 // The dayTimeDuration of p - q.

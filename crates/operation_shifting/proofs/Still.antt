@@ -9,9 +9,10 @@ use Rattle.basis.specs.Choice.{pick, both}
 use Rattle.basis.specs.Answer.{gives, refuses}
 use Rattle.basis.proofs.Tests.{both-left, both-right, both-true}
 use Rattle.calendar.specs.Calendar.{monthDays, monthCount}
-use Rattle.value.specs.Bounds.{minYear, maxYear, maxMicros}
+use Rattle.value.specs.Bounds.{minYear, maxYear, maxClock}
+use Rattle.value.specs.Clocks.{clockOf, atClock, atClockOf, durationOf}
 use Rattle.value.specs.Refusals.{beyondResult}
-use Rattle.value.specs.Values.{okDateTime}
+use Rattle.value.specs.Values.{okDateTime, dateIn}
 use Rattle.value.specs.Kinds.{kept, okValue}
 use Rattle.value_instants.specs.Ticks.{localOf}
 use Rattle.value.specs.declared.DateTime.{DateTime}
@@ -22,18 +23,22 @@ use Rattle.value.specs.declared.Kind.the-variants as KV
 use Rattle.value.specs.declared.Value.{Value}
 use Rattle.value.specs.declared.Value.the-variants as VV
 use Rattle.value.proofs.Good.{good}
+use Rattle.value.proofs.ClockLaws.{at-its-clock, clock-to, ticks-of-duration}
 use Rattle.value_instants.proofs.Locals.{local-in-years, placed-of-local}
 use Rattle.value.proofs.KindParts.{of-kind-kept, date-good, time-good}
 use Rattle.operation_quantities.specs.Operands.{valueOf}
 use Rattle.operation_quantities.specs.Results.{atTicks}
-use Rattle.operation_shifting.specs.Shifts.{monthOf, inMonth, movedTo, moved, movedBy, wrapped, wrappedMicros, shifted, shiftedBy}
+use Rattle.operation_shifting.specs.Shifts.{monthOf, inMonth, movedTo, moved, movedBy, wrapped, wrappedClock, shifted, shiftedBy}
 use Rattle.operation_shifting.proofs.Undo.{placed-gives}
 
 abbrev noTime : D.DayTime
-noTime = record { negative = false; micros = 0 }
+noTime = durationOf false 0
 
 abbrev noMonths : Y.YearMonth
 noMonths = record { negative = false; months = 0 }
+
+by-nothing : (k : Kind) (d : DateTime) → shiftedBy k d noTime ≡ shifted k d 0 0
+by-nothing k d = λ i. shifted k d (ticks-of-duration false 0 i) 0
 
 same-local-time : (k : Kind) (d : DateTime) → okDateTime d ≡ true → kept k d ≡ d → atTicks k (localOf d + 0 - 0) (d .zone) ≡ gives (valueOf k d)
 same-local-time k d g e =
@@ -41,25 +46,26 @@ same-local-time k d g e =
     ap (λ (t : ℕ). atTicks k t (d .zone)) l ∙ placed-gives k (localOf d) (d .zone) (local-in-years d g)
     ∙ (λ i. gives (valueOf k (kept k (placed-of-local d g i)))) ∙ (λ i. gives (valueOf k (e i)))
 
-same-time-of-day : (u : ℕ) → u ≤ maxMicros → wrappedMicros u 0 0 ≡ u
+same-time-of-day : (u : ℕ) → u ≤ maxClock → wrappedClock u 0 0 ≡ u
 same-time-of-day u h = omega arith
 
 pub no-time-date : (d : DateTime) → okValue (VV.Date d) ≡ true → shiftedBy KV.Date d noTime ≡ gives (VV.Date d)
 unfolding shifted
 no-time-date d g =
     let h = date-good (VV.Date d) g d refl in
-    same-local-time KV.Date d (h .0) (of-kind-kept KV.Date d (h .1))
+    by-nothing KV.Date d ∙ same-local-time KV.Date d (h .0) (of-kind-kept KV.Date d (h .1))
 
 pub no-time-date-time : (d : DateTime) → okValue (VV.DateTime d) ≡ true → shiftedBy KV.DateTime d noTime ≡ gives (VV.DateTime d)
 unfolding shifted okValue
-no-time-date-time d g = same-local-time KV.DateTime d g refl
+no-time-date-time d g = by-nothing KV.DateTime d ∙ same-local-time KV.DateTime d g refl
 
 pub no-time-time : (d : DateTime) → okValue (VV.Time d) ≡ true → shiftedBy KV.Time d noTime ≡ gives (VV.Time d)
 unfolding shifted
 no-time-time d g =
     let h = time-good (VV.Time d) g d refl in
-    let m = same-time-of-day (d .micros) (good d (h .0) .micros-to) in
-    λ i. gives (VV.Time (record { year = d .year; month = d .month; day = d .day; micros = m i; zone = d .zone }))
+    let g = good d (h .0) .time in
+    let m = same-time-of-day (clockOf d) (clock-to d g) in
+    by-nothing KV.Time d ∙ (λ i. gives (VV.Time (atClock (dateIn d) (m i) (d .zone)))) ∙ (λ i. gives (VV.Time (at-its-clock d g i)))
 
 -- the month's number gives its year and its month back
 month-back : (y m : ℕ) → 1 ≤ m → m ≤ monthCount → ((y * monthCount + (m - 1) + 0 - 0) / monthCount ≡ y) × ((y * monthCount + (m - 1) + 0 - 0) % monthCount + 1 ≡ m)
@@ -70,8 +76,8 @@ same-month d g =
     let h = good d g .day .date in
     let b = month-back (d .year) (d .month) (h .month-from) (h .month-to) in
     let c : min (d .day) (monthDays (d .year) (d .month)) ≡ d .day = omega (arith, h .day-to) in
-    (λ i. record { year = b .0 i; month = b .1 i; day = min (d .day) (monthDays (b .0 i) (b .1 i)); micros = d .micros; zone = d .zone })
-    ∙ (λ i. record { year = d .year; month = d .month; day = c i; micros = d .micros; zone = d .zone })
+    (λ i. atClockOf (record { year = b .0 i; month = b .1 i; day = min (d .day) (monthDays (b .0 i) (b .1 i)) }) d (d .zone))
+    ∙ (λ i. atClockOf (record { year = d .year; month = d .month; day = c i }) d (d .zone))
 
 stays-in-month : (k : Kind) (d : DateTime) → okDateTime d ≡ true → movedTo k d (monthOf d + 0 - 0) ≡ gives (valueOf k d)
 unfolding movedTo

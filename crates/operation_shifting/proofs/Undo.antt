@@ -1,16 +1,17 @@
 -- A dayTimeDuration added and taken off again: a dateTime, a time, and a date by whole days, come back.
 use mathlib.Core.Path.{_≡_, refl, ap, sym, _∙_}
 use mathlib.Core.Bool.{Bool, true, false}
-use Prim.Native.Nat.{ℕ, _+_, _-_, _%_, _≤_}
+use Prim.Native.Nat.{ℕ, _+_, _-_, _/_, _%_, _≤_}
 use native.Mathlib.Omega.{arith}
 use lib.Dec.{leb}
 use borrow.Author.Tests.{leb-true, leb-false}
 use Rattle.basis.specs.Choice.{pick, both}
 use Rattle.basis.specs.Answer.{gives}
 use Rattle.calendar.specs.Calendar.{dateOf, periodOf}
-use Rattle.value.specs.Bounds.{maxMicros, dayTicks}
-use Rattle.value.specs.Values.{okDateTime}
-use Rattle.value.specs.Kinds.{kept, ofKind}
+use Rattle.value.specs.Bounds.{maxClock, dayTicks}
+use Rattle.value.specs.Clocks.{clockOf, atClock}
+use Rattle.value.specs.Values.{okDateTime, dateIn}
+use Rattle.value.specs.Kinds.{template, kept, ofKind}
 use Rattle.value_instants.specs.Ticks.{localOf, atLocal, inYears, placedAt}
 use Rattle.value.specs.declared.Zone.{Zone}
 use Rattle.value.specs.declared.DateTime.{DateTime}
@@ -20,11 +21,12 @@ use Rattle.value.specs.declared.Value.{Value}
 use Rattle.value.specs.declared.Value.the-variants as VV
 use Rattle.value_instants.specs.declared.Placed.the-variants as PV
 use Rattle.value.proofs.Good.{good}
+use Rattle.value.proofs.ClockLaws.{clock-at, clock-kept, at-its-clock, clock-to}
 use Rattle.value_instants.proofs.Locals.{local-of-placed, local-in-years, placed-of-local}
 use Rattle.value.proofs.KindParts.{of-kind-kept}
 use Rattle.operation_quantities.specs.Operands.{valueOf}
 use Rattle.operation_quantities.specs.Results.{atTicks, ofPlaced}
-use Rattle.operation_shifting.specs.Shifts.{wrapped, wrappedMicros, shifted}
+use Rattle.operation_shifting.specs.Shifts.{wrapped, wrappedClock, shifted}
 
 -- a result placed within the years, and one that was given
 pub placed-gives : (k : Kind) (t : ℕ) (z : Zone) → inYears t ≡ true → atTicks k t z ≡ gives (valueOf k (kept k (atLocal t z)))
@@ -75,7 +77,7 @@ date-time-undone d e p q g h =
     let a : atLocal (localOf d + p - q) (d .zone) ≡ e = cc in
     (λ i. atTicks KV.DateTime (localOf (sym a i) + q - p) (sym a i .zone)) ∙ there-and-back KV.DateTime d p q g refl y
 
-round-back : (u p q : ℕ) → u ≤ maxMicros → wrappedMicros (wrappedMicros u p q) q p ≡ u
+round-back : (u p q : ℕ) → u ≤ maxClock → wrappedClock (wrappedClock u p q) q p ≡ u
 round-back u p q h = omega arith
 
 pub time-undone : (d e : DateTime) (p q : ℕ) → okDateTime d ≡ true → shifted KV.Time d p q ≡ gives (VV.Time e)
@@ -83,16 +85,21 @@ pub time-undone : (d e : DateTime) (p q : ℕ) → okDateTime d ≡ true → shi
 unfolding shifted
 time-undone d e p q g h =
     let a : wrapped d p q ≡ e = cc in
-    let m = round-back (d .micros) p q (good d g .micros-to) in
+    let t = good d g .time in
+    let m : wrappedClock (clockOf (wrapped d p q)) q p ≡ clockOf d
+    = ap (λ (u : ℕ). wrappedClock u q p) (clock-at (dateIn d) (wrappedClock (clockOf d) p q) (d .zone)) ∙ round-back (clockOf d) p q (clock-to d t) in
     (λ i. gives (VV.Time (wrapped (sym a i) q p)))
-    ∙ (λ i. gives (VV.Time (record { year = d .year; month = d .month; day = d .day; micros = m i; zone = d .zone })))
+    ∙ (λ i. gives (VV.Time (atClock (dateIn d) (m i) (d .zone)))) ∙ (λ i. gives (VV.Time (at-its-clock d t i)))
 
--- whole days leave a date at 00:00:00
+-- a date is at 00:00:00, and whole days leave it there
+date-clock : (d : DateTime) → ofKind KV.Date d ≡ true → clockOf d ≡ 0
+date-clock d e =
+    ap clockOf (sym (of-kind-kept KV.Date d e)) ∙ clock-kept (dateIn d) (template KV.Date) (d .zone)
+    ∙ clock-at (dateIn (template KV.Date)) 0 (template KV.Date .zone)
+
 whole-days : (d : DateTime) (p q : ℕ) → ofKind KV.Date d ≡ true → p % dayTicks ≡ 0 → q % dayTicks ≡ 0 → (localOf d + p - q) % dayTicks ≡ 0
 unfolding localOf
-whole-days d p q e a b =
-    let m : 0 ≡ d .micros = ap (λ (x : DateTime). x .micros) (of-kind-kept KV.Date d e) in
-    omega arith
+whole-days d p q e a b = omega (arith, date-clock d e)
 
 pub date-undone : (d e : DateTime) (p q : ℕ) → okDateTime d ≡ true → ofKind KV.Date d ≡ true → p % dayTicks ≡ 0 → q % dayTicks ≡ 0
     → shifted KV.Date d p q ≡ gives (VV.Date e) → shifted KV.Date e q p ≡ gives (VV.Date d)
@@ -104,6 +111,6 @@ date-undone d e p q g k hp hq h =
     let a : kept KV.Date (atLocal t (d .zone)) ≡ e = cc in
     let w : t % dayTicks ≡ 0 = whole-days d p q k hp hq in
     let s : atLocal t (d .zone) ≡ kept KV.Date (atLocal t (d .zone))
-    = λ i. record { year = atLocal t (d .zone) .year; month = atLocal t (d .zone) .month; day = atLocal t (d .zone) .day; micros = w i; zone = d .zone } in
+    = λ i. atClock (dateOf (t / dayTicks)) (w i) (d .zone) in
     let x : e ≡ atLocal t (d .zone) = sym (s ∙ a) in
     (λ i. atTicks KV.Date (localOf (x i) + q - p) (x i .zone)) ∙ there-and-back KV.Date d p q g (of-kind-kept KV.Date d k) y

@@ -1,5 +1,5 @@
 -- Every value that a shift, a move of months or a result gives is within its kind's bounds.
-use mathlib.Core.Path.{_≡_, refl, ap, sym}
+use mathlib.Core.Path.{_≡_, refl}
 use mathlib.Core.Bool.{Bool, true, false}
 use Prim.Native.Nat.{ℕ, _+_, _-_, _/_, _%_, _≤_}
 use native.Mathlib.Omega.{arith}
@@ -9,11 +9,12 @@ use Rattle.basis.specs.Choice.{pick, both, every}
 use Rattle.basis.proofs.Tests.{both-left, both-right, both-true}
 use Rattle.calendar.specs.Calendar.{monthDays, monthCount}
 use Rattle.value.specs.Bounds.{minYear, maxYear}
+use Rattle.value.specs.Clocks.{clockOf, atClock, atClockOf}
 use Rattle.value.specs.Refusals.{beyondResult}
-use Rattle.value.specs.Values.{okDate, okZone, okDateTime, okDayTime, okYearMonth}
+use Rattle.value.specs.Values.{okDate, okZone, okTimePart, okDateTime, okDayTime, okYearMonth}
 use Rattle.value.specs.Durations.{lessTicks, lessMonths}
 use Rattle.value.specs.Values.{dateIn}
-use Rattle.value.specs.Kinds.{kept, ofKind, okValue}
+use Rattle.value.specs.Kinds.{template, kept, ofKind, okValue}
 use Rattle.value_instants.specs.Ticks.{localOf, atLocal, inYears, placedAt}
 use Rattle.value.specs.declared.Zone.{Zone}
 use Rattle.value.specs.declared.DateTime.{DateTime}
@@ -22,11 +23,12 @@ use Rattle.value.specs.declared.Kind.the-variants as KV
 use Rattle.value.specs.declared.Value.the-variants as VV
 use Rattle.value_instants.specs.declared.Placed.the-variants as PV
 use Rattle.value.proofs.Good.{good, good-day, record-ok}
+use Rattle.value.proofs.ClockLaws.{time-part-at, time-part-kept}
 use Rattle.value_instants.proofs.Locals.{placed-ok}
 use Rattle.value.proofs.KindParts.{of-kind-kept, kept-of-kind, kept-again}
 use Rattle.operation_quantities.specs.Operands.{valueOf}
 use Rattle.operation_quantities.specs.Results.{inTicks, inMonths, atTicks, ofPlaced}
-use Rattle.operation_shifting.specs.Shifts.{monthOf, inMonth, movedTo, moved, wrapped, shifted}
+use Rattle.operation_shifting.specs.Shifts.{monthOf, inMonth, movedTo, moved, wrappedClock, wrapped, shifted}
 use Rattle.operation_shifting.proofs.Lengths.{month-has-day}
 use Rattle.operation_quantities.proofs.Given.{valid, valid-test}
 use Rattle.operation_quantities.proofs.Shapes.{moment-ok}
@@ -44,16 +46,31 @@ reference-day : okDate 1972 12 31 ≡ true
 unfolding okDate every both
 reference-day = refl
 
+template-time : (k : Kind) → okTimePart (template k) ≡ true
+template-time k = time-part-at (dateIn (template k)) 0 (template k .zone) (omega arith)
+
 at-reference : (d : DateTime) → okDateTime d ≡ true → okDateTime (kept KV.DayTimeDuration d) ≡ true
 at-reference d g =
     record-ok (kept KV.DayTimeDuration d)
-    (record { day = good-day (dateIn (kept KV.DayTimeDuration d)) reference-day; micros-to = omega arith; zone = good d g .zone })
+    (record {
+      day = good-day (dateIn (template KV.DayTimeDuration)) reference-day;
+      time = time-part-kept (dateIn (template KV.DayTimeDuration)) (template KV.DayTimeDuration) (d .zone) (template-time KV.DayTimeDuration);
+      zone = good d g .zone;
+    })
 
 kept-ok : (k : Kind) (d : DateTime) → okDateTime d ≡ true → okDateTime (kept k d) ≡ true
-kept-ok KV.Date d g = let h = good d g in record-ok (kept KV.Date d) (record { day = h .day; micros-to = omega arith; zone = h .zone })
+kept-ok KV.Date d g =
+    let h = good d g in
+    record-ok (kept KV.Date d)
+    (record { day = h .day; time = time-part-kept (dateIn d) (template KV.Date) (d .zone) (template-time KV.Date); zone = h .zone })
 kept-ok KV.Time d g =
     let h = good d g in
-    record-ok (kept KV.Time d) (record { day = good-day (dateIn (kept KV.Time d)) reference-day; micros-to = h .micros-to; zone = h .zone })
+    record-ok (kept KV.Time d)
+    (record {
+      day = good-day (dateIn (template KV.Time)) reference-day;
+      time = time-part-kept (dateIn (template KV.Time)) d (d .zone) (h .time);
+      zone = h .zone;
+    })
 kept-ok KV.DateTime d g = g
 kept-ok KV.DayTimeDuration d g = at-reference d g
 kept-ok KV.YearMonthDuration d g = at-reference d g
@@ -94,19 +111,15 @@ month-ok d t g e =
             year-from = leb-true _ _ (both-left _ _ e);
             year-to = leb-true _ _ (both-right _ _ e);
           };
-      micros-to = h .micros-to;
+      time = time-part-kept (dateIn (inMonth d t)) d (d .zone) (h .time);
       zone = h .zone;
     })
 
 -- a record that differs from a date's only in its day is a date's
-date-micros : (d : DateTime) → ofKind KV.Date d ≡ true → d .micros ≡ 0
-date-micros d e = sym (ap (λ (x : DateTime). x .micros) (of-kind-kept KV.Date d e))
-
 month-date : (d : DateTime) (t : ℕ) → ofKind KV.Date d ≡ true → ofKind KV.Date (inMonth d t) ≡ true
 month-date d t e =
-    let m = date-micros d e in
-    kept-of-kind KV.Date (inMonth d t)
-    (λ i. record { year = inMonth d t .year; month = inMonth d t .month; day = inMonth d t .day; micros = sym m i; zone = d .zone })
+    let h = of-kind-kept KV.Date d e in
+    kept-of-kind KV.Date (inMonth d t) (λ i. atClockOf (dateIn (inMonth d t)) (h i) (d .zone))
 
 pub moved-valid : (k : Kind) (d : DateTime) (p q : ℕ) → okValue (valueOf k d) ≡ true → valid (moved k d p q) ≡ true
 unfolding moved movedTo okValue
@@ -124,13 +137,13 @@ moved-valid KV.YearMonthDuration d p q g = refl
 wrapped-ok : (d : DateTime) (p q : ℕ) → okDateTime d ≡ true → okDateTime (wrapped d p q) ≡ true
 wrapped-ok d p q g =
     let h = good d g in
-    record-ok (wrapped d p q) (record { day = h .day; micros-to = omega arith; zone = h .zone })
+    record-ok (wrapped d p q)
+    (record { day = h .day; time = time-part-at (dateIn d) (wrappedClock (clockOf d) p q) (d .zone) (omega arith); zone = h .zone })
 
 wrapped-time : (d : DateTime) (p q : ℕ) → ofKind KV.Time d ≡ true → ofKind KV.Time (wrapped d p q) ≡ true
 wrapped-time d p q e =
     let h = of-kind-kept KV.Time d e in
-    kept-of-kind KV.Time (wrapped d p q)
-    (λ i. record { year = h i .year; month = h i .month; day = h i .day; micros = wrapped d p q .micros; zone = d .zone })
+    kept-of-kind KV.Time (wrapped d p q) (λ i. atClock (dateIn (h i)) (wrappedClock (clockOf d) p q) (d .zone))
 
 time-valid : (d : DateTime) (p q : ℕ) → okValue (VV.Time d) ≡ true → okValue (VV.Time (wrapped d p q)) ≡ true
 unfolding okValue

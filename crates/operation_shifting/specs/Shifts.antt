@@ -6,8 +6,10 @@ use Rattle.basis.specs.Choice.{pick, both}
 use Rattle.basis.specs.Answer.{Answer, gives, refuses}
 use Rattle.calendar.specs.Calendar.{monthDays, monthCount}
 use Rattle.value.specs.Bounds.{minYear, maxYear, dayTicks}
+use Rattle.value.specs.Clocks.{clockOf, atClock, atClockOf}
 use Rattle.value.specs.Refusals.{beyondResult, wrongKind}
-use Rattle.value.specs.Durations.{plusHalf, minusHalf}
+use Rattle.value.specs.Durations.{plusHalf, minusHalf, plusTicks, minusTicks}
+use Rattle.value.specs.Values.{dateIn}
 use Rattle.value.specs.Kinds.{hasDate}
 use Rattle.value_instants.specs.Ticks.{localOf}
 use Rattle.value.specs.declared.DateTime.{DateTime}
@@ -25,13 +27,14 @@ monthOf d = d .year * monthCount + (d .month - 1)
 
 abbrev pub inMonth : DateTime → ℕ → DateTime
 inMonth d t =
-    record {
+    atClockOf
+    (record {
       year = t / monthCount;
       month = t % monthCount + 1;
       day = min (d .day) (monthDays (t / monthCount) (t % monthCount + 1));
-      micros = d .micros;
-      zone = d .zone;
-    }
+    })
+    d
+    (d .zone)
 
 unfoldable pub movedTo : Kind → DateTime → ℕ → Answer Value
 movedTo k d t =
@@ -42,25 +45,18 @@ moved k d p q = pick (hasDate k) (movedTo k d (monthOf d + p - q)) (refuses wron
 
 -- dateTime ± dayTimeDuration: local arithmetic, zone kept. A date does so from its 00:00:00 and drops the time.
 -- A time wraps modulo 24 hours and is never refused. (Before 0000-01-01 there is 0, which is beyond the years too.)
-abbrev pub wrappedMicros : ℕ → ℕ → ℕ → ℕ
-wrappedMicros u p q = (u + p % dayTicks + (dayTicks - q % dayTicks)) % dayTicks
+abbrev pub wrappedClock : ℕ → ℕ → ℕ → ℕ
+wrappedClock u p q = (u + p % dayTicks + (dayTicks - q % dayTicks)) % dayTicks
 
 abbrev pub wrapped : DateTime → ℕ → ℕ → DateTime
-wrapped d p q =
-    record {
-      year = d .year;
-      month = d .month;
-      day = d .day;
-      micros = wrappedMicros (d .micros) p q;
-      zone = d .zone;
-    }
+wrapped d p q = atClock (dateIn d) (wrappedClock (clockOf d) p q) (d .zone)
 
 unfoldable pub shifted : Kind → DateTime → ℕ → ℕ → Answer Value
 shifted k d p q = pick (hasDate k) (atTicks k (localOf d + p - q) (d .zone)) (gives (valueOf k (wrapped d p q)))
 
 -- a date, time or dateTime and a duration
 abbrev pub shiftedBy : Kind → DateTime → D.DayTime → Answer Value
-shiftedBy k d t = shifted k d (plusHalf (t .negative) (t .micros)) (minusHalf (t .negative) (t .micros))
+shiftedBy k d t = shifted k d (plusTicks t) (minusTicks t)
 
 abbrev pub movedBy : Kind → DateTime → Y.YearMonth → Answer Value
 movedBy k d m = moved k d (plusHalf (m .negative) (m .months)) (minusHalf (m .negative) (m .months))

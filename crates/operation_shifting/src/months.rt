@@ -1,4 +1,5 @@
 // A yearMonthDuration added to a date or a dateTime: months move, the day is cut to the new month's last day.
+use calendar::Date;
 use operation_quantities::operands;
 use operation_quantities::results;
 use value::DateTime;
@@ -6,6 +7,7 @@ use value::Kind;
 use value::Outcome;
 use value::Refusal;
 use value::YearMonth;
+use value::clocks;
 use value::kinds;
 ghost use mathlib.Core.Path.{_≡_};
 ghost use mathlib.Core.Bool.{true};
@@ -37,16 +39,12 @@ fn moved_to(kind: Kind, d: DateTime, t: u32) -> Outcome
     }
     let month = (t % MONTHS + 1) as u8;
     let last = calendar::month_days(year as u16, month);
-    Outcome::Is(operands::value_of(
-        kind,
-        DateTime {
-            year: year as u16,
-            month,
-            day: lesser(d.day, last),
-            micros: d.micros,
-            zone,
-        },
-    ))
+    let e = Date {
+        year: year as u16,
+        month,
+        day: lesser(d.day, last),
+    };
+    Outcome::Is(operands::value_of(kind, clocks::at_clock_of(e, d, zone)))
 }
 
 pub fn moved(kind: Kind, d: DateTime, m: YearMonth) -> Outcome

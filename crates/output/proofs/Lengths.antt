@@ -10,7 +10,7 @@ use borrow.Author.Tests.{leb-true, eqb-true, ltb-true}
 use lib.Dec.{eqb, ltb}
 use lib.ListN.{length, length-append}
 use Rattle.basis.specs.Choice.{pick}
-use Rattle.basis.specs.Answer.{Answer, gives, refuses}
+use Rattle.basis.specs.Answer.{Reason, Answer, gives, refusesFor}
 use Rattle.basis.specs.Letters.{bytes}
 use Rattle.timetable.specs.Lines.{newline, lineAt}
 use Rattle.value_instants.specs.Ticks.{utc}
@@ -79,17 +79,17 @@ number-small n h = go (eqb n 1) (eqb n 2) (eqb n 3) (eqb n 4) (eqb n 6) refl ref
 abbrev Small : Result → Type 0
 Small hit = Unit {0}
 Small miss = Unit {0}
-Small (unreadable n) = n ≤ tooMany
+Small (unreadable r) = r .number ≤ tooMany
 
 readable-small : (v : Result) → Readable v → Small v
 readable-small hit r = tt
 readable-small miss r = tt
-readable-small (unreadable n) r = number-small n r
+readable-small (unreadable r) q = number-small (r .number) q
 
-case-small : (text : List ℕ) (x : Case) → accepted text ≡ true → ((n : ℕ) → x ≡ refusalCase n → n ≤ tooMany) → Small (caseResult text x)
+case-small : (text : List ℕ) (x : Case) → accepted text ≡ true → ((r : Reason) → x ≡ refusalCase r → r .number ≤ tooMany) → Small (caseResult text x)
 case-small text (rowCase row) h few = readable-small (resultAt utc text row) (accepted-readable utc text row utc-good h)
 case-small text missCase h few = tt
-case-small text (refusalCase n) h few = few n refl
+case-small text (refusalCase r) h few = few r refl
 
 seat-small : (f : Files) (s : Seat) → accepted (conditionOf s) ≡ true → Small (seatResult f s)
 seat-small f s h =
@@ -100,8 +100,8 @@ judged-fits : (to : Spot) (s : Seat) (v : Result) → Small v → s .ticket ≤ 
     → length (turnLine (gives (judgedAs to s v .answer))) ≤ lineRoom
 judged-fits to s hit r k o p = three-fit (bytes "hit") (s .ticket) (s .offset) (s .place) (leb-true (length (bytes "hit")) 10 refl) k (omega arith) (omega arith)
 judged-fits to s miss r k o p = three-fit (bytes "miss") (s .ticket) (s .offset) (s .place) (leb-true (length (bytes "miss")) 10 refl) k (omega arith) (omega arith)
-judged-fits to s (unreadable n) r k o p =
-    three-fit (bytes "unreadable") (s .ticket) (s .offset) n (leb-true (length (bytes "unreadable")) 10 refl) k (omega arith) (omega (arith, r))
+judged-fits to s (unreadable why) r k o p =
+    three-fit (bytes "unreadable") (s .ticket) (s .offset) (why .number) (leb-true (length (bytes "unreadable")) 10 refl) k (omega arith) (omega (arith, r))
 
 pub served-fits : (f : Files) (long : ℕ) (s : Seat) → Servable long s → long ≤ maxTimetable → s .ticket ≤ lastTicket
     → length (turnLine (gives (serveOf f s .answer))) ≤ lineRoom
@@ -124,7 +124,7 @@ open-fits r d = go (soundOf d) (checkOf (r .condition)) (ltb (firstFrom d false 
     go : (a : Bool) (b : Answer (Unit {0})) (x y : Bool) → soundOf d ≡ a → checkOf (r .condition) ≡ b → ltb (firstFrom d false 0) seatCount ≡ x → ltb (d .issued) lastTicket ≡ y
         → length (openLine (openOf r d .answer)) ≤ lineRoom
     go false b x y e f g h = rw e (refused-fits notSound (omega arith))
-    go true (refuses n) x y e f g h = rw (e, f) (refused-fits n (omega (arith, own-low (r .condition) n f)))
+    go true (refusesFor why) x y e f g h = rw (e, f) (refused-fits (why .number) (omega (arith, own-low (r .condition) why f)))
     go true (gives u) false y e f g h = rw (e, f, g) (refused-fits noSeat (omega arith))
     go true (gives u) true false e f g h = rw (e, f, g, h) (refused-fits noMoreTickets (omega arith))
     go true (gives u) true true e f g h =

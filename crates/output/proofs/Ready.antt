@@ -9,7 +9,7 @@ use Prim.Native.Nat.{_+_, _%_, _≤_, _<_}
 use borrow.Author.Tests.{le-leb, eq-eqb, eqb-true, ltb-true}
 use lib.Dec.{ltb}
 use lib.ListN.{length}
-use Rattle.basis.specs.Answer.{Answer, gives, refuses}
+use Rattle.basis.specs.Answer.{Answer, gives, refusesFor}
 use Rattle.timetable.specs.Lines.{Line}
 use Rattle.desk_seat.specs.Bounds.{maxTimetable}
 use Rattle.desk_seat.specs.Files.{Files}
@@ -51,7 +51,7 @@ not-idle : (a : Turned) → 1 ≤ ticketOf a → isIdle (gives a) ≡ false
 not-idle idle l = absurd (omega arith)
 not-idle (hitAt k o p) l = refl
 not-idle (missAt k o p) l = refl
-not-idle (unreadableAt k o n) l = refl
+not-idle (unreadableAt k o r) l = refl
 not-idle (doneWith k h u) l = refl
 
 module _ (f : Files) (d : Desk) (o : Ready f d) where
@@ -96,7 +96,7 @@ open-issued r d l = go (soundOf d) (checkOf (r .condition)) (ltb (firstFrom d fa
     go : (a : Bool) (b : Answer (Unit {0})) (x y : Bool) → soundOf d ≡ a → checkOf (r .condition) ≡ b → ltb (firstFrom d false 0) seatCount ≡ x → ltb (d .issued) lastTicket ≡ y
         → openOf r d .desk .issued ≤ lastTicket
     go false b x y e f g h = rw e l
-    go true (refuses n) x y e f g h = rw (e, f) l
+    go true (refusesFor why) x y e f g h = rw (e, f) l
     go true (gives u) false y e f g h = rw (e, f, g) l
     go true (gives u) true false e f g h = rw (e, f, g, h) l
     go true (gives u) true true e f g h = rw (e, f, g, h) (let k : d .issued < lastTicket = ltb-true (d .issued) lastTicket h in omega arith)

@@ -4,7 +4,7 @@ use mathlib.Core.Path.{_≡_}
 use mathlib.Core.List.{List, _++_}
 use Prim.Native.Nat.{ℕ, _+_, _≤_, _<_}
 use lib.ListN.{length, take}
-use Rattle.basis.specs.Answer.{Answer, gives, refuses}
+use Rattle.basis.specs.Answer.{Answer, gives, refusesFor}
 use Rattle.run_times.specs.Occurrences.{mostOccurrences}
 use Rattle.desk_seat.specs.Bounds.{maxTimetable, maxCount}
 use Rattle.desk_seat.specs.Answers.{Turned, idle, hitAt, missAt, unreadableAt, doneWith}
@@ -24,6 +24,6 @@ abbrev pub Within : Answer Turned → Type 0
 Within (gives idle) = Unit {0}
 Within (gives (hitAt ticket offset place)) = (offset ≤ maxTimetable) × (place < mostOccurrences)
 Within (gives (missAt ticket offset place)) = (offset ≤ maxTimetable) × (place < mostOccurrences)
-Within (gives (unreadableAt ticket offset n)) = offset ≤ maxTimetable
+Within (gives (unreadableAt ticket offset r)) = offset ≤ maxTimetable
 Within (gives (doneWith ticket hits bad)) = (hits ≤ maxCount) × (bad ≤ maxCount)
-Within (refuses n) = Unit {0}
+Within (refusesFor r) = Unit {0}

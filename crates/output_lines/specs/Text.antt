@@ -3,7 +3,7 @@
 -- seat's place". Each line ends with byte 10.
 use mathlib.Core.List.{List, [], _∷_, _++_}
 use Prim.Native.Nat.{ℕ}
-use Rattle.basis.specs.Answer.{Answer, gives, refuses}
+use Rattle.basis.specs.Answer.{Answer, gives, refusesFor}
 use Rattle.basis.specs.Letters.{bytes}
 use Rattle.timetable.specs.Fields.{tab}
 use Rattle.timetable.specs.Lines.{newline}
@@ -25,16 +25,16 @@ refusedLine n = lineWith (bytes "refused") (n ∷ [])
 -- the line of what open answers
 abbrev pub openLine : Answer ℕ → List ℕ
 openLine (gives ticket) = lineWith (bytes "open") (ticket ∷ [])
-openLine (refuses n) = refusedLine n
+openLine (refusesFor r) = refusedLine (r .number)
 
 -- the line of what a turn answers
 abbrev pub turnLine : Answer Turned → List ℕ
 turnLine (gives idle) = lineWith (bytes "idle") []
 turnLine (gives (hitAt ticket offset place)) = lineWith (bytes "hit") (ticket ∷ offset ∷ place ∷ [])
 turnLine (gives (missAt ticket offset place)) = lineWith (bytes "miss") (ticket ∷ offset ∷ place ∷ [])
-turnLine (gives (unreadableAt ticket offset n)) = lineWith (bytes "unreadable") (ticket ∷ offset ∷ n ∷ [])
+turnLine (gives (unreadableAt ticket offset r)) = lineWith (bytes "unreadable") (ticket ∷ offset ∷ r .number ∷ [])
 turnLine (gives (doneWith ticket hits bad)) = lineWith (bytes "done") (ticket ∷ hits ∷ bad ∷ [])
-turnLine (refuses n) = refusedLine n
+turnLine (refusesFor r) = refusedLine (r .number)
 
 -- a line has room for so many bytes
 abbrev pub lineRoom : ℕ

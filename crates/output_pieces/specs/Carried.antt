@@ -4,7 +4,7 @@ use mathlib.Core.List.{List, [], _∷_}
 use Prim.Native.Nat.{ℕ, zero, suc, _+_}
 use lib.ListN.{length}
 use Rattle.basis.specs.Choice.{pick}
-use Rattle.basis.specs.Answer.{Answer, gives, refuses}
+use Rattle.basis.specs.Answer.{Answer, gives, refusesFor}
 use Rattle.timetable.specs.Lines.{Line, offsetLines}
 use Rattle.desk_seat.specs.Files.{Files}
 use Rattle.desk_seat.specs.Request.{asking}
@@ -17,7 +17,7 @@ use Rattle.output_pieces.specs.Pieces.{startPiece, openPiece, turnsPiece
 -- the bytes that many turns wrote; a refusal writes nothing
 abbrev pub writtenCount : Answer WrittenTurns → ℕ
 writtenCount (gives w) = w .count
-writtenCount (refuses n) = 0
+writtenCount (refusesFor r) = 0
 
 -- those of the conditions' lines
 unfoldable pub openedTold : List Line → Desk → ℕ

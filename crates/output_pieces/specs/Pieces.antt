@@ -9,7 +9,7 @@ use Prim.Native.Nat.{ℕ, zero, suc, _+_, _*_}
 use lib.Dec.{ltb}
 use lib.ListN.{length, drop}
 use Rattle.basis.specs.Choice.{pick}
-use Rattle.basis.specs.Answer.{Answer, gives, refuses}
+use Rattle.basis.specs.Answer.{Answer, gives, refusesFor}
 use Rattle.timetable.specs.Lines.{Line, lineAt, nextLine, offsetLines}
 use Rattle.value.specs.Refusals.{badCondition, wrongTimetable}
 use Rattle.run_times.specs.Occurrences.{mostOccurrences}
@@ -56,12 +56,12 @@ openPiece r d = record { text = openLine (openOf r d .answer); desk = openOf r d
 -- a refusal writes nothing
 abbrev pub writtenText : Answer WrittenTurns → List ℕ → List ℕ
 writtenText (gives w) text = text
-writtenText (refuses n) text = []
+writtenText (refusesFor r) text = []
 
 -- whether more turns are due: the last one was not Idle
 abbrev pub goesOn : Answer WrittenTurns → Bool
 goesOn (gives w) = not (w .idle)
-goesOn (refuses n) = false
+goesOn (refusesFor r) = false
 
 unfoldable pub turnsPiece : Files → Desk → ℕ → Piece
 turnsPiece f d size =

@@ -1,6 +1,7 @@
 -- Answers of equal meaning are equal, so that the contract of many turns determines the answer and the desk.
 use mathlib.Core.Path.{_≡_, refl, ap}
-use Rattle.basis.specs.Answer.{Answer, gives, refuses}
+use Rattle.basis.specs.Answer.{Answer, gives, refusesFor}
+use Rattle.value.specs.Reasons.{refusalOf}
 use Rattle.desk.specs.Answers.{After}
 use Rattle.output_turns.specs.Turns.{turnsMeaning, afterTurns}
 use Rattle.output_turns.specs.declared.WrittenTurns.{WrittenTurns}
@@ -10,7 +11,7 @@ use Rattle.output_turns.specs.declared.AfterTurns.{AfterTurns}
 
 abbrev turnsFrom : Answer WrittenTurns → TurnsAnswer
 turnsFrom (gives w) = TV.Wrote w
-turnsFrom (refuses n) = TV.Refused (record { number = n })
+turnsFrom (refusesFor r) = TV.Refused (refusalOf r)
 
 turns-back : (a : TurnsAnswer) → turnsFrom (turnsMeaning a) ≡ a
 turns-back (TV.Wrote w) = refl

@@ -29,7 +29,7 @@ use Rattle.output_lines.specs.Carried.{Within}
 judged-within : (to : Spot) (s : Seat) (v : Result) → s .offset ≤ maxTimetable → s .place < mostOccurrences → Within (gives (judgedAs to s v .answer))
 judged-within to s hit l p = (l, p)
 judged-within to s miss l p = (l, p)
-judged-within to s (unreadable n) l p = l
+judged-within to s (unreadable r) l p = l
 
 served-within : (f : Files) (long : ℕ) (s : Seat) → Servable long s → long ≤ maxTimetable → Within (gives (serveOf f s .answer))
 served-within f long s v l =

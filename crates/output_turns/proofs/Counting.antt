@@ -9,7 +9,7 @@ use borrow.Author.Tests.{lt-leb}
 use lib.Dec.{leb}
 use lib.ListN.{length, length-append}
 use Rattle.basis.specs.Choice.{pick}
-use Rattle.basis.specs.Answer.{Answer, gives, refuses}
+use Rattle.basis.specs.Answer.{Answer, gives, refusesFor}
 use Rattle.timetable.specs.Lines.{newline}
 use Rattle.desk_seat.specs.Files.{Files}
 use Rattle.desk_seat.specs.Answers.{Turned, idle, hitAt, missAt, unreadableAt, doneWith}
@@ -26,9 +26,9 @@ pub line-some : (a : Answer Turned) → 1 ≤ length (turnLine a)
 line-some (gives idle) = line-with-some _ _
 line-some (gives (hitAt k o p)) = line-with-some _ _
 line-some (gives (missAt k o p)) = line-with-some _ _
-line-some (gives (unreadableAt k o n)) = line-with-some _ _
+line-some (gives (unreadableAt k o r)) = line-with-some _ _
 line-some (gives (doneWith k h u)) = line-with-some _ _
-line-some (refuses n) = line-with-some _ _
+line-some (refusesFor r) = line-with-some _ _
 
 abbrev then-on : Bool → Bool → List ℕ → Desk → Desk → Taken → Taken
 then-on fits stops line d next rest = pick fits (ontoTaken line (pick stops (record { desk = next; text = []; idle = true }) rest)) (none d)

@@ -74,7 +74,7 @@ stored d i x = record { desk = replaced d i (x .seat) i (d .issued); answer = x 
 judged-some : (to : Spot) (s : Seat) (v : Result) → isIdle (gives (judgedAs to s v .answer)) ≡ false
 judged-some to s hit = refl
 judged-some to s miss = refl
-judged-some to s (unreadable n) = refl
+judged-some to s (unreadable r) = refl
 
 served-some : (f : Files) (s : Seat) → isIdle (gives (serveOf f s .answer)) ≡ false
 served-some f s =

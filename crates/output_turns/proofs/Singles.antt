@@ -7,7 +7,7 @@ use native.Mathlib.Omega.{arith}
 use borrow.Author.Tests.{leb-true, leb-false}
 use lib.Dec.{leb}
 use lib.ListN.{length, drop, length-append}
-use Rattle.basis.specs.Answer.{Answer, gives, refuses}
+use Rattle.basis.specs.Answer.{Reason, Answer, gives, refusesFor, onlyNumber}
 use Rattle.desk_seat.specs.Files.{Files}
 use Rattle.desk.specs.Answers.{After}
 use Rattle.desk.specs.Soundness.{soundOf}
@@ -21,8 +21,8 @@ use Rattle.output_turns.specs.declared.WrittenTurns.{WrittenTurns}
 use Rattle.output_turns.proofs.Counting.{line-some, taken-next}
 use Rattle.output_turns.proofs.Calls.{some-written, turns-some, room-after}
 
-given-not-refused : {A : Type 0} (a : A) (n : ℕ) → gives a ≡ refuses n → ⊥
-given-not-refused a n e =
+given-not-refused : {A : Type 0} (a : A) (r : Reason) → gives a ≡ refusesFor r → ⊥
+given-not-refused a r e =
     let z : _≡_ {A = ℕ} 0 1 = cc in
     omega arith
 
@@ -166,9 +166,9 @@ turns-are-single f d before w a =
   where
     go : (h b x : Bool) → soundOf d ≡ h → haveLengths f d ≡ b → leb (length (turnLine (turnOf f d .answer))) (length before) ≡ x
         → (m : ℕ) × SingleTurns f d before w m
-    go false b x e l g = absurd (given-not-refused w notSound (sym a ∙ rw e))
-    go true false x e l g = absurd (given-not-refused w wrongTimetable (sym a ∙ rw (e, l)))
-    go true true false e l g = absurd (given-not-refused w noRoom (sym a ∙ rw (e, l, g)))
+    go false b x e l g = absurd (given-not-refused w (onlyNumber notSound) (sym a ∙ rw e))
+    go true false x e l g = absurd (given-not-refused w (onlyNumber wrongTimetable) (sym a ∙ rw (e, l)))
+    go true true false e l g = absurd (given-not-refused w (onlyNumber noRoom) (sym a ∙ rw (e, l, g)))
     go true true true e l g =
         let s = many-are-single f d (length before) in
         let some = some-written f d (length before) g in
@@ -177,7 +177,7 @@ turns-are-single f d before w a =
 -- ---- refused
 pub refused-turns-alter-nothing : RefusedTurnsAlterNothing
 unfolding turnsOf roomAfter
-refused-turns-alter-nothing f d room n r =
+refused-turns-alter-nothing f d room why r =
     go (soundOf d) (haveLengths f d) (leb (length (turnLine (turnOf f d .answer))) (length room)) refl refl refl
   where
     go : (a b x : Bool) → soundOf d ≡ a → haveLengths f d ≡ b → leb (length (turnLine (turnOf f d .answer))) (length room) ≡ x

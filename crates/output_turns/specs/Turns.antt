@@ -7,7 +7,8 @@ use Prim.Native.Nat.{ℕ, zero, suc, _+_, _-_, _≤_, _<_}
 use lib.Dec.{leb}
 use lib.ListN.{length, drop}
 use Rattle.basis.specs.Choice.{pick}
-use Rattle.basis.specs.Answer.{Answer, gives, refuses}
+use Rattle.basis.specs.Answer.{Reason, Answer, gives, refusesFor}
+use Rattle.value.specs.Reasons.{reasonOf}
 use Rattle.value.specs.Refusals.{wrongTimetable, notSound, noRoom}
 use Rattle.desk_seat.specs.Files.{Files}
 use Rattle.desk_seat.specs.Answers.{Turned, idle, hitAt, missAt, unreadableAt, doneWith}
@@ -26,9 +27,9 @@ abbrev pub isIdle : Answer Turned → Bool
 isIdle (gives idle) = true
 isIdle (gives (hitAt k o p)) = false
 isIdle (gives (missAt k o p)) = false
-isIdle (gives (unreadableAt k o n)) = false
+isIdle (gives (unreadableAt k o r)) = false
 isIdle (gives (doneWith k h u)) = false
-isIdle (refuses n) = false
+isIdle (refusesFor r) = false
 
 -- some turns taken: the desk after them, the lines of their answers, and whether the last was Idle
 pub record Taken : Type 0 where
@@ -79,7 +80,7 @@ roomAfter f d room =
 -- what the enum says
 abbrev pub turnsMeaning : TurnsAnswer → Answer WrittenTurns
 turnsMeaning (TV.Wrote w) = gives w
-turnsMeaning (TV.Refused r) = refuses (r .number)
+turnsMeaning (TV.Refused r) = refusesFor (reasonOf r)
 
 abbrev pub afterTurns : AfterTurns → After WrittenTurns
 afterTurns r = record { desk = r .desk; answer = turnsMeaning (r .answer) }
@@ -119,5 +120,5 @@ TurnsAreSingle =
 -- a refusal leaves desk and room as they were
 abbrev pub RefusedTurnsAlterNothing : Type 0
 RefusedTurnsAlterNothing =
-    (f : Files) (d : Desk) (room : List ℕ) (n : ℕ) → turnsOf f d (length room) .answer ≡ refuses n
+    (f : Files) (d : Desk) (room : List ℕ) (why : Reason) → turnsOf f d (length room) .answer ≡ refusesFor why
     → (turnsOf f d (length room) .desk ≡ d) × (roomAfter f d room ≡ room)

@@ -102,17 +102,13 @@ pub fn turns(desk: Desk, t: &[u8], room: &mut [u8]) -> AfterTurns
     if !desk.sound() {
         return AfterTurns {
             desk,
-            answer: TurnsAnswer::Refused(Refusal {
-                number: Refusal::NOT_SOUND,
-            }),
+            answer: TurnsAnswer::Refused(Refusal::numbered(Refusal::NOT_SOUND)),
         };
     }
     if t.len() != desk.timetable_length {
         return AfterTurns {
             desk,
-            answer: TurnsAnswer::Refused(Refusal {
-                number: Refusal::WRONG_TIMETABLE,
-            }),
+            answer: TurnsAnswer::Refused(Refusal::numbered(Refusal::WRONG_TIMETABLE)),
         };
     }
     let ran = take_turns(desk, t, room);
@@ -120,9 +116,7 @@ pub fn turns(desk: Desk, t: &[u8], room: &mut [u8]) -> AfterTurns
     if written.count < 1 {
         return AfterTurns {
             desk,
-            answer: TurnsAnswer::Refused(Refusal {
-                number: Refusal::NO_ROOM,
-            }),
+            answer: TurnsAnswer::Refused(Refusal::numbered(Refusal::NO_ROOM)),
         };
     }
     let next = ran.desk;

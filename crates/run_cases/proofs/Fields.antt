@@ -6,7 +6,7 @@ use Prim.Native.Nat.{ℕ, _≤_}
 use native.Mathlib.Omega.{arith}
 use lib.ListN.{length}
 use Rattle.basis.specs.Choice.{pick}
-use Rattle.basis.specs.Answer.{Answer, gives, refuses, andThen}
+use Rattle.basis.specs.Answer.{Reason, Answer, gives, refusesFor, refuses, andThen}
 use Rattle.value.specs.Bounds.{maxDayTime}
 use Rattle.value.specs.Refusals.{noField}
 use Rattle.value.specs.Kinds.{okValue, meaning}
@@ -19,8 +19,8 @@ use Rattle.value.specs.declared.Outcome.{Outcome}
 use Rattle.value.specs.declared.Value.{Value}
 use Rattle.value.proofs.Good.{good}
 use Rattle.value_instants.specs.Ticks.{localOf, instantOf, inYears, forwardOf}
-use Rattle.value_instants.specs.Carried.{spanOf}
-use Rattle.value_instants.proofs.TwoParts.{span-ticks, span-part}
+use Rattle.value.specs.Carried.{spanOf}
+use Rattle.value.proofs.Spans.{span-ticks, span-part}
 use Rattle.value_instants.proofs.Within.{timed, forward-to}
 use Rattle.value_instants.proofs.Instants.{record-near}
 use Rattle.value_instants.proofs.Locals.{local-in-years}
@@ -34,7 +34,7 @@ use Rattle.run_times.specs.Carried.{Short, spanTimes}
 use Rattle.run_cases.specs.StandsFor.{RunFields, fieldsRead, timesIn}
 use Rattle.run_cases.specs.Carried.{timedIn, timeRead, stepRead, runFrom, afterLast, afterFirst, spansIn, spansRead, GoodSpans}
 use Rattle.run_cases.specs.declared.RunSpans.{RunSpans}
-use Rattle.basis.proofs.Answers.{then-gives}
+use Rattle.basis.proofs.Answers.{refuses-same, then-gives}
 
 -- a field that reads is valid
 pub field-valid : (k : Kind) (row : Row) (n : ℕ) (v : Value) → readField k row n ≡ gives v → okValue v ≡ true
@@ -112,7 +112,7 @@ read-as zone line x = go (fieldsRead line) refl
   where
     go : (a : Answer RunFields) → fieldsRead line ≡ a → gives x ≡ spansRead zone a → ReadAs zone line x
     go (gives f) h e = record { fields = f; read = h; spans = cc }
-    go (refuses n) h e = absurd (let z : _≡_ {A = ℕ} 0 1 = cc in omega arith)
+    go (refusesFor r) h e = absurd (let z : _≡_ {A = ℕ} 0 1 = cc in omega arith)
 
 pub read-spans-good : (zone : Offset) (line : List ℕ) (x : RunSpans) → okOffset zone ≡ true → gives x ≡ spansRead zone (fieldsRead line)
     → GoodSpans (x .run) (x .zone)
@@ -120,12 +120,12 @@ read-spans-good zone line x o e =
     let r = read-as zone line x e in
     subst (λ (y : RunSpans). GoodSpans (y .run) (y .zone)) (sym (r .spans)) (spans-good zone (r .fields) o (fields-good line (r .fields) (r .read)))
 
-pub read-refused : (zone : Offset) (line : List ℕ) (n : ℕ) → refuses n ≡ spansRead zone (fieldsRead line) → fieldsRead line ≡ refuses n
-read-refused zone line n = go (fieldsRead line)
+pub read-refused : (zone : Offset) (line : List ℕ) (why : Reason) → refusesFor why ≡ spansRead zone (fieldsRead line) → fieldsRead line ≡ refusesFor why
+read-refused zone line why = go (fieldsRead line)
   where
-    go : (a : Answer RunFields) → refuses n ≡ spansRead zone a → a ≡ refuses n
+    go : (a : Answer RunFields) → refusesFor why ≡ spansRead zone a → a ≡ refusesFor why
     go (gives f) e = absurd (let z : _≡_ {A = ℕ} 0 1 = cc in omega arith)
-    go (refuses m) e = let q : n ≡ m = cc in λ i. refuses (sym q i)
+    go (refusesFor own) e = ap refusesFor (sym (refuses-same why own e))
 
 -- ---- field after field
 
@@ -135,17 +135,17 @@ module _ (line : List ℕ) where
       → readField k (rowOf line) n ≡ meaning p
   own-field k n made o p h e q = ap (λ (row : Row). readField k row n) (sym (with-none line made h)) ∙ sym e ∙ ap meaning q
 
-  pub step-refused : (n : ℕ) → readField KV.DayTimeDuration (rowOf line) 5 ≡ refuses n → refuses n ≡ stepRead line
+  pub step-refused : (why : Reason) → readField KV.DayTimeDuration (rowOf line) 5 ≡ refusesFor why → refusesFor why ≡ stepRead line
   unfolding stepRead andThen
-  step-refused n e = rw e
+  step-refused why e = rw e
 
   pub step-is : (v : Value) → readField KV.DayTimeDuration (rowOf line) 5 ≡ gives v → gives (spanOf (forwardOf v)) ≡ stepRead line
   unfolding stepRead andThen
   step-is v e = rw e
 
-  pub time-refused : (zone : Offset) (n m : ℕ) → readField KV.DateTime (rowOf line) n ≡ refuses m → refuses m ≡ timeRead zone line n
+  pub time-refused : (zone : Offset) (n : ℕ) (why : Reason) → readField KV.DateTime (rowOf line) n ≡ refusesFor why → refusesFor why ≡ timeRead zone line n
   unfolding timeRead andThen
-  time-refused zone n m e = rw e
+  time-refused zone n why e = rw e
 
   pub time-is : (zone : Offset) (n : ℕ) (v : Value) → readField KV.DateTime (rowOf line) n ≡ gives v → gives (timedIn zone (momentOf v)) ≡ timeRead zone line n
   unfolding timeRead andThen
@@ -161,6 +161,6 @@ module _ (line : List ℕ) where
           → andThen (andThen x (λ v. gives (timedIn zone (momentOf v)))) (λ a. andThen (andThen y (λ v. gives (timedIn zone (momentOf v)))) (λ b. andThen (andThen z (λ v. gives (spanOf (forwardOf v)))) (λ s. gives (runFrom a b s))))
           ≡ spansRead zone (andThen x (λ a. andThen y (λ b. andThen z (λ s. gives (record { first = momentOf a; last = momentOf b; step = forwardOf s })))))
       go (gives a) (gives b) (gives s) = refl
-      go (gives a) (gives b) (refuses n) = refl
-      go (gives a) (refuses n) z = refl
-      go (refuses n) y z = refl
+      go (gives a) (gives b) (refusesFor r) = refl
+      go (gives a) (refusesFor r) z = refl
+      go (refusesFor r) y z = refl

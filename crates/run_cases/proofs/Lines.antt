@@ -5,7 +5,7 @@ use mathlib.Core.List.{List, [], _∷_}
 use Prim.Native.Nat.{ℕ, _≤_}
 use native.Mathlib.Omega.{arith}
 use lib.ListN.{length}
-use Rattle.basis.specs.Answer.{Answer, gives, refuses, andThen}
+use Rattle.basis.specs.Answer.{Reason, Answer, gives, refusesFor, andThen}
 use Rattle.value.specs.declared.Offset.{Offset}
 use Rattle.timetable.specs.Rows.{rowOf}
 use Rattle.run_times.specs.Occurrences.{mostOccurrences, countOf, runChecked}
@@ -28,8 +28,8 @@ module _ (zone : Offset) (line : List ℕ) where
   unfolding standsFor
   is-run-line e = rw e
 
-  pub is-bad : (n : ℕ) → isRun line ≡ true → runOf zone line ≡ refuses n → standsFor zone line ≡ refusalCase n ∷ []
-  is-bad n e r = is-run-line e ∙ ap (runCases zone line) r
+  pub is-bad : (why : Reason) → isRun line ≡ true → runOf zone line ≡ refusesFor why → standsFor zone line ≡ refusalCase why ∷ []
+  is-bad why e r = is-run-line e ∙ ap (runCases zone line) r
 
   pub is-good : (r : RunFields) → isRun line ≡ true → runOf zone line ≡ gives r
       → standsFor zone line ≡ orMiss (occurrences line r 0 (countOf (timesIn zone r)))
@@ -41,9 +41,9 @@ module _ (zone : Offset) (line : List ℕ) where
   unfolding runOf andThen
   run-of-read f e = rw e
 
-  pub run-of-refused : (n : ℕ) → fieldsRead line ≡ refuses n → runOf zone line ≡ refuses n
+  pub run-of-refused : (why : Reason) → fieldsRead line ≡ refusesFor why → runOf zone line ≡ refusesFor why
   unfolding runOf andThen
-  run-of-refused n e = rw e
+  run-of-refused why e = rw e
 
   -- a good run is one that runs in ticks are good as
   pub good-times : (r : RunFields) → runOf zone line ≡ gives r → (fieldsRead line ≡ gives r) × GoodTimes (timesIn zone r)
@@ -61,9 +61,9 @@ plain-line zone line e =
     record { one = q; further = λ p h. ap (λ (cs : List Case). caseAt cs p) q ∙ row-further (rowOf line) p h }
 
 pub bad-run : BadRun
-bad-run zone line n e r =
-    let q = is-bad zone line n e r in
-    record { one = q; anywhere = λ p. ap (λ (cs : List Case). caseAt cs p) q ∙ refusal-anywhere n p }
+bad-run zone line why e r =
+    let q = is-bad zone line why e r in
+    record { one = q; anywhere = λ p. ap (λ (cs : List Case). caseAt cs p) q ∙ refusal-anywhere why p }
 
 pub good-run : GoodRuns
 good-run zone line r e g =
@@ -78,14 +78,14 @@ good-run zone line r e g =
 
 -- ---- how many
 
-of-any : (P : List Case → Type 0) (zone : Offset) (line : List ℕ) → P (rowCase (rowOf line) ∷ []) → ((n : ℕ) → P (refusalCase n ∷ []))
+of-any : (P : List Case → Type 0) (zone : Offset) (line : List ℕ) → P (rowCase (rowOf line) ∷ []) → ((why : Reason) → P (refusalCase why ∷ []))
     → ((r : RunFields) → countOf (timesIn zone r) ≤ mostOccurrences → P (orMiss (occurrences line r 0 (countOf (timesIn zone r)))))
     → P (standsFor zone line)
 of-any P zone line a b c = by-word (isRun line) refl
   where
     by-run : (x : Answer RunFields) → isRun line ≡ true → runOf zone line ≡ x → P (standsFor zone line)
     by-run (gives r) e h = subst P (sym (is-good zone line r e h)) (c r (good-times zone line r h .1 .few))
-    by-run (refuses n) e h = subst P (sym (is-bad zone line n e h)) (b n)
+    by-run (refusesFor why) e h = subst P (sym (is-bad zone line why e h)) (b why)
 
     by-word : (x : Bool) → isRun line ≡ x → P (standsFor zone line)
     by-word true e = by-run (runOf zone line) e refl
@@ -93,9 +93,9 @@ of-any P zone line a b c = by-word (isRun line) refl
 
 pub stands-for-some : StandsForSome
 stands-for-some zone line =
-    of-any (λ (cs : List Case). 1 ≤ length cs) zone line (omega arith) (λ n. omega arith) (λ r h. run-some line r (countOf (timesIn zone r)))
+    of-any (λ (cs : List Case). 1 ≤ length cs) zone line (omega arith) (λ why. omega arith) (λ r h. run-some line r (countOf (timesIn zone r)))
 
 pub stands-for-few : StandsForFew
 stands-for-few zone line =
-    of-any (λ (cs : List Case). length cs ≤ mostOccurrences) zone line (omega arith) (λ n. omega arith)
+    of-any (λ (cs : List Case). length cs ≤ mostOccurrences) zone line (omega arith) (λ why. omega arith)
     (λ r h. run-few line r (countOf (timesIn zone r)) h)

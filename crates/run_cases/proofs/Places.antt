@@ -7,6 +7,7 @@ use native.Mathlib.Omega.{arith}
 use lib.Dec.{ltb}
 use lib.ListN.{length}
 use borrow.Author.Tests.{lt-ltb, le-ltb}
+use Rattle.basis.specs.Answer.{Reason}
 use Rattle.timetable.specs.Rows.{Row}
 use Rattle.run_cases.specs.Cases.{Case, rowCase, missCase, refusalCase, caseAt}
 use Rattle.run_cases.specs.Laws.{CaseThere, CasePast}
@@ -24,9 +25,9 @@ case-past cs p h = rw (le-ltb p (length cs) h)
 
 -- ---- a list of one case
 
-pub refusal-anywhere : (n p : ℕ) → caseAt (refusalCase n ∷ []) p ≡ refusalCase n
-refusal-anywhere n zero = case-there (refusalCase n ∷ []) 0 (omega arith)
-refusal-anywhere n (suc p) = case-past (refusalCase n ∷ []) (suc p) (omega arith)
+pub refusal-anywhere : (why : Reason) (p : ℕ) → caseAt (refusalCase why ∷ []) p ≡ refusalCase why
+refusal-anywhere why zero = case-there (refusalCase why ∷ []) 0 (omega arith)
+refusal-anywhere why (suc p) = case-past (refusalCase why ∷ []) (suc p) (omega arith)
 
 pub miss-anywhere : (p : ℕ) → caseAt (missCase ∷ []) p ≡ missCase
 miss-anywhere zero = case-there (missCase ∷ []) 0 (omega arith)

@@ -8,7 +8,7 @@ use native.Mathlib.Omega.{arith}
 use borrow.Author.Tests.{eqb-true}
 use lib.Dec.{eqb}
 use Rattle.basis.specs.Choice.{pick}
-use Rattle.basis.specs.Answer.{Answer, gives, refuses}
+use Rattle.basis.specs.Answer.{Reason, Answer, gives, refusesFor}
 use Rattle.value.specs.Refusals.{badText, beyondBounds, longFraction, beyondResult, noField, badStep, tooMany}
 use Rattle.value.specs.declared.Offset.{Offset}
 use Rattle.timetable.specs.Rows.{Row, rowOf}
@@ -22,40 +22,42 @@ use Rattle.run_cases.proofs.Lines.{plain-line, bad-run, good-run}
 use Rattle.run_cases.proofs.Numbers.{run-line-numbers}
 
 -- a row and a miss are no refusal
-no-row : {A : Type 0} (r : Row) (n : ℕ) → rowCase r ≡ refusalCase n → A
-no-row r n e = absurd (let z : _≡_ {A = ℕ} 0 1 = cc in omega arith)
+no-row : {A : Type 0} (r : Row) (why : Reason) → rowCase r ≡ refusalCase why → A
+no-row r why e = absurd (let z : _≡_ {A = ℕ} 0 1 = cc in omega arith)
 
-no-miss : {A : Type 0} (n : ℕ) → missCase ≡ refusalCase n → A
-no-miss n e = absurd (let z : _≡_ {A = ℕ} 0 1 = cc in omega arith)
+no-miss : {A : Type 0} (why : Reason) → missCase ≡ refusalCase why → A
+no-miss why e = absurd (let z : _≡_ {A = ℕ} 0 1 = cc in omega arith)
 
 module _ (zone : Offset) (line : List ℕ) where
-  at-plain : (p n : ℕ) → isRun line ≡ false → caseAt (standsFor zone line) p ≡ refusalCase n → ofRunLine n ≡ true
-  at-plain zero n e h = no-row (rowOf line) n (sym (ap (λ (cs : List Case). caseAt cs 0) (plain-line zone line e .one) ∙ row-first (rowOf line)) ∙ h)
-  at-plain (suc p) n e h = no-miss n (sym (plain-line zone line e .further (suc p) (omega arith)) ∙ h)
+  at-plain : (p : ℕ) (why : Reason) → isRun line ≡ false → caseAt (standsFor zone line) p ≡ refusalCase why → ofRunLine (why .number) ≡ true
+  at-plain zero why e h = no-row (rowOf line) why (sym (ap (λ (cs : List Case). caseAt cs 0) (plain-line zone line e .one) ∙ row-first (rowOf line)) ∙ h)
+  at-plain (suc p) why e h = no-miss why (sym (plain-line zone line e .further (suc p) (omega arith)) ∙ h)
 
-  at-good : (r : RunFields) (p n : ℕ) → isRun line ≡ true → runOf zone line ≡ gives r → caseAt (standsFor zone line) p ≡ refusalCase n → ofRunLine n ≡ true
-  at-good r p n e g h =
+  at-good : (r : RunFields) (p : ℕ) (why : Reason) → isRun line ≡ true → runOf zone line ≡ gives r → caseAt (standsFor zone line) p ≡ refusalCase why
+      → ofRunLine (why .number) ≡ true
+  at-good r p why e g h =
       let q = good-run zone line r e g in
-      ⊎-elim (λ l. no-row _ n (sym (q .there p l) ∙ h))
-      (λ l. no-miss n (sym (q .further p l) ∙ h))
+      ⊎-elim (λ l. no-row _ why (sym (q .there p l) ∙ h))
+      (λ l. no-miss why (sym (q .further p l) ∙ h))
       (before-or-not p (countOf (timesIn zone r)))
 
-  at-bad : (m p n : ℕ) → isRun line ≡ true → runOf zone line ≡ refuses m → caseAt (standsFor zone line) p ≡ refusalCase n → ofRunLine n ≡ true
-  at-bad m p n e g h =
-      let q : refusalCase m ≡ refusalCase n = sym (bad-run zone line m e g .anywhere p) ∙ h in
-      let same : m ≡ n = cc in
-      ap ofRunLine (sym same) ∙ run-line-numbers zone line m g
+  at-bad : (own : Reason) (p : ℕ) (why : Reason) → isRun line ≡ true → runOf zone line ≡ refusesFor own → caseAt (standsFor zone line) p ≡ refusalCase why
+      → ofRunLine (why .number) ≡ true
+  at-bad own p why e g h =
+      let q : refusalCase own ≡ refusalCase why = sym (bad-run zone line own e g .anywhere p) ∙ h in
+      let same : own ≡ why = cc in
+      ap (λ (x : Reason). ofRunLine (x .number)) (sym same) ∙ run-line-numbers zone line own g
 
 pub refusal-numbers : RefusalsAtLine
-refusal-numbers zone line p n h = by-word (isRun line) refl
+refusal-numbers zone line p why h = by-word (isRun line) refl
   where
-    by-run : (x : Answer RunFields) → isRun line ≡ true → runOf zone line ≡ x → ofRunLine n ≡ true
-    by-run (gives r) e g = at-good zone line r p n e g h
-    by-run (refuses m) e g = at-bad zone line m p n e g h
+    by-run : (x : Answer RunFields) → isRun line ≡ true → runOf zone line ≡ x → ofRunLine (why .number) ≡ true
+    by-run (gives r) e g = at-good zone line r p why e g h
+    by-run (refusesFor own) e g = at-bad zone line own p why e g h
 
-    by-word : (x : Bool) → isRun line ≡ x → ofRunLine n ≡ true
+    by-word : (x : Bool) → isRun line ≡ x → ofRunLine (why .number) ≡ true
     by-word true e = by-run (runOf zone line) e refl
-    by-word false e = at-plain zone line p n e h
+    by-word false e = at-plain zone line p why e h
 
 -- such a number is at most 18
 small : (n : ℕ) → ofRunLine n ≡ true → n ≤ tooMany
@@ -74,5 +76,5 @@ small n h =
     go false false false false false false true p q r s t u v k = let w = eqb-true n 4 v in omega arith
     go false false false false false false false p q r s t u v k = absurd (true≢false (sym k))
 
-pub refusals-at-line : (zone : Offset) (line : List ℕ) (p n : ℕ) → caseAt (standsFor zone line) p ≡ refusalCase n → n ≤ tooMany
-refusals-at-line zone line p n h = small n (refusal-numbers zone line p n h)
+pub refusals-at-line : (zone : Offset) (line : List ℕ) (p : ℕ) (why : Reason) → caseAt (standsFor zone line) p ≡ refusalCase why → why .number ≤ tooMany
+refusals-at-line zone line p why h = small (why .number) (refusal-numbers zone line p why h)

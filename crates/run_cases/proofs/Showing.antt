@@ -8,7 +8,8 @@ use native.Mathlib.Omega.{arith}
 use lib.Dec.{ltb}
 use lib.ListN.{length}
 use borrow.Author.Tests.{le-ltb, ltb-false}
-use Rattle.basis.specs.Answer.{Answer, gives, refuses, andThen}
+use Rattle.basis.specs.Answer.{Answer, gives, refusesFor, andThen}
+use Rattle.value.specs.Reasons.{reasonOf}
 use Rattle.value.specs.Kinds.{okValue}
 use Rattle.value.specs.Values.{okDateTime}
 use Rattle.value.specs.declared.DateTime.{DateTime}
@@ -17,7 +18,7 @@ use Rattle.value.specs.declared.Refusal.{Refusal}
 use Rattle.value.specs.declared.Value.the-variants as VV
 use Rattle.value.specs.declared.Zone.{Zone}
 use Rattle.value_instants.specs.Ticks.{atLocal, inYears, placedAt}
-use Rattle.value_instants.specs.Carried.{ticksOf}
+use Rattle.value.specs.Carried.{ticksOf}
 use Rattle.value_instants.specs.declared.Placed.the-variants as PV
 use Rattle.value_instants.proofs.Locals.{placed-there, placed-ok}
 use Rattle.value_instants.proofs.Years.{later-in-years}
@@ -95,13 +96,13 @@ module _ (r : CaseAtPlace) (run : Run) (own : Zone) (p : ℕ) where
       (run-more line f (countOf (timesIn zone f)) p ∙ le-ltb (p + 1) (countOf (timesIn zone f)) (omega arith))
 
   -- a bad run is its refusal
-  pub refused-shown : (n : Refusal) → Alone r (SV.Refused n) → refuses (n .number) ≡ runChecked (spanTimes run) → ShowsRun r run own p
+  pub refused-shown : (n : Refusal) → Alone r (SV.Refused n) → refusesFor (reasonOf n) ≡ runChecked (spanTimes run) → ShowsRun r run own p
   unfolding andThen
   refused-shown n a h zone line f e =
       let ts : spanTimes run ≡ timesIn zone f = times-of zone f (record { run = run; zone = own }) e in
-      let q : refuses (n .number) ≡ runChecked (timesIn zone f) = h ∙ ap runChecked ts in
+      let q : refusesFor (reasonOf n) ≡ runChecked (timesIn zone f) = h ∙ ap runChecked ts in
       subst (λ (x : Answer (Unit {0})). Shows r line (runCases zone line (andThen x (λ good. gives f))) p) q
-      (alone-shown r (SV.Refused n) line (refusalCase (n .number) ∷ []) p a (sym (refusal-anywhere (n .number) p)) (none-after (refusalCase (n .number)) p))
+      (alone-shown r (SV.Refused n) line (refusalCase (reasonOf n) ∷ []) p a (sym (refusal-anywhere (reasonOf n) p)) (none-after (refusalCase (reasonOf n)) p))
 
   pub good-shown : gives tt ≡ runChecked (spanTimes run) → ShowsOccurrence r run own p → ShowsRun r run own p
   unfolding andThen
@@ -129,11 +130,11 @@ module _ (r : CaseAtPlace) (zone : Offset) (line : List ℕ) (p : ℕ) where
       (alone-shown r SV.Miss line (rowCase (rowOf line) ∷ []) p a (sym (row-further (rowOf line) p (omega (arith, z))))
       (none-after (rowCase (rowOf line)) p))
 
-  pub unread-shown : (n : Refusal) → isRun line ≡ true → Alone r (SV.Refused n) → refuses (n .number) ≡ spansRead zone (fieldsRead line)
+  pub unread-shown : (n : Refusal) → isRun line ≡ true → Alone r (SV.Refused n) → refusesFor (reasonOf n) ≡ spansRead zone (fieldsRead line)
       → Shows r line (standsFor zone line) p
   unread-shown n e a h =
-      as-cases (refusalCase (n .number) ∷ []) (is-bad zone line (n .number) e (run-of-refused zone line (n .number) (read-refused zone line (n .number) h)))
-      (alone-shown r (SV.Refused n) line (refusalCase (n .number) ∷ []) p a (sym (refusal-anywhere (n .number) p)) (none-after (refusalCase (n .number)) p))
+      as-cases (refusalCase (reasonOf n) ∷ []) (is-bad zone line (reasonOf n) e (run-of-refused zone line (reasonOf n) (read-refused zone line (reasonOf n) h)))
+      (alone-shown r (SV.Refused n) line (refusalCase (reasonOf n) ∷ []) p a (sym (refusal-anywhere (reasonOf n) p)) (none-after (refusalCase (reasonOf n)) p))
 
   pub run-shown : (x : RunSpans) → isRun line ≡ true → gives x ≡ spansRead zone (fieldsRead line) → ShowsRun r (x .run) (x .zone) p
       → Shows r line (standsFor zone line) p

@@ -7,7 +7,8 @@ use mathlib.Core.List.{List, []}
 use Prim.Native.Nat.{ℕ, _+_, _≤_}
 use lib.Dec.{ltb}
 use lib.ListN.{length}
-use Rattle.basis.specs.Answer.{Answer, gives, refuses, andThen}
+use Rattle.basis.specs.Answer.{Answer, gives, refusesFor, andThen}
+use Rattle.value.specs.Reasons.{reasonOf}
 use Rattle.value.specs.Values.{okZone}
 use Rattle.value.specs.declared.DateTime.{DateTime}
 use Rattle.value.specs.declared.Kind.the-variants as KV
@@ -15,7 +16,7 @@ use Rattle.value.specs.declared.Offset.{Offset}
 use Rattle.value.specs.declared.Span.{Span}
 use Rattle.value.specs.declared.Zone.{Zone}
 use Rattle.value_instants.specs.Ticks.{localOf, instantOf, inYears, forwardOf}
-use Rattle.value_instants.specs.Carried.{ticksOf, spanOf}
+use Rattle.value.specs.Carried.{ticksOf, spanOf}
 use Rattle.timetable.specs.Rows.{rowOf, rowWith}
 use Rattle.numerals.specs.Carried.{textIn}
 use Rattle.text.specs.Alike.{momentOf}
@@ -41,7 +42,7 @@ use Rattle.run_cases.specs.declared.RunRead.the-variants as RV
 abbrev pub caseSaid : List ℕ → List ℕ → CaseRead → Case
 caseSaid line made SV.Row = rowCase (rowWith line made)
 caseSaid line made SV.Miss = missCase
-caseSaid line made (SV.Refused r) = refusalCase (r .number)
+caseSaid line made (SV.Refused r) = refusalCase (reasonOf r)
 
 -- the case at a place of what a line stands for, and whether the line has one after it
 pub record Shows (r : CaseAtPlace) (line : List ℕ) (cs : List Case) (p : ℕ) : Type 0 where
@@ -66,14 +67,14 @@ timeRead zone line n = andThen (readField KV.DateTime (rowOf line) n) (λ v. giv
 
 abbrev pub timeMeaning : TimeRead → Answer Timed
 timeMeaning (TV.Is t) = gives t
-timeMeaning (TV.Refused r) = refuses (r .number)
+timeMeaning (TV.Refused r) = refusesFor (reasonOf r)
 
 unfoldable pub stepRead : List ℕ → Answer Span
 stepRead line = andThen (readField KV.DayTimeDuration (rowOf line) 5) (λ v. gives (spanOf (forwardOf v)))
 
 abbrev pub stepMeaning : StepRead → Answer Span
 stepMeaning (PV.Is s) = gives s
-stepMeaning (PV.Refused r) = refuses (r .number)
+stepMeaning (PV.Refused r) = refusesFor (reasonOf r)
 
 -- the run of first, last and step in spans
 abbrev pub runFrom : Timed → Timed → Span → RunSpans
@@ -102,11 +103,11 @@ spansIn zone f =
 
 abbrev pub spansRead : Offset → Answer RunFields → Answer RunSpans
 spansRead zone (gives f) = gives (spansIn zone f)
-spansRead zone (refuses n) = refuses n
+spansRead zone (refusesFor r) = refusesFor r
 
 abbrev pub readMeaning : RunRead → Answer RunSpans
 readMeaning (RV.Is x) = gives x
-readMeaning (RV.Refused r) = refuses (r .number)
+readMeaning (RV.Refused r) = refusesFor (reasonOf r)
 
 -- a run whose fields were read, and its zone
 pub record GoodSpans (run : Run) (zone : Zone) : Type 0 where

@@ -4,19 +4,20 @@ use Prim.Native.Nat.{ℕ}
 use lib.Dec.{ltb}
 use lib.ListN.{length, getD}
 use Rattle.basis.specs.Choice.{pick}
+use Rattle.basis.specs.Answer.{Reason}
 use Rattle.timetable.specs.Rows.{Row}
 
 pub data Case : Type 0 where
   rowCase : Row → Case
   missCase : Case
-  refusalCase : ℕ → Case
+  refusalCase : Reason → Case
 
 -- "A place that its good line doesn't reach .. is judged as an empty run": one miss; a bad line is its refusal at any place
 abbrev pub unreached : List Case → Case
 unreached [] = missCase
 unreached (rowCase r ∷ cs) = missCase
 unreached (missCase ∷ cs) = missCase
-unreached (refusalCase n ∷ cs) = refusalCase n
+unreached (refusalCase r ∷ cs) = refusalCase r
 
 -- the case at a place of what a line stands for
 unfoldable pub caseAt : List Case → ℕ → Case

@@ -7,7 +7,7 @@ use Prim.Native.Nat.{ℕ, _≤_, _<_}
 use lib.Dec.{eqb}
 use lib.ListN.{length, getD}
 use Rattle.basis.specs.Choice.{pick}
-use Rattle.basis.specs.Answer.{gives, refuses}
+use Rattle.basis.specs.Answer.{Reason, gives, refusesFor}
 use Rattle.value.specs.Refusals.{badText, beyondBounds, longFraction, noField}
 use Rattle.value.specs.declared.Offset.{Offset}
 use Rattle.value_instants.specs.Ticks.{instantOf}
@@ -40,12 +40,12 @@ abbrev pub PlainLine : Type 0
 PlainLine = (zone : Offset) (line : List ℕ) → isRun line ≡ false → Plain zone line
 
 -- a bad run is its refusal, at any place; proved as `bad-run`
-pub record Bad (zone : Offset) (line : List ℕ) (n : ℕ) : Type 0 where
-  pub one : standsFor zone line ≡ refusalCase n ∷ []
-  pub anywhere : (p : ℕ) → caseAt (standsFor zone line) p ≡ refusalCase n
+pub record Bad (zone : Offset) (line : List ℕ) (why : Reason) : Type 0 where
+  pub one : standsFor zone line ≡ refusalCase why ∷ []
+  pub anywhere : (p : ℕ) → caseAt (standsFor zone line) p ≡ refusalCase why
 
 abbrev pub BadRun : Type 0
-BadRun = (zone : Offset) (line : List ℕ) (n : ℕ) → isRun line ≡ true → runOf zone line ≡ refuses n → Bad zone line n
+BadRun = (zone : Offset) (line : List ℕ) (why : Reason) → isRun line ≡ true → runOf zone line ≡ refusesFor why → Bad zone line why
 
 -- a good run with last before first is one miss; any other has as many cases as occurrences: at each place below their number it is the
 -- row with the written text of first + place x step as its second field, and at any other a miss; proved as `good-run`
@@ -64,8 +64,8 @@ ofRunLine n =
     pick (eqb n badText) true (pick (eqb n beyondBounds) true (pick (eqb n longFraction) true (pick (eqb n noField) true (ofRun n))))
 
 abbrev pub RunLineNumbers : Type 0
-RunLineNumbers = (zone : Offset) (line : List ℕ) (n : ℕ) → runOf zone line ≡ refuses n → ofRunLine n ≡ true
+RunLineNumbers = (zone : Offset) (line : List ℕ) (why : Reason) → runOf zone line ≡ refusesFor why → ofRunLine (why .number) ≡ true
 
 -- so no other number stands at a place of any line; proved as `refusal-numbers`
 abbrev pub RefusalsAtLine : Type 0
-RefusalsAtLine = (zone : Offset) (line : List ℕ) (p n : ℕ) → caseAt (standsFor zone line) p ≡ refusalCase n → ofRunLine n ≡ true
+RefusalsAtLine = (zone : Offset) (line : List ℕ) (p : ℕ) (why : Reason) → caseAt (standsFor zone line) p ≡ refusalCase why → ofRunLine (why .number) ≡ true

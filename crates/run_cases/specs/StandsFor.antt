@@ -6,7 +6,7 @@ use mathlib.Core.Bool.{Bool}
 use mathlib.Core.List.{List, [], _∷_}
 use Prim.Native.Nat.{ℕ, zero, suc, _+_, _*_}
 use Rattle.basis.specs.Choice.{pick}
-use Rattle.basis.specs.Answer.{Answer, gives, refuses, andThen}
+use Rattle.basis.specs.Answer.{Answer, gives, refusesFor, andThen}
 use Rattle.basis.specs.Letters.{bytes}
 use Rattle.value.specs.declared.DateTime.{DateTime}
 use Rattle.value.specs.declared.Kind.the-variants as KV
@@ -70,7 +70,7 @@ orMiss (c ∷ cs) = c ∷ cs
 -- "Any refusal over its fields 3 to 5 makes the line one Unreadable."
 abbrev pub runCases : Offset → List ℕ → Answer RunFields → List Case
 runCases zone line (gives r) = orMiss (occurrences line r 0 (countOf (timesIn zone r)))
-runCases zone line (refuses n) = refusalCase n ∷ []
+runCases zone line (refusesFor r) = refusalCase r ∷ []
 
 -- what a line stands for: a plain one for its own fields
 unfoldable pub standsFor : Offset → List ℕ → List Case

@@ -9,13 +9,13 @@ use Rattle.basis.specs.Choice.{both}
 use Rattle.basis.specs.Answer.{gives}
 use Rattle.basis.proofs.Tests.{both-true}
 use Rattle.value.specs.Bounds.{maxDayTime}
-use Rattle.value.specs.Durations.{plusHalf, minusHalf, lessTicks}
+use Rattle.value.specs.Durations.{plusTicks, minusTicks, lessTicks}
 use Rattle.value.specs.Kinds.{okValue}
 use Rattle.value.specs.Values.{okDateTime, okDayTime}
 use Rattle.value.specs.declared.DateTime.{DateTime}
 use Rattle.value.specs.declared.Kind.the-variants as KV
 use Rattle.value.specs.declared.Value.the-variants as VV
-use Rattle.value.proofs.Signs.{plus-apart, minus-apart, difference-ok}
+use Rattle.value.proofs.ClockLaws.{plus-less, minus-less, less-ok}
 use Rattle.value.proofs.Good.{good}
 use Rattle.value.specs.declared.Offset.{Offset}
 use Rattle.value_instants.specs.Ticks.{localOf, instantOf, atLocal, inYears, pastYears}
@@ -38,9 +38,9 @@ forward-sum : (d : DateTime) (n : ℕ) → okDateTime d ≡ true → n ≤ maxDa
     → plusOf (VV.DateTime d) (VV.DayTime (lessTicks n 0)) ≡ gives (VV.DateTime (atLocal (localOf d + n) (d .zone)))
 unfolding plusOf sumOf okValue shifted
 forward-sum d n g few y =
-    let ok : both (okDateTime d) (okDayTime (lessTicks n 0)) ≡ true = both-true _ _ g (difference-ok maxDayTime n 0 (omega arith)) in
-    let p : plusHalf (lessTicks n 0 .negative) (lessTicks n 0 .micros) ≡ n = plus-apart n 0 ∙ (omega arith) in
-    let q : minusHalf (lessTicks n 0 .negative) (lessTicks n 0 .micros) ≡ 0 = minus-apart n 0 ∙ (omega arith) in
+    let ok : both (okDateTime d) (okDayTime (lessTicks n 0)) ≡ true = both-true _ _ g (less-ok n 0 (omega arith)) in
+    let p : plusTicks (lessTicks n 0) ≡ n = plus-less n 0 ∙ (omega arith) in
+    let q : minusTicks (lessTicks n 0) ≡ 0 = minus-less n 0 ∙ (omega arith) in
     let z : localOf d + n - 0 ≡ localOf d + n = omega arith in
     rw (ok, p, q, z) (placed-gives KV.DateTime (localOf d + n) (d .zone) y)
 

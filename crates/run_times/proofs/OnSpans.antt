@@ -8,8 +8,8 @@ use lib.Dec.{ltb}
 use borrow.Author.Tests.{ltb-true, ltb-false, le-leb, lt-leb}
 use Rattle.value.specs.Bounds.{secondTicks, maxDayTime}
 use Rattle.value.specs.declared.Span.{Span}
-use Rattle.value_instants.specs.Carried.{ticksOf, spanOf}
-use Rattle.value_instants.proofs.TwoParts.{has-ticks}
+use Rattle.value.specs.Carried.{ticksOf, spanOf}
+use Rattle.value.proofs.Spans.{has-ticks}
 use Rattle.run_times.specs.Occurrences.{mostOccurrences, countOf}
 use Rattle.run_times.specs.Carried.{spanTimes, Short, Going}
 use Rattle.run_times.specs.declared.Run.{Run}

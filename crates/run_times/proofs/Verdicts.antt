@@ -6,7 +6,7 @@ use native.Mathlib.Omega.{arith}
 use lib.Dec.{eqb, ltb}
 use borrow.Author.Tests.{eq-eqb, ne-eqb, eqb-false, lt-ltb, le-ltb, ltb-false}
 use Rattle.basis.specs.Choice.{pick}
-use Rattle.basis.specs.Answer.{Answer, gives, refuses}
+use Rattle.basis.specs.Answer.{Answer, gives, refusesFor, refuses}
 use Rattle.value.specs.Refusals.{beyondResult, badStep, tooMany}
 use Rattle.run_times.specs.Occurrences.{Times, mostOccurrences, countOf, somePasses, runChecked}
 use Rattle.run_times.specs.Laws.{GoodTimes, GoodExactly, ofRun, RunNumbers}
@@ -35,7 +35,7 @@ module _ (t : Times) (above : 0 < t .step) where
 -- which answer it is
 abbrev numberIn : Answer (Unit {0}) → ℕ
 numberIn (gives x) = 0
-numberIn (refuses n) = n
+numberIn (refusesFor r) = r .number
 
 positive : (n : ℕ) → (n ≡ 0 → ⊥) → 0 < n
 positive n h = omega (arith, h)
@@ -58,10 +58,10 @@ good-exactly t = record { only = has-good t; always = λ g. sym (refused-not t (
 
 pub run-numbers : RunNumbers
 unfolding runChecked
-run-numbers t n e = go (eqb (t .step) 0) (ltb mostOccurrences (countOf t)) (somePasses t) e
+run-numbers t r e = go (eqb (t .step) 0) (ltb mostOccurrences (countOf t)) (somePasses t) e
   where
-    go : (a b p : Bool) → _≡_ {A = Answer (Unit {0})} (pick a (refuses badStep) (pick b (refuses tooMany) (pick p (refuses beyondResult) (gives tt)))) (refuses n)
-        → ofRun n ≡ true
+    go : (a b p : Bool) → _≡_ {A = Answer (Unit {0})} (pick a (refuses badStep) (pick b (refuses tooMany) (pick p (refuses beyondResult) (gives tt)))) (refusesFor r)
+        → ofRun (r .number) ≡ true
     go true b p q = sym (ap (λ (x : Answer (Unit {0})). ofRun (numberIn x)) q)
     go false true p q = sym (ap (λ (x : Answer (Unit {0})). ofRun (numberIn x)) q)
     go false false true q = sym (ap (λ (x : Answer (Unit {0})). ofRun (numberIn x)) q)

@@ -1,10 +1,11 @@
 -- Carried: a run in code is four spans; here it is their ticks, and what is known of them. No promise to a caller rests on it: runs are
 -- Occurrences.antt.
 use Prim.Native.Nat.{_<_, _≤_}
-use Rattle.basis.specs.Answer.{Answer, gives, refuses}
+use Rattle.basis.specs.Answer.{Answer, gives, refusesFor}
+use Rattle.value.specs.Reasons.{reasonOf}
 use Rattle.value.specs.Bounds.{secondTicks, maxDayTime}
 use Rattle.value.specs.declared.Span.{Span}
-use Rattle.value_instants.specs.Carried.{ticksOf}
+use Rattle.value.specs.Carried.{ticksOf}
 use Rattle.run_times.specs.Occurrences.{Times}
 use Rattle.run_times.specs.declared.Run.{Run}
 use Rattle.run_times.specs.declared.Verdict.{Verdict}
@@ -34,4 +35,4 @@ pub record Going (r : Run) : Type 0 where
 -- what a verdict says
 abbrev pub verdictMeaning : Verdict → Answer (Unit {0})
 verdictMeaning VV.Good = gives tt
-verdictMeaning (VV.Refused r) = refuses (r .number)
+verdictMeaning (VV.Refused r) = refusesFor (reasonOf r)

@@ -5,7 +5,7 @@ use mathlib.Core.Bool.{Bool, true, false}
 use Prim.Native.Nat.{ℕ, _+_, _-_, _*_, _≤_, _<_}
 use lib.Dec.{eqb}
 use Rattle.basis.specs.Choice.{pick}
-use Rattle.basis.specs.Answer.{gives, refuses}
+use Rattle.basis.specs.Answer.{Reason, gives, refusesFor}
 use Rattle.basis.specs.Exactly.{Exactly}
 use Rattle.value.specs.Refusals.{beyondResult, badStep, tooMany}
 use Rattle.value_instants.specs.Ticks.{pastYears}
@@ -41,4 +41,4 @@ abbrev pub ofRun : ℕ → Bool
 ofRun n = pick (eqb n badStep) true (pick (eqb n tooMany) true (eqb n beyondResult))
 
 abbrev pub RunNumbers : Type 0
-RunNumbers = (t : Times) (n : ℕ) → runChecked t ≡ refuses n → ofRun n ≡ true
+RunNumbers = (t : Times) (r : Reason) → runChecked t ≡ refusesFor r → ofRun (r .number) ≡ true

@@ -7,7 +7,8 @@ use value_instants::ticks;
 ghost use mathlib.Core.Path.{_≡_};
 ghost use Prim.Native.Nat.{_+_, _≤_};
 ghost use lib.Dec.{ltb};
-ghost use Rattle.value_instants.specs.Carried.{spanOf};
+ghost use Rattle.basis.specs.Answer.{refuses};
+ghost use Rattle.value.specs.Carried.{spanOf};
 ghost use Rattle.run_times.specs.Occurrences.{mostOccurrences, countOf, localAtPlace, somePasses, runChecked};
 ghost use Rattle.run_times.specs.Carried.{spanTimes, verdictMeaning, Good, Going};
 
@@ -105,6 +106,12 @@ fn some_passes(r: Run) -> bool
     last_passes(r)
 }
 
+fn refused(number: u8) -> Verdict
+    ensures { λ r. ⌜ verdictMeaning r ≡ refuses number ⌝ }
+{
+    Verdict::Refused(Refusal::numbered(number))
+}
+
 // The refusals of a run, in their order.
 pub fn checked(r: Run) -> Verdict
     requires { ⌜ Good r ⌝ }
@@ -116,19 +123,13 @@ pub fn checked(r: Run) -> Verdict
         part: 0,
     };
     if !spans::is_less(none, step) {
-        return Verdict::Refused(Refusal {
-            number: Refusal::BAD_STEP,
-        });
+        return refused(Refusal::BAD_STEP);
     }
     if reached(r, MOST) {
-        return Verdict::Refused(Refusal {
-            number: Refusal::TOO_MANY,
-        });
+        return refused(Refusal::TOO_MANY);
     }
     if some_passes(r) {
-        return Verdict::Refused(Refusal {
-            number: Refusal::BEYOND_RESULT,
-        });
+        return refused(Refusal::BEYOND_RESULT);
     }
     Verdict::Good
 }

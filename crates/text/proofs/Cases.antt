@@ -7,7 +7,9 @@ use lib.ListN.{replicate}
 use Rattle.basis.specs.Choice.{both, every}
 use Rattle.basis.specs.Answer.{gives, refuses}
 use Rattle.basis.specs.Letters.{bytes}
-use Rattle.value.specs.Values.{okDate, okOffset, okZone, okDateTime}
+use Rattle.value.specs.Bounds.{maxYear, maxClock, maxZone}
+use Rattle.value.specs.Clocks.{clockOf, atClock}
+use Rattle.value.specs.Values.{okDate, okOffset, okZone, okTimePart, okDateTime}
 use Rattle.value.specs.Kinds.{okValue}
 use Rattle.value.specs.declared.Offset.the-variants.{East}
 use Rattle.value.specs.declared.Zone.the-variants.{At}
@@ -19,7 +21,7 @@ use Rattle.text_layouts.specs.Writing.{layoutText, partText, pairOf}
 use Rattle.text.specs.Writing.{textOf, written, afterWrite}
 
 abbrev last : Value
-last = DateTime (record { year = 9999; month = 12; day = 31; micros = 86_399_999_999; zone = At (East 840) })
+last = DateTime (atClock (record { year = maxYear; month = 12; day = 31 }) maxClock (At (East maxZone)))
 
 abbrev text : List ℕ
 text = bytes "9999-12-31T23:59:59.999999+14:00"
@@ -29,13 +31,13 @@ abbrev room : ℕ → List ℕ
 room n = replicate n 7
 
 one-byte-less : (written last 31 ≡ refuses 15) × (afterWrite last (room 31) ≡ room 31)
-unfolding written afterWrite textOf layoutText partText pairOf isPair digits keptDigits fractionText okValue okDateTime okDate okZone okOffset both every
+unfolding written afterWrite textOf layoutText partText pairOf isPair digits keptDigits fractionText okValue okDateTime okDate okTimePart okZone okOffset clockOf both every
 one-byte-less = (refl, refl)
 
 just-fits : (written last 32 ≡ gives 32) × (afterWrite last (room 32) ≡ text)
-unfolding written afterWrite textOf layoutText partText pairOf isPair digits keptDigits fractionText okValue okDateTime okDate okZone okOffset both every
+unfolding written afterWrite textOf layoutText partText pairOf isPair digits keptDigits fractionText okValue okDateTime okDate okTimePart okZone okOffset clockOf both every
 just-fits = (refl, refl)
 
 bytes-after-stay : (written last 34 ≡ gives 32) × (afterWrite last (room 34) ≡ text ++ room 2)
-unfolding written afterWrite textOf layoutText partText pairOf isPair digits keptDigits fractionText okValue okDateTime okDate okZone okOffset both every
+unfolding written afterWrite textOf layoutText partText pairOf isPair digits keptDigits fractionText okValue okDateTime okDate okTimePart okZone okOffset clockOf both every
 bytes-after-stay = (refl, refl)

@@ -2,16 +2,17 @@
 use mathlib.Core.Path.{_≡_, refl, sym, _∙_}
 use mathlib.Core.Bool.{Bool, true, false}
 use mathlib.Core.List.{List, [], _∷_}
-use Prim.Native.Nat.{ℕ, _+_, _*_}
+use Prim.Native.Nat.{ℕ, _+_}
 use lib.Dec.{eqb, leb}
 use lib.ListN.{length}
 use Rattle.basis.specs.Choice.{pick, among}
-use Rattle.basis.specs.Answer.{Answer, gives, refuses}
+use Rattle.basis.specs.Answer.{Reason, Answer, gives, refusesFor, refuses}
 use Rattle.calendar.specs.declared.Date.{Date}
 use Rattle.calendar.specs.declared.Dated.{Dated}
 use Rattle.calendar.specs.declared.Dated.the-variants.{On, Later}
 use Rattle.calendar.specs.Calendar.{dayOf, datedOf}
 use Rattle.value.specs.Bounds.{maxYear}
+use Rattle.value.specs.Clocks.{atClock}
 use Rattle.value.specs.Refusals.{badText, beyondBounds, longFraction, noRoom, outside}
 use Rattle.value.specs.Kinds.{hasDate, okValue}
 use Rattle.value.specs.Values.{okDate}
@@ -21,11 +22,14 @@ use Rattle.value.specs.declared.Kind.{Kind}
 use Rattle.value.specs.declared.Kind.the-variants as KV
 use Rattle.value.specs.declared.Value.{Value}
 use Rattle.value.proofs.Numbers.{only, only-either, only-refused}
+use Rattle.text_scan.specs.declared.FoundDate.{FoundDate}
+use Rattle.text_scan.specs.declared.FoundClock.{FoundClock}
+use Rattle.text_scan.specs.declared.FoundZone.{FoundZone}
 use Rattle.text_scan.specs.declared.Scan.{Scan}
 use Rattle.text_scan.specs.Scanning.{uncapped, scannedParts}
 use Rattle.text_checks.specs.Reading as judging
 use Rattle.text_layouts.specs.Reading.{readLayout}
-use Rattle.text_durations.specs.Walks.{counted, readBy, shape, asValue}
+use Rattle.text_durations.specs.Walks.{withinBounds, counted, readBy, shape, asValue}
 use Rattle.text_durations.specs.Forms.{Form, dayTime, yearMonth}
 use Rattle.text_durations.specs.declared.Shape.{Shape}
 use Rattle.text_durations.specs.declared.Amount.{Amount}
@@ -55,48 +59,44 @@ valued-numbers KV.DayTimeDuration d = refl
 valued-numbers KV.YearMonthDuration d = refl
 
 start-numbers : (k : Kind) (z : Zone) (d : Dated) → Reads (judging.startOfDay k z d)
-start-numbers k z (On d) = valued-numbers k (judging.placedOn d 0 z)
+start-numbers k z (On d) = valued-numbers k (atClock d 0 z)
 start-numbers k z Later = refl
 
 next-numbers : (k : Kind) (d : Date) (z : Zone) → Reads (judging.nextDay k d z)
 unfolding judging.nextDay
-next-numbers k d z = either (hasDate k) _ _ (start-numbers k z (datedOf (dayOf d + 1) maxYear)) (valued-numbers k (judging.placedOn d 0 z))
+next-numbers k d z = either (hasDate k) _ _ (start-numbers k z (datedOf (dayOf d + 1) maxYear)) (valued-numbers k (atClock d 0 z))
 
-clocked-numbers : (k : Kind) (d : Date) (h m s u : ℕ) (z : Zone) → Reads (judging.clocked k d h m s u z)
+clocked-numbers : (k : Kind) (d : Date) (c : FoundClock) (z : Zone) → Reads (judging.clocked k d c z)
 unfolding judging.clocked
-clocked-numbers k d h m s u z =
-    either (judging.okClock h m s) _ _ (valued-numbers k (judging.placedOn d (judging.clockTicks h m s u) z))
-    (either (judging.isDayEnd h m s u) _ _ (next-numbers k d z) refl)
+clocked-numbers k d c z = either (eqb (c .hour) judging.dayEnd) _ _ (next-numbers k d z) (valued-numbers k (atClock d (judging.clockTicks c) z))
 
-calendar-numbers : (k : Kind) (d : Date) (h m s u sign zh zm : ℕ) → Reads (judging.onCalendar k d h m s u sign zh zm)
+calendar-numbers : (k : Kind) (d : FoundDate) (c : FoundClock) (z : FoundZone) → Reads (judging.onCalendar k d c z)
 unfolding judging.onCalendar
-calendar-numbers k d h m s u sign zh zm =
+calendar-numbers k d c z =
     either (okDate (d .year) (d .month) (d .day)) _ _
-    (either (judging.okParts zh zm) _ _ (clocked-numbers k d h m s u (judging.zoneIs sign (zh * 60 + zm))) refl) refl
+    (either (judging.goodClock c) _ _ (either (judging.okParts z) _ _ (clocked-numbers k (judging.dayFound d) c (judging.zoneIs z)) refl) refl) refl
 
-bounded-numbers : (long negative : Bool) (year : ℕ) (rest : Answer Value) → Reads rest → Reads (judging.bounded long negative year rest)
+bounded-numbers : (d : FoundDate) (c : FoundClock) (rest : Answer Value) → Reads rest → Reads (judging.bounded d c rest)
 unfolding judging.bounded
-bounded-numbers long negative year rest h = either long _ _ refl (either negative _ _ refl (either (leb year maxYear) _ _ h refl))
+bounded-numbers d c rest h = either (c .long) _ _ refl (either (d .negative) _ _ refl (either (leb (d .year) maxYear) _ _ h refl))
 
 judge-numbers : (k : Kind) (n : ℕ) (t : Scan) → Reads (judging.judge k n t)
 unfolding judging.judge
 judge-numbers k n t =
-    either (t .good) _ _
-    (either (eqb (t .at) n) _ _ (bounded-numbers (t .long) (t .negative) (t .year) _
-    (calendar-numbers k (record { year = t .year; month = t .month; day = t .day }) (t .hour) (t .minute) (t .second) (t .part) (t .sign) (t .zh) (t .zm))) refl) refl
+    either (t .good) _ _ (either (eqb (t .at) n) _ _ (bounded-numbers (t .date) (t .clock) _ (calendar-numbers k (t .date) (t .clock) (t .zone))) refl) refl
 
 -- durations
-counted-numbers : (unit most : ℕ) (t : Shape) → Reads (counted unit most t)
+counted-numbers : (t : Shape) → Reads (counted t)
 unfolding counted
-counted-numbers unit most t = either (t .good) _ _ (either (t .long) _ _ refl (either (leb (t .sum * unit + t .ticks) most) _ _ refl refl)) refl
+counted-numbers t = either (t .good) _ _ (either (t .long) _ _ refl (either (withinBounds (t .sums) (t .ticks)) _ _ refl refl)) refl
 
 value-numbers : (f : Amount → Value) (x : Answer Amount) → Reads x → Reads (asValue f x)
 value-numbers f (gives a) h = refl
-value-numbers f (refuses n) h = h
+value-numbers f (refusesFor r) h = h
 
 duration-numbers : (f : Form) (s : List ℕ) → Reads (readBy f s)
 unfolding readBy
-duration-numbers f s = counted-numbers (f .unit) (f .most) (shape (f .before) (f .after) s)
+duration-numbers f s = counted-numbers (shape (f .before) (f .after) s)
 
 read-numbers : (k : Kind) (s : List ℕ) → Reads (readBare k s)
 unfolding readBare readLayout
@@ -107,14 +107,14 @@ read-numbers KV.DayTimeDuration s = value-numbers _ (readBy dayTime s) (duration
 read-numbers KV.YearMonthDuration s = value-numbers _ (readBy yearMonth s) (duration-numbers yearMonth s)
 
 -- a text that does not read is refused with 1, 2 or 3
-pub read-refuses : (k : Kind) (s : List ℕ) (n : ℕ) → readAs k s ≡ refuses n → among readingNumbers n ≡ true
-read-refuses k s n e = only-refused readingNumbers (readBare k (bare s)) n (read-numbers k (bare s)) (sym (reads-bare k s) ∙ e)
+pub read-refuses : (k : Kind) (s : List ℕ) (r : Reason) → readAs k s ≡ refusesFor r → among readingNumbers (r .number) ≡ true
+read-refuses k s r e = only-refused readingNumbers (readBare k (bare s)) r (read-numbers k (bare s)) (sym (reads-bare k s) ∙ e)
 
 -- a value that is not written is refused with 16 or 15
-pub write-refuses : (v : Value) (room n : ℕ) → written v room ≡ refuses n → among writingNumbers n ≡ true
+pub write-refuses : (v : Value) (room : ℕ) (r : Reason) → written v room ≡ refusesFor r → among writingNumbers (r .number) ≡ true
 unfolding written
-write-refuses v room n e =
-    only-refused writingNumbers (written v room) n
+write-refuses v room r e =
+    only-refused writingNumbers (written v room) r
     (only-either writingNumbers (okValue v) (pick (leb (length (textOf v)) room) (gives (length (textOf v))) (refuses noRoom)) (refuses outside)
     (only-either writingNumbers (leb (length (textOf v)) room) (gives (length (textOf v))) (refuses noRoom) refl refl) refl)
     e

@@ -8,20 +8,23 @@ use native.Mathlib.Omega.{arith}
 use lib.Dec.{ltb}
 use lib.ListN.{length}
 use Rattle.basis.specs.Choice.{both, every}
-use Rattle.basis.specs.Answer.{Answer, gives, refuses}
+use Rattle.basis.specs.Answer.{Answer, gives, refusesFor, refuses}
 use Rattle.basis.proofs.Tests.{both-left, both-right}
 use Rattle.value.specs.Bounds.{maxDayTime, maxYearMonth}
 use Rattle.value.specs.Refusals.{badText}
+use Rattle.value.specs.Clocks.{clockOf, ticksIn, durationOf}
 use Rattle.value.specs.Durations.{plusHalf, minusHalf, apart}
 use Rattle.value.specs.Kinds.{kindOf, okValue, template}
 use Rattle.value_instants.specs.Ticks.{utc, instantOf}
-use Rattle.value.specs.Values.{okDate, okZone, okDateTime, okSigned}
+use Rattle.value.specs.Values.{okDate, okTimePart, okZone, okDateTime}
 use Rattle.value.specs.declared.DateTime.{DateTime}
+use Rattle.value.specs.declared.DayTime.{DayTime}
 use Rattle.value.specs.declared.Kind.{Kind}
 use Rattle.value.specs.declared.Kind.the-variants as KV
 use Rattle.value.specs.declared.Value.{Value}
 use Rattle.value.specs.declared.Value.the-variants as VV
 use Rattle.value_instants.proofs.Instants.{utc-good, same-instant}
+use Rattle.value.proofs.ClockLaws.{duration-is, day-time-signed}
 use Rattle.value.proofs.KindParts.{kept-of-kind}
 use Rattle.value.proofs.Signs.{signed-back, same-difference}
 use Rattle.numerals.specs.Writing.{longest}
@@ -33,7 +36,7 @@ use Rattle.text_layouts.proofs.Lengths.{text-fits}
 use Rattle.text_layouts.proofs.ReadsValid.{reads-valid}
 use Rattle.text_layouts.proofs.Valid.{Valid}
 use Rattle.text_durations.specs.declared.Amount.{Amount}
-use Rattle.text_durations.specs.Walks.{asDayTime, asYearMonth, readBy}
+use Rattle.text_durations.specs.Walks.{dayTimeOf, yearMonthOf, asDayTime, asYearMonth, readBy}
 use Rattle.text_durations.specs.Forms.{dayTime, yearMonth}
 use Rattle.text_durations.proofs.Round.{day-time-round-trip, year-month-round-trip, day-time-valid, year-month-valid}
 use Rattle.text_durations.proofs.Lengths.{day-time-length, year-month-length}
@@ -81,12 +84,12 @@ text-within (VV.YearMonth d) g = year-month-length d g
 
 -- a duration that is read is of the kind that was asked for
 day-time-kind : (x : Answer Amount) (v : Value) → asDayTime x ≡ gives v → kindOf v ≡ KV.DayTimeDuration
-day-time-kind (gives a) v e = let k : VV.DayTime (record { negative = a .negative; micros = a .number }) ≡ v = cc in ap kindOf (sym k)
-day-time-kind (refuses n) v e = let z : _≡_ {A = ℕ} 0 1 = cc in cc
+day-time-kind (gives a) v e = let k : dayTimeOf a ≡ v = cc in ap kindOf (sym k)
+day-time-kind (refusesFor r) v e = let z : _≡_ {A = ℕ} 0 1 = cc in cc
 
 year-month-kind : (x : Answer Amount) (v : Value) → asYearMonth x ≡ gives v → kindOf v ≡ KV.YearMonthDuration
-year-month-kind (gives a) v e = let k : VV.YearMonth (record { negative = a .negative; months = a .number }) ≡ v = cc in ap kindOf (sym k)
-year-month-kind (refuses n) v e = let z : _≡_ {A = ℕ} 0 1 = cc in cc
+year-month-kind (gives a) v e = let k : yearMonthOf a ≡ v = cc in ap kindOf (sym k)
+year-month-kind (refusesFor r) v e = let z : _≡_ {A = ℕ} 0 1 = cc in cc
 
 -- what reads is within the bounds of the kind that was asked for
 bytes-valid : (k : Kind) (s : List ℕ) (v : Value) → readBare k s ≡ gives v → Valid k v
@@ -105,19 +108,20 @@ abbrev rebuilt : Kind → DateTime → Bool → ℕ → Value
 rebuilt KV.Date d b n = VV.Date d
 rebuilt KV.Time d b n = VV.Time d
 rebuilt KV.DateTime d b n = VV.DateTime d
-rebuilt KV.DayTimeDuration d b n = VV.DayTime (record { negative = b; micros = n })
+rebuilt KV.DayTimeDuration d b n = VV.DayTime (durationOf b n)
 rebuilt KV.YearMonthDuration d b n = VV.YearMonth (record { negative = b; months = n })
 
-rebuilt-is : (v : Value) → rebuilt (kindOf v) (momentOf v) (signOf v) (magnitudeOf v) ≡ v
-rebuilt-is (VV.Date d) = refl
-rebuilt-is (VV.Time d) = refl
-rebuilt-is (VV.DateTime d) = refl
-rebuilt-is (VV.DayTime d) = refl
-rebuilt-is (VV.YearMonth d) = refl
+rebuilt-is : (v : Value) → okValue v ≡ true → rebuilt (kindOf v) (momentOf v) (signOf v) (magnitudeOf v) ≡ v
+unfolding okValue
+rebuilt-is (VV.Date d) g = refl
+rebuilt-is (VV.Time d) g = refl
+rebuilt-is (VV.DateTime d) g = refl
+rebuilt-is (VV.DayTime d) g = ap (λ (t : DayTime). VV.DayTime t) (duration-is d g)
+rebuilt-is (VV.YearMonth d) g = refl
 
 -- the record of a valid value is valid
 pub moment-ok : (v : Value) → okValue v ≡ true → okDateTime (momentOf v) ≡ true
-unfolding okValue okDateTime okDate okZone every both
+unfolding okValue okDateTime okDate okTimePart clockOf okZone every both
 moment-ok (VV.Date d) g = both-left _ _ g
 moment-ok (VV.Time d) g = both-left _ _ g
 moment-ok (VV.DateTime d) g = g
@@ -134,7 +138,7 @@ unfolding Signed okValue
 signed-is (VV.Date d) g = (refl, refl)
 signed-is (VV.Time d) g = (refl, refl)
 signed-is (VV.DateTime d) g = (refl, refl)
-signed-is (VV.DayTime d) g = signed-back maxDayTime (d .micros) (d .negative) g
+signed-is (VV.DayTime d) g = signed-back maxDayTime (ticksIn d) (d .negative) (day-time-signed d g)
 signed-is (VV.YearMonth d) g = signed-back maxYearMonth (d .months) (d .negative) g
 
 -- valid values of one kind that are alike are one value
@@ -145,7 +149,7 @@ alike-is-same v w gv gw k a =
     let d = same-difference (plusHalf (signOf v) (magnitudeOf v)) (minusHalf (signOf v) (magnitudeOf v)) (plusHalf (signOf w) (magnitudeOf w)) (minusHalf (signOf w) (magnitudeOf w)) (a .number) in
     let s : signOf v ≡ signOf w = sym (signed-is v gv .0) ∙ d .0 ∙ signed-is w gw .0 in
     let n : magnitudeOf v ≡ magnitudeOf w = sym (signed-is v gv .1) ∙ d .1 ∙ signed-is w gw .1 in
-    sym (rebuilt-is v) ∙ (λ i. rebuilt (k i) (m i) (s i) (n i)) ∙ rebuilt-is w
+    sym (rebuilt-is v gv) ∙ (λ i. rebuilt (k i) (m i) (s i) (n i)) ∙ rebuilt-is w gw
 
 -- two texts that read, as one kind, as values that are alike are written alike
 pub written-alike : (k : Kind) (s t : List ℕ) (v w : Value) → readAs k s ≡ gives v → readAs k t ≡ gives w → Alike v w → textOf v ≡ textOf w

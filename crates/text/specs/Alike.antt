@@ -3,6 +3,7 @@
 use mathlib.Core.Bool.{Bool, false}
 use mathlib.Core.Path.{_≡_}
 use Prim.Native.Nat.{ℕ, _+_}
+use Rattle.value.specs.Clocks.{ticksIn}
 use Rattle.value.specs.Durations.{plusHalf, minusHalf}
 use Rattle.value.specs.Kinds.{template}
 use Rattle.value_instants.specs.Ticks.{utc, instantOf}
@@ -31,7 +32,7 @@ abbrev pub magnitudeOf : Value → ℕ
 magnitudeOf (VV.Date d) = 0
 magnitudeOf (VV.Time d) = 0
 magnitudeOf (VV.DateTime d) = 0
-magnitudeOf (VV.DayTime t) = t .micros
+magnitudeOf (VV.DayTime t) = ticksIn t
 magnitudeOf (VV.YearMonth m) = m .months
 
 pub record Alike (v w : Value) : Type 0 where

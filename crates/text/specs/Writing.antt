@@ -4,7 +4,8 @@ use Prim.Native.Nat.{ℕ}
 use lib.Dec.{leb}
 use lib.ListN.{length, drop}
 use Rattle.basis.specs.Choice.{pick}
-use Rattle.basis.specs.Answer.{Answer, gives, refuses}
+use Rattle.basis.specs.Answer.{Answer, gives, refusesFor, refuses}
+use Rattle.value.specs.Reasons.{reasonOf}
 use Rattle.value.specs.Refusals.{noRoom, outside}
 use Rattle.value.specs.Kinds.{okValue}
 use Rattle.value.specs.declared.Kind.the-variants as KV
@@ -25,7 +26,7 @@ textOf (VV.YearMonth d) = yearMonthText d
 -- what an answer says: the length written, or the number of a refusal
 abbrev pub writtenMeaning : Written → Answer ℕ
 writtenMeaning (WV.Length n) = gives n
-writtenMeaning (WV.Refused r) = refuses (r .number)
+writtenMeaning (WV.Refused r) = refusesFor (reasonOf r)
 
 -- 16 for a value outside the bounds, then 15 for a room that the text does not fit
 unfoldable pub written : Value → ℕ → Answer ℕ

@@ -6,6 +6,7 @@ use value::Refusal;
 use value::Value;
 ghost use mathlib.Core.Path.{_≡_};
 ghost use lib.ListN.{length};
+ghost use Rattle.basis.specs.Answer.{refuses};
 ghost use Rattle.value.specs.Kinds as kinds;
 ghost use Rattle.numerals.specs.Carried.{Holds};
 ghost use Rattle.text.specs.Reading.{readBare, readAs};
@@ -60,23 +61,25 @@ pub fn text_of(v: Value) -> Text
     }
 }
 
+fn refused(number: u8) -> Written
+    ensures { λ r. ⌜ its.writtenMeaning r ≡ refuses number ⌝ }
+{
+    Written::Refused(Refusal::numbered(number))
+}
+
 // The text of a value at the start of a lent room.
 pub fn write(v: Value, room: &mut [u8]) -> Written
     ensures { λ r. ⌜ its.writtenMeaning r ≡ its.written v (length (now (room .entry))) ⌝ }
     ensures { λ r. ⌜ now (room .exit) ≡ its.afterWrite v (now (room .entry)) ⌝ }
 {
     if !value::valid::value_ok(v) {
-        return Written::Refused(Refusal {
-            number: Refusal::OUTSIDE,
-        });
+        return refused(Refusal::OUTSIDE);
     }
     let t = text_of(v);
     let n = t.len;
     let bytes = t.bytes;
     if room.len() < n {
-        return Written::Refused(Refusal {
-            number: Refusal::NO_ROOM,
-        });
+        return refused(Refusal::NO_ROOM);
     }
     bytes::copy(&bytes[..n], room);
     Written::Length(n)

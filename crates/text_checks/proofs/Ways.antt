@@ -6,26 +6,31 @@ use Prim.Native.Nat.{ℕ, _+_, _*_, _≤_, _<_}
 use native.Mathlib.Omega.{arith}
 use lib.Dec.{eqb, leb}
 use lib.ListN.{length}
-use borrow.Author.Tests.{leb-true, leb-false, lt-leb, le-leb, eq-eqb}
-use Rattle.basis.specs.Choice.{pick}
+use borrow.Author.Tests.{leb-true, leb-false, lt-leb, le-leb, eq-eqb, ne-eqb, eqb-true}
+use Rattle.basis.specs.Choice.{pick, both, every}
 use Rattle.basis.specs.Answer.{Answer, refuses}
+use Rattle.basis.proofs.Tests.{both-left, both-right, both-end}
 use Rattle.calendar.specs.Calendar.{GoodDate, dayOf, datedOf}
 use Rattle.calendar.specs.declared.Date.{Date}
 use Rattle.calendar.specs.declared.Dated.{Dated}
 use Rattle.calendar.specs.declared.Dated.the-variants.{On, Later}
-use Rattle.value.specs.Bounds.{maxYear, secondTicks}
+use Rattle.value.specs.Bounds.{maxYear, secondTicks, dayTicks}
+use Rattle.value.specs.Clocks.{atClock}
 use Rattle.value.specs.Refusals.{badText, beyondBounds}
 use Rattle.value.specs.Values.{okDate}
 use Rattle.value.specs.Kinds.{hasDate}
 use Rattle.value.specs.declared.Zone.{Zone}
+use Rattle.value.specs.declared.DateTime.{DateTime}
 use Rattle.value.specs.declared.Kind.{Kind}
 use Rattle.value.specs.declared.Value.{Value}
 use Rattle.value.proofs.Good.{good-day, numbered}
+use Rattle.text_scan.specs.declared.FoundDate.{FoundDate}
+use Rattle.text_scan.specs.declared.FoundClock.{FoundClock}
 use Rattle.text_scan.specs.declared.Scan.{Scan}
 use Rattle.text_scan.specs.Scanning.{uncapped, scannedParts}
 use Rattle.text_scan.specs.Carried.{capped}
-use Rattle.text_scan.proofs.Caps.{cut, parts-cut}
-use Rattle.text_checks.specs.Reading.{valueGiven, placedOn, nextDay, okClock, isDayEnd, clockTicks, clocked, onCalendar, bounded, judge}
+use Rattle.text_scan.proofs.Caps.{cut, cutDate, parts-cut}
+use Rattle.text_checks.specs.Reading.{valueGiven, nextDay, dayEnd, maxHour, maxMinute, okClock, isDayEnd, goodClock, clockTicks, clocked, onCalendar, bounded, judge}
 
 -- the day after
 module _ (k : Kind) (d : Date) (z : Zone) {b : Bool} (eb : b ≡ hasDate k) where
@@ -33,7 +38,7 @@ module _ (k : Kind) (d : Date) (z : Zone) {b : Bool} (eb : b ≡ hasDate k) wher
     after : {y : Dated} → x ≡ y → datedOf (dayOf d + 1) maxYear ≡ y
     after e = sym (ex ∙ ap (λ (m : ℕ). datedOf (m + 1) maxYear) en) ∙ e
 
-    pub next-on : (e : Date) → x ≡ On e → valueGiven k (placedOn e 0 z) ≡ nextDay k d z
+    pub next-on : (e : Date) → x ≡ On e → valueGiven k (atClock e 0 z) ≡ nextDay k d z
     unfolding nextDay
     next-on e ee = rw (sym eb ∙ h, after ee)
 
@@ -41,7 +46,7 @@ module _ (k : Kind) (d : Date) (z : Zone) {b : Bool} (eb : b ≡ hasDate k) wher
     unfolding nextDay
     next-beyond ee = rw (sym eb ∙ h, after ee)
 
-  pub same-day : b ≡ false → valueGiven k (placedOn d 0 z) ≡ nextDay k d z
+  pub same-day : b ≡ false → valueGiven k (atClock d 0 z) ≡ nextDay k d z
   unfolding nextDay
   same-day h = rw (sym eb ∙ h)
 
@@ -52,55 +57,65 @@ a-date d e = good-day d e .date
 pub few-days : (d : Date) → okDate (d .year) (d .month) (d .day) ≡ true → dayOf d < 366 * (maxYear + 1)
 few-days d e = numbered d (good-day d e) .days-few
 
--- the clock
-module _ (k : Kind) (d : Date) (h m s u : ℕ) (z : Zone) {c : Bool} (ec : c ≡ okClock h m s) where
-  pub on-clock : c ≡ true → (v : ℕ) → v ≡ (h * 3600 + m * 60 + s) * secondTicks + u → valueGiven k (placedOn d v z) ≡ clocked k d h m s u z
-  unfolding clocked clockTicks
-  on-clock e v ev = rw (sym ec ∙ e) (ap (λ (x : ℕ). valueGiven k (placedOn d x z)) (omega arith))
+-- the clock: a good one that is not the end of a day is within the day
+module _ (c : FoundClock) where
+  pub clock-within : okClock c ≡ true → c .part < secondTicks → clockTicks c < dayTicks
+  unfolding okClock every clockTicks
+  clock-within e l =
+      let e1 = both-right _ _ e in
+      omega (arith, leb-true (c .hour) maxHour (both-left _ _ e), leb-true (c .minute) maxMinute (both-left _ _ e1), leb-true (c .second) maxMinute (both-left _ _ (both-right _ _ e1)))
 
-  module _ (f : c ≡ false) {x : Bool} (ex : x ≡ isDayEnd h m s u) where
-    pub at-end : x ≡ true → nextDay k d z ≡ clocked k d h m s u z
-    unfolding clocked
-    at-end e = rw (sym ec ∙ f, sym ex ∙ e)
+  module _ (n : c .hour ≡ dayEnd → ⊥) where
+    pub within-day : goodClock c ≡ true → okClock c ≡ true
+    unfolding goodClock isDayEnd every
+    within-day e = go (okClock c) refl
+      where
+        go : (b : Bool) → okClock c ≡ b → okClock c ≡ true
+        go true q = q
+        go false q = absurd (n (eqb-true (c .hour) dayEnd (both-left _ _ (rw q at e))))
 
-    pub no-clock : x ≡ false → refuses badText ≡ clocked k d h m s u z
-    unfolding clocked
-    no-clock e = rw (sym ec ∙ f, sym ex ∙ e)
+    pub span-within : goodClock c ≡ true → c .part < secondTicks → (c .part < secondTicks) × ((c .hour * 3600 + c .minute * 60 + c .second) * secondTicks + c .part < dayTicks)
+    unfolding clockTicks
+    span-within e l = (l, omega (arith, clock-within (within-day e) l))
+
+    pub on-clock : (k : Kind) (d : Date) (z : Zone) {r : DateTime} → r ≡ atClock d ((c .hour * 3600 + c .minute * 60 + c .second) * secondTicks + c .part) z
+        → valueGiven k r ≡ clocked k d c z
+    unfolding clocked clockTicks
+    on-clock k d z e = ap (valueGiven k) e ∙ rw (ne-eqb (c .hour) dayEnd n) (ap (λ (t : ℕ). valueGiven k (atClock d t z)) (omega arith))
+
+  -- the last of the tests of a day's end
+  pub no-part-left : c .hour ≡ dayEnd → c .minute ≡ 0 → c .second ≡ 0 → eqb (c .part) 0 ≡ isDayEnd c
+  unfolding isDayEnd every both
+  no-part-left h m s = rw (eq-eqb (c .hour) dayEnd h, eq-eqb (c .minute) 0 m, eq-eqb (c .second) 0 s) (sym (both-end (eqb (c .part) 0)))
+
+  pub at-end : c .hour ≡ dayEnd → (k : Kind) (d : Date) (z : Zone) → nextDay k d z ≡ clocked k d c z
+  unfolding clocked
+  at-end e k d z = rw (eq-eqb (c .hour) dayEnd e)
 
 -- the checks, where the first three pass
-pub past-checks : (k : Kind) (n : ℕ) (t : Scan) → t .good ≡ true → t .at ≡ n → t .long ≡ false → t .negative ≡ false → t .year ≤ maxYear
-    → onCalendar k (record { year = t .year; month = t .month; day = t .day }) (t .hour) (t .minute) (t .second) (t .part) (t .sign) (t .zh) (t .zm) ≡ judge k n t
+pub past-checks : (k : Kind) (n : ℕ) (t : Scan) → t .good ≡ true → t .at ≡ n → t .clock .long ≡ false → t .date .negative ≡ false → t .date .year ≤ maxYear
+    → onCalendar k (t .date) (t .clock) (t .zone) ≡ judge k n t
 unfolding judge bounded
-past-checks k n t g e l m y =
-    sym (
-    go (t .good) (eqb (t .at) n) (t .long) (t .negative) (t .year) g (eq-eqb (t .at) n e) l m (le-leb (t .year) maxYear y)
-    (onCalendar k (record { year = t .year; month = t .month; day = t .day }) (t .hour) (t .minute) (t .second) (t .part) (t .sign) (t .zh) (t .zm)))
-  where
-    go : (a b long negative : Bool) (year : ℕ) → a ≡ true → b ≡ true → long ≡ false → negative ≡ false → leb year maxYear ≡ true → (x : Answer Value)
-        → pick a (pick b (bounded long negative year x) (refuses badText)) (refuses badText) ≡ x
-    go a b long negative year pa pb pc pd pf x = rw (pa, pb, pc, pd, pf)
+past-checks k n t g e l m y = rw (g, eq-eqb (t .at) n e, l, m, le-leb (t .date .year) maxYear y)
 
 -- a year that is cut is beyond the greatest exactly where the whole of it is, and else the same
-years-cut : (long negative : Bool) (y : ℕ) (on : ℕ → Answer Value) → bounded long negative (capped y) (on (capped y)) ≡ bounded long negative y (on y)
+years-cut : (d : FoundDate) (c : FoundClock) (on : FoundDate → Answer Value) → bounded (cutDate d) c (on (cutDate d)) ≡ bounded d c (on d)
 unfolding bounded
-years-cut long negative y on = go (leb y maxYear) refl
+years-cut d c on = go (leb (d .year) maxYear) refl
   where
-    go : (b : Bool) → leb y maxYear ≡ b → bounded long negative (capped y) (on (capped y)) ≡ bounded long negative y (on y)
+    go : (b : Bool) → leb (d .year) maxYear ≡ b → bounded (cutDate d) c (on (cutDate d)) ≡ bounded d c (on d)
     go true e =
-        let c : capped y ≡ y = omega (arith, leb-true y maxYear e) in
-        λ i. bounded long negative (c i) (on (c i))
-    go false e = rw (e, lt-leb (capped y) maxYear (omega (arith, leb-false y maxYear e)))
+        let y : capped (d .year) ≡ d .year = omega (arith, leb-true (d .year) maxYear e) in
+        let w : cutDate d ≡ d = λ i. record { negative = d .negative; year = y i; month = d .month; day = d .day } in
+        λ i. bounded (w i) c (on (w i))
+    go false e = rw (e, lt-leb (capped (d .year)) maxYear (omega (arith, leb-false (d .year) maxYear e)))
 
 -- what is found with a year that is cut is judged as what is found with the whole of it
 pub judged-cut : (k : Kind) (n : ℕ) (t : Scan) → judge k n (cut t) ≡ judge k n t
 unfolding judge
-judged-cut k n t = λ i. pick (t .good) (pick (eqb (t .at) n) (bounded-cut (t .long) (t .negative) (t .year) i) (refuses badText)) (refuses badText)
-  where
-    on : ℕ → Answer Value
-    on y = onCalendar k (record { year = y; month = t .month; day = t .day }) (t .hour) (t .minute) (t .second) (t .part) (t .sign) (t .zh) (t .zm)
-
-    bounded-cut : (long negative : Bool) (y : ℕ) → bounded long negative (capped y) (on (capped y)) ≡ bounded long negative y (on y)
-    bounded-cut long negative y = years-cut long negative y on
+judged-cut k n t =
+    ap (λ (x : Answer Value). pick (t .good) (pick (eqb (t .at) n) x (refuses badText)) (refuses badText))
+    (years-cut (t .date) (t .clock) (λ (d : FoundDate). onCalendar k d (t .clock) (t .zone)))
 
 pub way : (k : Kind) (s : List ℕ) {t : Scan} → t ≡ scannedParts capped k s → judge k (length s) t ≡ judge k (length s) (scannedParts uncapped k s)
 way k s e = ap (judge k (length s)) (e ∙ parts-cut k s) ∙ judged-cut k (length s) (scannedParts uncapped k s)

@@ -1,6 +1,9 @@
 // The checks of the parts that were found in a text, in document 01's order.
 use calendar::Date;
 use calendar::Dated;
+use text_scan::FoundClock;
+use text_scan::FoundDate;
+use text_scan::FoundZone;
 use text_scan::Scan;
 use value::DateTime;
 use value::Kind;
@@ -13,6 +16,8 @@ use value::Zone;
 ghost use mathlib.Core.Path.{_≡_};
 ghost use mathlib.Core.Bool.{true};
 ghost use Rattle.basis.specs.Answer.{refuses};
+ghost use Prim.Native.Nat.{_<_};
+ghost use Rattle.value.specs.Bounds.{secondTicks};
 ghost use Rattle.value.specs.Values.{okDate};
 ghost use Rattle.value.specs.Kinds.{meaning};
 ghost use Rattle.text_checks.specs.Reading as the;
@@ -29,7 +34,7 @@ const HOUR_MINUTES: u16 = Span::HOUR_MINUTES as u16;
 fn refused(number: u8) -> Outcome
     ensures { λ r. ⌜ meaning r ≡ refuses number ⌝ }
 {
-    Outcome::Refused(Refusal { number })
+    Outcome::Refused(Refusal::numbered(number))
 }
 
 // A record as a value of a kind.
@@ -45,49 +50,66 @@ fn valued(kind: Kind, d: DateTime) -> Outcome
     }
 }
 
-fn clock_ok(h: u8, m: u8, s: u8) -> bool
-    ensures { λ r. ⌜ r ≡ the.okClock h m s ⌝ }
+fn clock_ok(c: FoundClock) -> bool
+    ensures { λ r. ⌜ r ≡ the.okClock c ⌝ }
 {
-    if MAX_HOUR < h {
+    if MAX_HOUR < c.hour {
         return false;
     }
-    if MAX_MINUTE < m {
+    if MAX_MINUTE < c.minute {
         return false;
     }
-    s <= MAX_MINUTE
+    c.second <= MAX_MINUTE
 }
 
-fn is_day_end(h: u8, m: u8, s: u8, part: u32) -> bool
-    ensures { λ r. ⌜ r ≡ the.isDayEnd h m s part ⌝ }
+fn is_day_end(c: FoundClock) -> bool
+    ensures { λ r. ⌜ r ≡ the.isDayEnd c ⌝ }
 {
-    if h != DAY_END {
+    if c.hour != DAY_END {
         return false;
     }
-    if m != 0 {
+    if c.minute != 0 {
         return false;
     }
-    if s != 0 {
+    if c.second != 0 {
         return false;
     }
-    part == 0
+    c.part == 0
 }
 
-fn zone_ok(h: u8, m: u8) -> bool
-    ensures { λ r. ⌜ r ≡ the.okParts h m ⌝ }
+fn clock_good(c: FoundClock) -> bool
+    ensures { λ r. ⌜ r ≡ the.goodClock c ⌝ }
 {
-    if MAX_MINUTE < m {
+    if clock_ok(c) {
+        return true;
+    }
+    is_day_end(c)
+}
+
+fn offset_minutes(z: FoundZone) -> u16
+    ensures { λ r. ⌜ r ≡ the.offsetMinutes z ⌝ }
+{
+    z.hours as u16 * HOUR_MINUTES + z.minutes as u16
+}
+
+fn zone_ok(z: FoundZone) -> bool
+    ensures { λ r. ⌜ r ≡ the.okParts z ⌝ }
+{
+    if MAX_MINUTE < z.minutes {
         return false;
     }
-    h as u16 * HOUR_MINUTES + m as u16 <= DateTime::MAX_ZONE
+    offset_minutes(z) <= DateTime::MAX_ZONE
 }
 
 // The zone with a sign, 0 where there is none. West by no minutes is zone 0, which is east.
-fn zone_is(sign: u8, n: u16) -> Zone
-    ensures { λ r. ⌜ r ≡ the.zoneIs sign n ⌝ }
+fn zone_is(z: FoundZone) -> Zone
+    ensures { λ r. ⌜ r ≡ the.zoneIs z ⌝ }
 {
+    let sign = z.sign;
     if sign == 0 {
         return Zone::Absent;
     }
+    let n = offset_minutes(z);
     if sign == b'-' {
         if n == 0 {
             return Zone::At(Offset::East(0));
@@ -102,77 +124,61 @@ fn next_day(kind: Kind, d: Date, zone: Zone) -> Outcome
     requires { ⌜ okDate (d .year) (d .month) (d .day) ≡ true ⌝ }
     ensures { λ r. ⌜ meaning r ≡ the.nextDay kind d zone ⌝ }
 {
+    let midnight = Span {
+        seconds: 0,
+        part: 0,
+    };
     if value::kinds::has_date(kind) {
         let n = calendar::day_number(d);
         return match calendar::date_of(n + 1, DateTime::MAX_YEAR) {
-            Dated::On(e) => valued(
-                kind,
-                DateTime {
-                    year: e.year,
-                    month: e.month,
-                    day: e.day,
-                    micros: 0,
-                    zone,
-                },
-            ),
+            Dated::On(e) => valued(kind, value::clocks::at(e, midnight, zone)),
             Dated::Later => refused(Refusal::BEYOND_BOUNDS),
         };
     }
-    valued(
-        kind,
-        DateTime {
-            year: d.year,
-            month: d.month,
-            day: d.day,
-            micros: 0,
-            zone,
-        },
-    )
+    valued(kind, value::clocks::at(d, midnight, zone))
 }
 
-fn clock(kind: Kind, d: Date, t: Scan, zone: Zone) -> Outcome
-    requires { ⌜ okDate (d .year) (d .month) (d .day) ≡ true ⌝ }
-    ensures { λ r. ⌜ meaning r ≡ the.clocked kind d (t .hour) (t .minute) (t .second) (t .part) zone ⌝ }
+// What a good date, clock and zone read as.
+fn clock(kind: Kind, d: Date, c: FoundClock, zone: Zone) -> Outcome
+    requires { ⌜ (okDate (d .year) (d .month) (d .day) ≡ true) × (the.goodClock c ≡ true) × (c .part < secondTicks) ⌝ }
+    ensures { λ r. ⌜ meaning r ≡ the.clocked kind d c zone ⌝ }
 {
-    if clock_ok(t.hour, t.minute, t.second) {
-        let seconds = t.hour as u64 * Span::HOUR + t.minute as u64 * Span::MINUTE + t.second as u64;
-        return valued(
-            kind,
-            DateTime {
-                year: d.year,
-                month: d.month,
-                day: d.day,
-                micros: seconds * Span::TICKS as u64 + t.part as u64,
-                zone,
-            },
-        );
-    }
-    if is_day_end(t.hour, t.minute, t.second, t.part) {
+    if c.hour == DAY_END {
         return next_day(kind, d, zone);
     }
-    refused(Refusal::BAD_TEXT)
-}
-
-fn on_calendar(kind: Kind, t: Scan) -> Outcome
-    ensures { λ r. ⌜ meaning r ≡ the.onCalendar kind (record { year = t .year; month = t .month; day = t .day }) (t .hour) (t .minute) (t .second) (t .part) (t .sign) (t .zh) (t .zm) ⌝ }
-{
-    if !value::valid::date_ok(t.year, t.month, t.day) {
-        return refused(Refusal::BAD_TEXT);
-    }
-    if !zone_ok(t.zh, t.zm) {
-        return refused(Refusal::BAD_TEXT);
-    }
-    let zone = zone_is(t.sign, t.zh as u16 * HOUR_MINUTES + t.zm as u16);
-    let d = Date {
-        year: t.year,
-        month: t.month,
-        day: t.day,
+    let t = Span {
+        seconds: c.hour as u64 * Span::HOUR + c.minute as u64 * Span::MINUTE + c.second as u64,
+        part: c.part,
     };
-    clock(kind, d, t, zone)
+    valued(kind, value::clocks::at(d, t, zone))
 }
 
-// What the parts of a text of n bytes read as.
+// Month and day first, then hour, minute and second, then the zone.
+fn on_calendar(kind: Kind, d: FoundDate, c: FoundClock, z: FoundZone) -> Outcome
+    requires { ⌜ c .part < secondTicks ⌝ }
+    ensures { λ r. ⌜ meaning r ≡ the.onCalendar kind d c z ⌝ }
+{
+    if !value::valid::date_ok(d.year, d.month, d.day) {
+        return refused(Refusal::BAD_TEXT);
+    }
+    if !clock_good(c) {
+        return refused(Refusal::BAD_TEXT);
+    }
+    if !zone_ok(z) {
+        return refused(Refusal::BAD_TEXT);
+    }
+    let zone = zone_is(z);
+    let day = Date {
+        year: d.year,
+        month: d.month,
+        day: d.day,
+    };
+    clock(kind, day, c, zone)
+}
+
+// What the parts of a text of n bytes read as. A part of a second is less than a second, as it is in every text.
 pub fn judged(kind: Kind, n: usize, t: Scan) -> Outcome
+    requires { ⌜ t .clock .part < secondTicks ⌝ }
     ensures { λ r. ⌜ meaning r ≡ the.judge kind n t ⌝ }
 {
     if !t.good {
@@ -181,14 +187,17 @@ pub fn judged(kind: Kind, n: usize, t: Scan) -> Outcome
     if t.at != n {
         return refused(Refusal::BAD_TEXT);
     }
-    if t.long {
+    if t.clock.long {
         return refused(Refusal::LONG_FRACTION);
     }
-    if t.negative {
+    if t.date.negative {
         return refused(Refusal::BEYOND_BOUNDS);
     }
-    if DateTime::MAX_YEAR < t.year {
+    if DateTime::MAX_YEAR < t.date.year {
         return refused(Refusal::BEYOND_BOUNDS);
     }
-    on_calendar(kind, t)
+    let d = t.date;
+    let c = t.clock;
+    let z = t.zone;
+    on_calendar(kind, d, c, z)
 }

@@ -2,16 +2,19 @@
 -- and where reading stops.
 use mathlib.Core.Path.{_≡_, refl}
 use mathlib.Core.Bool.{true, false}
-use Prim.Native.Nat.{ℕ}
+use Prim.Native.Nat.{ℕ, _+_, _*_, _/_}
 use Prim.Native.String.{String}
 use Rattle.basis.specs.Choice.{both}
 use Rattle.basis.specs.Letters.{bytes}
 use Rattle.basis.specs.Answer.{gives, refuses}
+use Rattle.value.specs.Bounds.{secondTicks, dayTicks, maxDayTime}
+use Rattle.value.specs.Clocks.{ticksIn, durationOf}
 use Rattle.value.specs.declared.Value.the-variants as VV
 use Rattle.numerals.specs.Reading.{isDigit, number, fractionAt}
 use Rattle.numerals.specs.Writing.{digits, shortest, decimal, keptDigits, fractionText}
-use Rattle.text_durations.specs.Forms.{weight, dayTime, yearMonth}
-use Rattle.text_durations.specs.Walks.{component, components, shapeFrom, shape, counted, readBy, readDayTime, readYearMonth}
+use Rattle.text_durations.specs.declared.Amount.{Amount}
+use Rattle.text_durations.specs.Forms.{Form, weight, dayTime, yearMonth}
+use Rattle.text_durations.specs.Walks.{component, components, shapeFrom, shape, counted, readBy, readDayTime}
 use Rattle.text_durations.specs.Carried.{shapeEnd}
 use Rattle.text_durations.specs.Spelling.{shown, shownAll, left, body, durationText, dayTimeText, yearMonthText}
 
@@ -25,12 +28,12 @@ unfolding durationText
 writes-no-months = refl
 
 -- a fraction: of six digits it reads, of seven it is 3, also where the total is beyond the bound; of none it has no shape
-pub reads-fraction : readDayTime (bytes "-P1DT0.000001S") ≡ gives (VV.DayTime (record { negative = true; micros = 86_400_000_001 }))
+pub reads-fraction : readDayTime (bytes "-P1DT0.000001S") ≡ gives (VV.DayTime (durationOf true (dayTicks + 1)))
 unfolding isDigit number fractionAt both weight component components shapeFrom shape counted readBy
 reads-fraction = refl
 
-pub writes-fraction : dayTimeText (record { negative = true; micros = 86_400_500_000 }) ≡ bytes "-P1DT0.5S"
-unfolding digits shortest decimal keptDigits fractionText both weight shown shownAll left body durationText
+pub writes-fraction : dayTimeText (durationOf true (dayTicks + secondTicks / 2)) ≡ bytes "-P1DT0.5S"
+unfolding ticksIn digits shortest decimal keptDigits fractionText both weight shown shownAll left body durationText
 writes-fraction = refl
 
 pub seven-digits : readDayTime (bytes "PT99999999999999999999.0000000S") ≡ refuses 3
@@ -41,8 +44,8 @@ pub no-fraction-digit : readDayTime (bytes "PT1.S") ≡ refuses 1
 unfolding isDigit number fractionAt both weight component components shapeFrom shape counted readBy
 no-fraction-digit = refl
 
--- 10^18 microseconds and one more, and a component of many digits
-pub most-seconds : readDayTime (bytes "PT1000000000000S") ≡ gives (VV.DayTime (record { negative = false; micros = 1_000_000_000_000_000_000 }))
+-- 10^12 seconds and a tick more, and a component of many digits
+pub most-seconds : readDayTime (bytes "PT1000000000000S") ≡ gives (VV.DayTime (durationOf false maxDayTime))
 unfolding isDigit number fractionAt both weight component components shapeFrom shape counted readBy
 most-seconds = refl
 
@@ -50,9 +53,24 @@ pub one-tick-more : readDayTime (bytes "-PT1000000000000.000001S") ≡ refuses 2
 unfolding isDigit number fractionAt both weight component components shapeFrom shape counted readBy
 one-tick-more = refl
 
-pub many-digits : readDayTime (bytes "P00000000000000000000000000000000001D") ≡ gives (VV.DayTime (record { negative = false; micros = 86_400_000_000 }))
+pub many-digits : readDayTime (bytes "P00000000000000000000000000000000001D") ≡ gives (VV.DayTime (durationOf false dayTicks))
 unfolding isDigit number fractionAt both weight component components shapeFrom shape counted readBy
 many-digits = refl
+
+-- months and seconds are counted apart, in a form that has both
+abbrev bothSums : Form
+bothSums = record { before = bytes "YMD"; after = bytes "HMS"; nothing = bytes "PT0S" }
+
+abbrev someOfBoth : Amount
+someOfBoth = record { negative = true; sums = record { months = 14; seconds = 273_906 }; ticks = 7 * secondTicks / 10 }
+
+pub reads-both : readBy bothSums (bytes "-P1Y2M3DT4H5M6.7S") ≡ gives someOfBoth
+unfolding isDigit number fractionAt both weight component components shapeFrom shape counted readBy
+reads-both = refl
+
+pub writes-both : durationText bothSums someOfBoth ≡ bytes "-P1Y2M3DT4H5M6.7S"
+unfolding digits shortest decimal keptDigits fractionText both weight shown shownAll left body durationText
+writes-both = refl
 
 -- where reading stops: at the first byte that no good text could have there, or at the end of a text that stops short
 abbrev stops : String → ℕ

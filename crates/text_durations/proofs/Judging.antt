@@ -1,63 +1,97 @@
 -- The checks of a shape, one law for each way out, and what a shape that passes them counts.
 use mathlib.Core.Path.{_≡_, refl, ap, sym, _∙_}
-use mathlib.Core.Bool.{true, false}
+use mathlib.Core.Bool.{Bool, true, false}
 use Prim.Native.Nat.{ℕ, _+_, _*_, _≤_, _<_}
-use lib.Dec.{leb}
-use borrow.Author.Tests.{le-leb, lt-leb, eq-eqb, ne-eqb}
-use Rattle.basis.specs.Choice.{pick}
-use Rattle.basis.specs.Answer.{Answer, gives, refuses}
+use native.Mathlib.Omega.{arith}
+use lib.Dec.{eqb, leb}
+use borrow.Author.Tests.{le-leb, lt-leb, eqb-true, eqb-false}
+use Rattle.basis.specs.Choice.{pick, both}
+use Rattle.basis.specs.Answer.{Answer, gives, refusesFor, refuses}
+use Rattle.value.specs.Bounds.{secondTicks, maxDayTimeSeconds, maxDayTime, maxYearMonth}
+use Rattle.value.specs.Reasons.{refusalOf}
+use Rattle.value.proofs.Answers.{refusal-back}
 use Rattle.value.specs.Refusals.{badText, beyondBounds, longFraction}
+use Rattle.text_durations.specs.declared.Sums.{Sums}
 use Rattle.text_durations.specs.declared.Shape.{Shape}
 use Rattle.text_durations.specs.declared.Amount.{Amount}
 use Rattle.text_durations.specs.declared.Count.{Count}
 use Rattle.text_durations.specs.declared.Count.the-variants as NV
-use Rattle.text_durations.specs.Walks.{counted, signedAmount}
+use Rattle.text_durations.specs.Forms.{isNothing}
+use Rattle.text_durations.specs.Walks.{withinBounds, counted, signedAmount}
 use Rattle.text_durations.specs.Carried.{countMeaning}
 
-module _ (unit most : ℕ) (t : Shape) where
+-- each part against its bound
+module _ (a : Sums) (ticks : ℕ) where
+  pub more-months : maxYearMonth < a .months → false ≡ withinBounds a ticks
+  unfolding both
+  more-months h = sym (λ i. both (lt-leb (a .months) maxYearMonth h i) (leb (a .seconds * secondTicks + ticks) maxDayTime))
+
+  pub more-seconds : maxDayTimeSeconds < a .seconds → false ≡ withinBounds a ticks
+  unfolding both
+  more-seconds h = sym ((λ i. both (leb (a .months) maxYearMonth) (lt-leb (a .seconds * secondTicks + ticks) maxDayTime (omega arith) i)) ∙ go (leb (a .months) maxYearMonth))
+    where
+      go : (b : Bool) → both b false ≡ false
+      go true = refl
+      go false = refl
+
+  pub fewer-seconds : ticks < secondTicks → a .months ≤ maxYearMonth → a .seconds < maxDayTimeSeconds → true ≡ withinBounds a ticks
+  unfolding both
+  fewer-seconds k h l = sym (λ i. both (le-leb (a .months) maxYearMonth h i) (le-leb (a .seconds * secondTicks + ticks) maxDayTime (omega arith) i))
+
+  pub just-seconds : a .months ≤ maxYearMonth → maxDayTimeSeconds ≤ a .seconds → a .seconds ≤ maxDayTimeSeconds → eqb ticks 0 ≡ withinBounds a ticks
+  unfolding both
+  just-seconds h l m = go (eqb ticks 0) refl ∙ sym (λ i. both (le-leb (a .months) maxYearMonth h i) (leb (a .seconds * secondTicks + ticks) maxDayTime))
+    where
+      go : (b : Bool) → eqb ticks 0 ≡ b → eqb ticks 0 ≡ leb (a .seconds * secondTicks + ticks) maxDayTime
+      go true e = let z : ticks ≡ 0 = eqb-true ticks 0 e in e ∙ sym (le-leb (a .seconds * secondTicks + ticks) maxDayTime (omega arith))
+      go false e = let z : (ticks ≡ 0 → ⊥) = eqb-false ticks 0 e in e ∙ sym (lt-leb (a .seconds * secondTicks + ticks) maxDayTime (omega arith))
+
+-- the checks in their order
+module _ (t : Shape) where
   -- the second and third check, and the third
-  abbrev third : Answer Amount
-  third = pick (leb (t .sum * unit + t .ticks) most) (gives (signedAmount (t .negative) (t .sum * unit + t .ticks))) (refuses beyondBounds)
+  abbrev third : Bool → Answer Amount
+  third b = pick b (gives (signedAmount (t .negative) (t .sums) (t .ticks))) (refuses beyondBounds)
 
   abbrev second : Answer Amount
-  second = pick (t .long) (refuses longFraction) third
+  second = pick (t .long) (refuses longFraction) (third (withinBounds (t .sums) (t .ticks)))
 
-  pub no-shape : t .good ≡ false → refuses badText ≡ counted unit most t
+  pub no-shape : t .good ≡ false → refuses badText ≡ counted t
   unfolding counted
   no-shape e = sym (λ i. pick (e i) second (refuses badText))
 
   module _ (g : t .good ≡ true) where
-    shaped : second ≡ counted unit most t
+    shaped : second ≡ counted t
     unfolding counted
     shaped = sym (λ i. pick (g i) second (refuses badText))
 
-    pub too-long : t .long ≡ true → refuses longFraction ≡ counted unit most t
-    too-long e = sym (λ i. pick (e i) (refuses longFraction) third) ∙ shaped
+    pub too-long : t .long ≡ true → refuses longFraction ≡ counted t
+    too-long e = sym (λ i. pick (e i) (refuses longFraction) (third (withinBounds (t .sums) (t .ticks)))) ∙ shaped
 
     module _ (l : t .long ≡ false) where
-      short : third ≡ counted unit most t
-      short = sym (λ i. pick (l i) (refuses longFraction) third) ∙ shaped
+      short : third (withinBounds (t .sums) (t .ticks)) ≡ counted t
+      short = sym (λ i. pick (l i) (refuses longFraction) (third (withinBounds (t .sums) (t .ticks)))) ∙ shaped
 
-      pub too-great : most < t .sum * unit + t .ticks → refuses beyondBounds ≡ counted unit most t
-      too-great h = sym (λ i. pick (lt-leb (t .sum * unit + t .ticks) most h i) (gives (signedAmount (t .negative) (t .sum * unit + t .ticks))) (refuses beyondBounds)) ∙ short
+      pub too-great : withinBounds (t .sums) (t .ticks) ≡ false → refuses beyondBounds ≡ counted t
+      too-great h = sym (λ i. third (h i)) ∙ short
 
-      pub is-within : t .sum * unit + t .ticks ≤ most → gives (signedAmount (t .negative) (t .sum * unit + t .ticks)) ≡ counted unit most t
-      is-within h = sym (λ i. pick (le-leb (t .sum * unit + t .ticks) most h i) (gives (signedAmount (t .negative) (t .sum * unit + t .ticks))) (refuses beyondBounds)) ∙ short
+      module _ (h : withinBounds (t .sums) (t .ticks) ≡ true) where
+        pub is-within : gives (signedAmount (t .negative) (t .sums) (t .ticks)) ≡ counted t
+        is-within = sym (λ i. third (h i)) ∙ short
 
-      pub is-zero : t .sum * unit + t .ticks ≤ most → t .sum * unit + t .ticks ≡ 0 → gives (record { negative = false; number = t .sum * unit + t .ticks }) ≡ counted unit most t
-      is-zero h z = sym (λ i. gives (record { negative = pick (eq-eqb (t .sum * unit + t .ticks) 0 z i) false (t .negative); number = t .sum * unit + t .ticks })) ∙ is-within h
+        pub is-zero : isNothing (t .sums) (t .ticks) ≡ true → gives (record { negative = false; sums = t .sums; ticks = t .ticks }) ≡ counted t
+        is-zero z = sym (λ i. gives (record { negative = pick (z i) false (t .negative); sums = t .sums; ticks = t .ticks })) ∙ is-within
 
-      pub is-some : t .sum * unit + t .ticks ≤ most → (t .sum * unit + t .ticks ≡ 0 → ⊥) → gives (record { negative = t .negative; number = t .sum * unit + t .ticks }) ≡ counted unit most t
-      is-some h z = sym (λ i. gives (record { negative = pick (ne-eqb (t .sum * unit + t .ticks) 0 z i) false (t .negative); number = t .sum * unit + t .ticks })) ∙ is-within h
+        pub is-some : isNothing (t .sums) (t .ticks) ≡ false → gives (record { negative = t .negative; sums = t .sums; ticks = t .ticks }) ≡ counted t
+        is-some z = sym (λ i. gives (record { negative = pick (z i) false (t .negative); sums = t .sums; ticks = t .ticks })) ∙ is-within
 
 -- a count is its meaning
 abbrev countOf : Answer Amount → Count
 countOf (gives a) = NV.Of a
-countOf (refuses n) = NV.Refused (record { number = n })
+countOf (refusesFor r) = NV.Refused (refusalOf r)
 
 count-back : (c : Count) → countOf (countMeaning c) ≡ c
 count-back (NV.Of a) = refl
-count-back (NV.Refused r) = refl
+count-back (NV.Refused r) = ap NV.Refused (refusal-back r)
 
 pub count-determined : (a b : Count) → countMeaning a ≡ countMeaning b → a ≡ b
 count-determined a b e = cc (ap countOf e, count-back a, count-back b)

@@ -3,7 +3,7 @@
 use mathlib.Core.Path.{_≡_, refl, sym, subst}
 use mathlib.Core.Bool.{Bool, true, false}
 use mathlib.Core.List.{List, [], _∷_}
-use Prim.Native.Nat.{ℕ, _+_, _*_}
+use Prim.Native.Nat.{ℕ, _+_}
 use lib.Dec.{eqb, ltb}
 use lib.ListN.{length}
 use borrow.Author.Tests.{eqb-true}
@@ -14,9 +14,10 @@ use Rattle.numerals.specs.declared.Fraction.{Fraction}
 use Rattle.numerals.specs.Reading.{isDigit, Number, numeralAt, at, fractionAt}
 use Rattle.numerals.proofs.Passed.{Passed, passed-none, passed-mark, passed-digits}
 use Rattle.numerals.proofs.Fractions.{fraction-end}
+use Rattle.text_durations.specs.declared.Sums.{Sums}
 use Rattle.text_durations.specs.declared.Walk.{Walk}
-use Rattle.text_durations.specs.Forms.{weight, seconds, point, minusSign, startMark, timeMark}
-use Rattle.text_durations.specs.Walks.{component, components, pointed, tried, takenWith, walkTaken, walkFrom, onward, ended, timed, shapeFrom, shape}
+use Rattle.text_durations.specs.Forms.{seconds, point, minusSign, startMark, timeMark}
+use Rattle.text_durations.specs.Walks.{noSums, counting, component, components, pointed, tried, takenWith, walkTaken, walkFrom, onward, ended, timed, shapeFrom, shape}
 
 -- the bytes that stand in the text of a duration
 abbrev pub durationByte : ℕ → Bool
@@ -30,7 +31,7 @@ module _ (s : List ℕ) where
   To i = Passed durationByte s i
 
   -- after a point: digits, and the component's letter
-  pointed-passed : (c : ℕ) (t : Walk) (n i : ℕ) → durationByte c ≡ true → To (t .at) → To i → To (pointed s c t n i (fractionAt s i) .at)
+  pointed-passed : (c : ℕ) (t : Walk) (n : Sums) (i : ℕ) → durationByte c ≡ true → To (t .at) → To i → To (pointed s c t n i (fractionAt s i) .at)
   pointed-passed c t n i ok a b = go (eqb (f .end) i) (eqb (at s (f .end)) c) refl
     where
       f : Fraction
@@ -56,12 +57,12 @@ module _ (s : List ℕ) where
       digits = passed-digits durationByte s digit-ok (t .at) a
 
       go : (x y z : Bool) → eqb (at s (t .at + n .count)) c ≡ y → both (eqb c seconds) (eqb (at s (t .at + n .count)) point) ≡ z
-          → To (pick x t (pick y (walkTaken t (t .sum + n .value * weight time c) (t .at + n .count + 1))
-          (pick z (pointed s c t (t .sum + n .value * weight time c) (t .at + n .count + 1) (fractionAt s (t .at + n .count + 1))) (tried t (t .at + n .count)))) .at)
+          → To (pick x t (pick y (walkTaken t (counting time c (n .value) (t .sums)) (t .at + n .count + 1))
+          (pick z (pointed s c t (counting time c (n .value) (t .sums)) (t .at + n .count + 1) (fractionAt s (t .at + n .count + 1))) (tried t (t .at + n .count)))) .at)
       go true y z e f = a
       go false true z e f = passed-mark durationByte s (t .at + n .count) c e ok digits
       go false false true e f =
-          pointed-passed c t (t .sum + n .value * weight time c) (t .at + n .count + 1) ok a
+          pointed-passed c t (counting time c (n .value) (t .sums)) (t .at + n .count + 1) ok a
           (passed-mark durationByte s (t .at + n .count) point (both-right (eqb c seconds) (eqb (at s (t .at + n .count)) point) f) refl digits)
       go false false false e f = a
 
@@ -97,7 +98,7 @@ module _ (s : List ℕ) where
     from-passed negative i a = go (eqb (at s i) startMark) refl
       where
         go : (x : Bool) → eqb (at s i) startMark ≡ x
-            → pick x (timed after s negative (i + 1) (components s false before (walkFrom (i + 1)))) (record { negative = negative; sum = 0; ticks = 0; long = false; good = false; offset = i }) .good ≡ true
+            → pick x (timed after s negative (i + 1) (components s false before (walkFrom (i + 1)))) (record { negative = negative; sums = noSums; ticks = 0; long = false; good = false; offset = i }) .good ≡ true
             → To (length s)
         go true e =
             timed-passed negative (i + 1) (components s false before (walkFrom (i + 1)))

@@ -7,14 +7,15 @@ use native.Mathlib.Nat.{div-add-mod'}
 use native.Mathlib.Omega.{arith}
 use lib.Dec.{eqb}
 use lib.ListN.{length, getD, drop, length-append}
-use borrow.Author.Tests.{ne-eqb, eqb-true, eqb-false}
+use borrow.Author.Tests.{ne-eqb, eqb-true}
 use Rattle.basis.specs.Choice.{pick}
 use Rattle.numerals.specs.Reading.{isDigit, at, fractionDigits}
 use Rattle.numerals.proofs.Positions.{beyond}
+use Rattle.text_durations.specs.declared.Sums.{Sums}
 use Rattle.text_durations.specs.declared.Walk.{Walk}
-use Rattle.text_durations.specs.Forms.{weight, seconds}
-use Rattle.text_durations.specs.Walks.{component, components}
-use Rattle.text_durations.specs.Spelling.{fractionIn, shown, shownAll, left}
+use Rattle.text_durations.specs.Forms.{weight, countsMonths, seconds}
+use Rattle.text_durations.specs.Walks.{moreOf, component, components}
+use Rattle.text_durations.specs.Spelling.{fractionIn, shown, oneSum, remainderOf, shareOf, restOf, shownAll, left}
 use Rattle.text_durations.proofs.Written.{shown-length}
 use Rattle.text_durations.proofs.Back.{shown-back, quiet-other, other-all, Apart, last, more}
 
@@ -23,12 +24,54 @@ unfoldable pub carried : List ℕ → ℕ → ℕ
 carried [] u = 0
 carried (c ∷ cs) u = pick (eqb c seconds) u (carried cs u)
 
--- r is t with n counted but for what is left of it
-pub record All (t r : Walk) (n rest u on : ℕ) : Type 0 where
-  pub sum : r .sum + rest ≡ t .sum + n
+-- sums are their months and their seconds
+pub same-sums : {a b : Sums} → a .months ≡ b .months → a .seconds ≡ b .seconds → a ≡ b
+same-sums e f = λ i. record { months = e i; seconds = f i }
+
+-- x and y come to the same as v and w
+pub record Same (x y v w : Sums) : Type 0 where
+  pub months : x .months + y .months ≡ v .months + w .months
+  pub seconds : x .seconds + y .seconds ≡ v .seconds + w .seconds
+
+-- r is t with a counted but for what is left of it
+pub record All (t r : Walk) (a rest : Sums) (u on : ℕ) : Type 0 where
+  pub sums : Same (r .sums) rest (t .sums) a
   pub ticks : r .ticks ≡ u
   pub long : r .long ≡ false
   pub offset : r .at ≡ t .at + on
+
+-- what a component takes of a sum and what it leaves are that sum
+share-back : (months : Bool) (w : ℕ) (x y v a : Sums) → Same x y (moreOf months (oneSum months a / w * w) v) (remainderOf months w a) → Same x y v a
+share-back true w x y v a h = record { months = omega (arith, h .months, div-add-mod' (a .months) w); seconds = h .seconds }
+share-back false w x y v a h = record { months = h .months; seconds = omega (arith, h .seconds, div-add-mod' (a .seconds) w) }
+
+-- what was counted first, with what was counted after it
+so-counted : {x y v w : Sums} (a : Sums) → v ≡ w → Same x y v a → Same x y w a
+so-counted {x} {y} {v} {w} a e h =
+    record {
+      months = h .months ∙ ap (λ (q : Sums). q .months + a .months) e;
+      seconds = h .seconds ∙ ap (λ (q : Sums). q .seconds + a .seconds) e;
+    }
+
+counted-so : {v w : Sums} (a : Sums) → v ≡ w → Same v a w a
+counted-so a e = so-counted a e (record { months = refl; seconds = refl })
+
+-- where it takes nothing, it leaves all
+none-taken : (months : Bool) (w : ℕ) (a : Sums) → oneSum months a / w ≡ 0 → remainderOf months w a ≡ a
+none-taken true w a e = λ i. record { months = rest i; seconds = a .seconds }
+  where
+    rest : a .months % w ≡ a .months
+    rest =
+        let d : a .months / w * w + a .months % w ≡ a .months = div-add-mod' (a .months) w in
+        let g : 0 * w + a .months % w ≡ a .months = rw e at d in
+        omega arith
+none-taken false w a e = λ i. record { months = a .months; seconds = rest i }
+  where
+    rest : a .seconds % w ≡ a .seconds
+    rest =
+        let d : a .seconds / w * w + a .seconds % w ≡ a .seconds = div-add-mod' (a .seconds) w in
+        let g : 0 * w + a .seconds % w ≡ a .seconds = rw e at d in
+        omega arith
 
 no-letters : (u : ℕ) → carried [] u ≡ 0
 unfolding carried
@@ -42,64 +85,57 @@ no-fraction-in : (c u : ℕ) (cs : List ℕ) → (c ≡ seconds → ⊥) → (fr
 unfolding carried
 no-fraction-in c u cs e = (rw (ne-eqb c seconds e), rw (ne-eqb c seconds e))
 
-pub all-back : (s : List ℕ) (time : Bool) (cs : List ℕ) (t : Walk) (n u : ℕ) (rest : List ℕ) → Apart cs → t .ticks ≡ 0 → t .long ≡ false → u < 10 ^ fractionDigits
-    → isDigit (getD rest 0 0) ≡ false → drop (t .at) s ≡ shownAll time cs n u ++ rest → All t (components s time cs t) n (left time cs n) (carried cs u) (length (shownAll time cs n u))
+pub all-back : (s : List ℕ) (time : Bool) (cs : List ℕ) (t : Walk) (a : Sums) (u : ℕ) (rest : List ℕ) → Apart cs → t .ticks ≡ 0 → t .long ≡ false → u < 10 ^ fractionDigits
+    → isDigit (getD rest 0 0) ≡ false → drop (t .at) s ≡ shownAll time cs a u ++ rest → All t (components s time cs t) a (left time cs a) (carried cs u) (length (shownAll time cs a u))
 unfolding components shownAll left
-all-back s time [] t n u rest a z l h q e =
-    record { sum = refl; ticks = z ∙ sym (no-letters u); long = l; offset = omega arith }
-all-back s time (c ∷ []) t n u rest (last d) z l h q e =
-    let w : ℕ = weight time c in
-    let x : List ℕ = shown c (n / w) u in
+all-back s time [] t a u rest p z l h q e =
+    record { sums = record { months = refl; seconds = refl }; ticks = z ∙ sym (no-letters u); long = l; offset = omega arith }
+all-back s time (c ∷ []) t a u rest (last d) z l h q e =
+    let x : List ℕ = shown c (shareOf time c a) u in
     let f : drop (t .at) s ≡ x ++ rest = e ∙ ap (λ (v : List ℕ). v ++ rest) (append-nil x) in
-    let b = shown-back s time c t z l (n / w) u rest h d (quiet-other c rest q) f in
+    let b = shown-back s time c t z l (shareOf time c a) u rest h d (quiet-other c rest q) f in
     record {
-      sum = omega (arith, b .sum, div-add-mod' n w);
+      sums = share-back (countsMonths time c) (weight time c) (component s time c t .sums) (restOf time c a) (t .sums) a (counted-so (restOf time c a) (b .sums));
       ticks = b .ticks ∙ one-letter c u;
       long = b .long;
       offset = omega (arith, b .offset, length-append x []);
     }
-all-back s time (c ∷ cs) t n u rest (more d ns np w a) z l h q e =
-    let v : ℕ = weight time c in
-    let x : List ℕ = shown c (n / v) u in
-    let y : List ℕ = shownAll time cs (n % v) u in
+all-back s time (c ∷ cs) t a u rest (more d ns np w p) z l h q e =
+    let x : List ℕ = shown c (shareOf time c a) u in
+    let y : List ℕ = shownAll time cs (restOf time c a) u in
     let f : drop (t .at) s ≡ x ++ (y ++ rest) = e ∙ append-assoc x y rest in
-    let b = shown-back s time c t z l (n / v) u (y ++ rest) h d (other-all time c cs (n % v) u rest np ns q w) f in
+    let b = shown-back s time c t z l (shareOf time c a) u (y ++ rest) h d (other-all time c cs (restOf time c a) u rest np ns q w) f in
     let i : t .at + length x ≡ component s time c t .at = sym (b .offset) in
     let g : drop (component s time c t .at) s ≡ y ++ rest = ap (λ (k : ℕ). drop k s) (sym i) ∙ beyond s (t .at) x (y ++ rest) f in
     let k = no-fraction-in c u cs ns in
-    let r = all-back s time cs (component s time c t) (n % v) u rest a (b .ticks ∙ k .0) (b .long) h q g in
+    let r = all-back s time cs (component s time c t) (restOf time c a) u rest p (b .ticks ∙ k .0) (b .long) h q g in
     record {
-      sum = omega (arith, r .sum, b .sum, div-add-mod' n v);
+      sums = share-back (countsMonths time c) (weight time c) (components s time cs (component s time c t) .sums) (left time cs (restOf time c a)) (t .sums) a (so-counted (restOf time c a) (b .sums) (r .sums));
       ticks = r .ticks ∙ sym (k .1);
       long = r .long;
       offset = omega (arith, r .offset, b .offset, length-append x y);
     }
 
 -- where nothing is written, nothing was to be counted
-pub none-shown : (time : Bool) (cs : List ℕ) (n u : ℕ) → length (shownAll time cs n u) ≡ 0 → (left time cs n ≡ n) × (carried cs u ≡ 0)
+pub none-shown : (time : Bool) (cs : List ℕ) (a : Sums) (u : ℕ) → length (shownAll time cs a u) ≡ 0 → (left time cs a ≡ a) × (carried cs u ≡ 0)
 unfolding shownAll left carried
-none-shown time [] n u e = (refl, refl)
-none-shown time (c ∷ cs) n u e = go (eqb (m + fractionIn c u) 0) refl (none-shown time cs (n % weight time c) u (omega (arith, both-lengths)))
+none-shown time [] a u e = (refl, refl)
+none-shown time (c ∷ cs) a u e = go (eqb (shareOf time c a + fractionIn c u) 0) refl (none-shown time cs (restOf time c a) u (omega (arith, both-lengths)))
   where
-    m : ℕ
-    m = n / weight time c
+    both-lengths : length (shown c (shareOf time c a) u) + length (shownAll time cs (restOf time c a) u) ≡ 0
+    both-lengths = sym (length-append (shown c (shareOf time c a) u) (shownAll time cs (restOf time c a) u)) ∙ e
 
-    both-lengths : length (shown c (n / weight time c) u) + length (shownAll time cs (n % weight time c) u) ≡ 0
-    both-lengths = sym (length-append (shown c (n / weight time c) u) (shownAll time cs (n % weight time c) u)) ∙ e
-
-    go : (b : Bool) → eqb (n / weight time c + fractionIn c u) 0 ≡ b → (left time cs (n % weight time c) ≡ n % weight time c) × (carried cs u ≡ 0)
-        → (left time cs (n % weight time c) ≡ n) × (pick (eqb c seconds) u (carried cs u) ≡ 0)
+    go : (b : Bool) → eqb (shareOf time c a + fractionIn c u) 0 ≡ b → (left time cs (restOf time c a) ≡ restOf time c a) × (carried cs u ≡ 0)
+        → (left time cs (restOf time c a) ≡ a) × (pick (eqb c seconds) u (carried cs u) ≡ 0)
     go true p r =
-        let z : n / weight time c + fractionIn c u ≡ 0 = eqb-true _ _ p in
-        let k : n / weight time c ≡ 0 = omega arith in
-        let d : n / weight time c * weight time c + n % weight time c ≡ n = div-add-mod' n (weight time c) in
-        let g : 0 * weight time c + n % weight time c ≡ n = rw k at d in
-        (omega (arith, r .0), by (eqb c seconds) refl (omega arith))
+        let z : shareOf time c a + fractionIn c u ≡ 0 = eqb-true _ _ p in
+        let k : shareOf time c a ≡ 0 = omega arith in
+        (r .0 ∙ none-taken (countsMonths time c) (weight time c) a k, by (eqb c seconds) refl (omega arith))
       where
         by : (x : Bool) → eqb c seconds ≡ x → pick x u 0 ≡ 0 → pick x u (carried cs u) ≡ 0
         by true q v = v
         by false q v = r .1
-    go false p r = absurd (no (omega (arith, both-lengths, shown-length c (n / weight time c) u refl (eqb-false _ _ p))))
+    go false p r = absurd (no (omega (arith, both-lengths, shown-length c (shareOf time c a) u refl p)))
       where
         no : _≡_ {A = ℕ} 0 1 → ⊥
         no q = omega arith

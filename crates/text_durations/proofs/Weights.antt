@@ -1,21 +1,17 @@
 -- What one of a component counts: at least one, and a day counts most. A tick is the last digit of a fraction.
 use mathlib.Core.Path.{_≡_, refl}
 use mathlib.Core.Bool.{Bool, true, false}
-use Prim.Native.Nat.{ℕ, _+_, _*_, _/_, _^_, _≤_, _<_}
+use Prim.Native.Nat.{ℕ, _*_, _/_, _^_, _≤_}
+use native.Mathlib.Nat.{mul-le-mul}
 use native.Mathlib.Omega.{arith}
 use lib.Dec.{eqb}
 use Rattle.basis.specs.Choice.{both}
 use Rattle.value.specs.Bounds.{secondTicks, dayTicks}
 use Rattle.numerals.specs.Reading.{fractionDigits}
 use Rattle.text_durations.specs.Forms.{weight, years, days, hours, minutes}
-use Rattle.text_durations.specs.Carried.{Roomy}
 
 pub fraction-of-second : 10 ^ fractionDigits ≡ secondTicks
 fraction-of-second = refl
-
-pub day-weight : weight false days ≡ dayTicks / secondTicks
-unfolding weight
-day-weight = refl
 
 -- between one and a day
 abbrev Between : ℕ → Type 0
@@ -32,10 +28,9 @@ weight-between time c = go (eqb c years) (eqb c days) (eqb c hours) (both time (
     go false false false true p q r x = rw (p, q, r, x) (omega arith, omega arith)
     go false false false false p q r x = rw (p, q, r, x) (omega arith, omega arith)
 
--- a cap with room for a day more has room for a digit more
-pub roomy-digit : (cap : ℕ) → Roomy cap → cap * 10 + 9 < 2 ^ 64
-unfolding weight
-roomy-digit cap h = omega arith
-
 pub weight-some : {w : ℕ} (time : Bool) (c : ℕ) → w ≡ weight time c → 1 ≤ w
 weight-some time c e = rw e (weight-between time c .0)
+
+-- a number of a component counts no more than so many days
+pub weighed : (time : Bool) (c cap n : ℕ) {w : ℕ} → w ≡ weight time c → n ≤ cap → n * w ≤ cap * (dayTicks / secondTicks)
+weighed time c cap n e h = rw e (mul-le-mul h (weight-between time c .1))

@@ -1,14 +1,15 @@
 -- Document 01, "Reading text" and "Writing text": the components of a duration's text. "dayTimeDuration has D, H, M, S;
 -- yearMonthDuration Y, M."
-use mathlib.Core.Bool.{Bool}
+use mathlib.Core.Bool.{Bool, true, false}
 use mathlib.Core.List.{List, []}
-use Prim.Native.Nat.{ℕ, _/_}
+use Prim.Native.Nat.{ℕ, _+_, _/_}
 use Prim.Native.Char.{code}
 use lib.Dec.{eqb}
 use Rattle.basis.specs.Choice.{pick, both}
 use Rattle.basis.specs.Letters.{bytes}
 use Rattle.calendar.specs.Calendar.{monthCount}
-use Rattle.value.specs.Bounds.{maxDayTime, maxYearMonth, secondTicks, minuteTicks, hourTicks, dayTicks}
+use Rattle.value.specs.Bounds.{secondTicks, minuteTicks, hourTicks, dayTicks}
+use Rattle.text_durations.specs.declared.Sums.{Sums}
 
 -- The bytes that stand in a duration's text: Y, D, H, M, S of the components (M is minutes after T, and months before it,
 -- which count for themselves), and the punctuation.
@@ -46,17 +47,22 @@ weight time c =
     (pick (eqb c days) (dayTicks / secondTicks)
     (pick (eqb c hours) (hourTicks / secondTicks) (pick (both time (eqb c minutes)) (minuteTicks / secondTicks) 1)))
 
--- The form of a kind's text: its components before T and after it, in order; into how many parts a month or a second is
--- divided; the bound, in those parts; and the text of zero.
+-- whether a component counts months: Y, and M before T. The others count seconds.
+abbrev pub countsMonths : Bool → ℕ → Bool
+countsMonths time c = pick (eqb c years) true (pick time false (eqb c minutes))
+
+-- no months, no seconds and no part of a second
+abbrev pub isNothing : Sums → ℕ → Bool
+isNothing a ticks = eqb (a .months + a .seconds + ticks) 0
+
+-- The form of a kind's text: its components before T and after it, in order; and the text of zero.
 pub record Form : Type 0 where
   pub before : List ℕ
   pub after : List ℕ
-  pub unit : ℕ
-  pub most : ℕ
   pub nothing : List ℕ
 
 abbrev pub dayTime : Form
-dayTime = record { before = bytes "D"; after = bytes "HMS"; unit = secondTicks; most = maxDayTime; nothing = bytes "PT0S" }
+dayTime = record { before = bytes "D"; after = bytes "HMS"; nothing = bytes "PT0S" }
 
 abbrev pub yearMonth : Form
-yearMonth = record { before = bytes "YM"; after = []; unit = 1; most = maxYearMonth; nothing = bytes "P0M" }
+yearMonth = record { before = bytes "YM"; after = []; nothing = bytes "P0M" }

@@ -6,8 +6,11 @@ use value::Refusal;
 use value::Span;
 use value::Value;
 use value::YearMonth;
+use value::clocks;
 ghost use mathlib.Core.Path.{_≡_};
-ghost use Prim.Native.Nat.{_+_, _*_, _<_, _^_};
+ghost use Prim.Native.Nat.{_<_};
+ghost use Rattle.basis.specs.Answer.{refuses};
+ghost use Rattle.value.specs.Bounds.{secondTicks};
 ghost use Rattle.numerals.specs.Carried.{Holds};
 ghost use Rattle.text_durations.specs.Forms.{dayTime, yearMonth};
 ghost use Rattle.text_durations.specs.Walks as the;
@@ -15,12 +18,18 @@ ghost use Rattle.text_durations.specs.Carried as carried;
 ghost use Rattle.text_durations.specs.Spelling as its;
 
 mod scan; // scan.rt: the components of a text, found in order
-mod spell; // spell.rt: the components of a number, written in order
+mod spell; // spell.rt: the components of an amount, written in order
 
-// What was found of a text so far: months or seconds, the ticks of a fraction and whether it has too many digits; the offset
-// that is reached, and how far the text could go on.
+// Whole months and whole seconds, each the sum of the components that count it.
+pub struct Sums {
+    pub months: u64,
+    pub seconds: u64,
+}
+
+// What was found of a text so far: months and seconds, the ticks of a fraction and whether it has too many digits;
+// the offset that is reached, and how far the text could go on.
 pub struct Walk {
-    pub sum: u64,
+    pub sums: Sums,
     pub ticks: u32,
     pub long: bool,
     pub at: usize,
@@ -31,17 +40,18 @@ pub struct Walk {
 // there, or the end of a text that stops short.
 pub struct Shape {
     pub negative: bool,
-    pub sum: u64,
+    pub sums: Sums,
     pub ticks: u32,
     pub long: bool,
     pub good: bool,
     pub offset: usize,
 }
 
-// A signed number of microseconds or months.
+// Months, seconds and a part of a second in ticks, under one sign.
 pub struct Amount {
     pub negative: bool,
-    pub number: u64,
+    pub sums: Sums,
+    pub ticks: u32,
 }
 
 pub enum Count {
@@ -49,10 +59,10 @@ pub enum Count {
     Refused(Refusal),
 }
 
-// Text that grows, and what is left of a number to be written into it.
+// Text that grows, and what is left of the sums to be written into it.
 pub struct Rest {
     pub text: Text,
-    pub left: u64,
+    pub left: Sums,
 }
 
 // What a text reads as, and the offset at which its shape ends.
@@ -61,54 +71,77 @@ pub struct Reading {
     pub offset: usize,
 }
 
-// The checks of document 01 in their order.
-fn counted(t: Shape, unit: u64, most: u64) -> Count
-    requires { ⌜ t .sum * unit + t .ticks < 2 ^ 64 ⌝ }
-    ensures { λ r. ⌜ carried.countMeaning r ≡ the.counted unit most t ⌝ }
+// Each part is within the bounds of its own kind.
+fn within_bounds(sums: Sums, ticks: u32) -> bool
+    requires { ⌜ ticks < secondTicks ⌝ }
+    ensures { λ r. ⌜ r ≡ the.withinBounds sums ticks ⌝ }
 {
+    let most = YearMonth::MAX as u64;
+    if most < sums.months {
+        return false;
+    }
+    if sums.seconds < DayTime::MAX_SECONDS {
+        return true;
+    }
+    if DayTime::MAX_SECONDS < sums.seconds {
+        return false;
+    }
+    ticks == 0
+}
+
+fn refused(number: u8) -> Count
+    ensures { λ r. ⌜ carried.countMeaning r ≡ refuses number ⌝ }
+{
+    Count::Refused(Refusal::numbered(number))
+}
+
+// The checks of document 01 in their order.
+fn counted(t: Shape) -> Count
+    requires { ⌜ t .ticks < secondTicks ⌝ }
+    ensures { λ r. ⌜ carried.countMeaning r ≡ the.counted t ⌝ }
+{
+    let sums = t.sums;
+    let ticks = t.ticks;
     if !t.good {
-        return Count::Refused(Refusal {
-            number: Refusal::BAD_TEXT,
-        });
+        return refused(Refusal::BAD_TEXT);
     }
     if t.long {
-        return Count::Refused(Refusal {
-            number: Refusal::LONG_FRACTION,
-        });
+        return refused(Refusal::LONG_FRACTION);
     }
-    let number = t.sum * unit + t.ticks as u64;
-    if most < number {
-        return Count::Refused(Refusal {
-            number: Refusal::BEYOND_BOUNDS,
-        });
+    if !within_bounds(sums, ticks) {
+        return refused(Refusal::BEYOND_BOUNDS);
     }
-    if number == 0 {
+    if spell::is_nothing(sums, ticks) {
         return Count::Of(Amount {
             negative: false,
-            number,
+            sums,
+            ticks,
         });
     }
     Count::Of(Amount {
         negative: t.negative,
-        number,
+        sums,
+        ticks,
     })
 }
 
 pub fn read_day_time(s: &[u8]) -> Reading
     ensures { λ r. ⌜ carried.Reads (the.readDayTime (now (s .entry))) (carried.shapeEnd dayTime (now (s .entry))) r ⌝ }
 {
-    let parts = Span::TICKS as u64;
-    let t = scan::shape(s, b"D", b"HMS", DayTime::MAX / parts + 1);
+    let t = scan::shape(s, b"D", b"HMS");
     let offset = t.offset;
-    let c = counted(t, parts, DayTime::MAX);
+    let c = counted(t);
     match c {
-        Count::Of(a) => Reading {
-            outcome: Outcome::Is(Value::DayTime(DayTime {
-                negative: a.negative,
-                micros: a.number,
-            })),
-            offset,
-        },
+        Count::Of(a) => {
+            let size = Span {
+                seconds: a.sums.seconds,
+                part: a.ticks,
+            };
+            Reading {
+                outcome: Outcome::Is(Value::DayTime(clocks::lasting(a.negative, size))),
+                offset,
+            }
+        }
         Count::Refused(r) => Reading {
             outcome: Outcome::Refused(r),
             offset,
@@ -119,15 +152,14 @@ pub fn read_day_time(s: &[u8]) -> Reading
 pub fn read_year_month(s: &[u8]) -> Reading
     ensures { λ r. ⌜ carried.Reads (the.readYearMonth (now (s .entry))) (carried.shapeEnd yearMonth (now (s .entry))) r ⌝ }
 {
-    let most = YearMonth::MAX as u64;
-    let t = scan::shape(s, b"YM", b"", most + 1);
+    let t = scan::shape(s, b"YM", b"");
     let offset = t.offset;
-    let c = counted(t, 1, most);
+    let c = counted(t);
     match c {
         Count::Of(a) => Reading {
             outcome: Outcome::Is(Value::YearMonth(YearMonth {
                 negative: a.negative,
-                months: a.number as u32,
+                months: a.sums.months as u32,
             })),
             offset,
         },
@@ -141,20 +173,27 @@ pub fn read_year_month(s: &[u8]) -> Reading
 pub fn day_time_text(d: DayTime) -> Text
     ensures { λ r. ⌜ Holds (r .bytes) (r .len) (its.dayTimeText d) ⌝ }
 {
-    let n = d.micros;
-    if n == 0 {
+    let size = clocks::size(d);
+    let ticks = size.part;
+    let sums = Sums {
+        months: 0,
+        seconds: size.seconds,
+    };
+    if spell::is_nothing(sums, ticks) {
         return Text::new().push(b'P').push(b'T').push(b'0').push(b'S');
     }
-    let parts = Span::TICKS as u64;
-    spell::spelt(d.negative, b"D", b"HMS", n / parts, n % parts)
+    spell::spelt(d.negative, b"D", b"HMS", sums, ticks)
 }
 
 pub fn year_month_text(d: YearMonth) -> Text
     ensures { λ r. ⌜ Holds (r .bytes) (r .len) (its.yearMonthText d) ⌝ }
 {
-    let n = d.months as u64;
-    if n == 0 {
+    let sums = Sums {
+        months: d.months as u64,
+        seconds: 0,
+    };
+    if spell::is_nothing(sums, 0) {
         return Text::new().push(b'P').push(b'0').push(b'M');
     }
-    spell::spelt(d.negative, b"YM", b"", n, 0)
+    spell::spelt(d.negative, b"YM", b"", sums, 0)
 }

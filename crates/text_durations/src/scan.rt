@@ -1,18 +1,26 @@
 // The components of a text, found in order. However many digits a component has, sums stop at a cap and never wrap.
 use crate::Shape;
+use crate::Sums;
 use crate::Walk;
+use value::DayTime;
 use value::Span;
+use value::YearMonth;
 ghost use mathlib.Core.Path.{_≡_};
-ghost use mathlib.Core.Bool.{true, false};
-ghost use Prim.Native.Nat.{_+_, _*_, _≤_, min};
+ghost use mathlib.Core.Bool.{true};
+ghost use Prim.Native.Nat.{_≤_, min};
 ghost use lib.ListN.{length};
 ghost use Rattle.numerals.specs.Carried.{withoutZero};
 ghost use Rattle.numerals.specs.Reading as digits;
 ghost use Rattle.text_durations.specs.Forms as forms;
 ghost use Rattle.text_durations.specs.Walks as the;
-ghost use Rattle.text_durations.specs.Carried.{Roomy, upTo, shapeUpTo};
+ghost use Rattle.text_durations.specs.Carried.{Small, secondsCap, cappedSums, upTo, shapeUpTo};
 
 const YEAR: u64 = calendar::MONTH_COUNT as u64;
+
+// A sum is kept as far as one above its bound.
+const MONTHS_CAP: u64 = YearMonth::MAX as u64 + 1;
+
+const SECONDS_CAP: u64 = DayTime::MAX_SECONDS + 1;
 
 // What one of a component counts: of years and months in months, of the others in seconds.
 pub fn weight(time: bool, letter: u8) -> u64
@@ -35,18 +43,47 @@ pub fn weight(time: bool, letter: u8) -> u64
     1
 }
 
-fn plus(sum: u64, n: u64, weight: u64, cap: u64) -> u64
-    requires { ⌜ (sum ≤ cap) × (n ≤ cap) × (weight ≤ forms.weight false forms.days) × (Roomy cap) ⌝ }
-    ensures { λ r. ⌜ r ≡ min cap (sum + n * weight) ⌝ }
+// Whether a component counts months. The others count seconds.
+pub fn counts_months(time: bool, letter: u8) -> bool
+    ensures { λ r. ⌜ r ≡ forms.countsMonths time letter ⌝ }
 {
-    let w = sum + n * weight;
-    if w < cap { w } else { cap }
+    if letter == b'Y' {
+        return true;
+    }
+    if time {
+        return false;
+    }
+    letter == b'M'
 }
 
-// After the point of a component: with it the sum is the one given.
-fn pointed(s: &[u8], letter: u8, mut t: Walk, sum: u64, from: usize) -> Walk
+fn up_to(cap: u64, n: u64) -> u64
+    ensures { λ r. ⌜ r ≡ min cap n ⌝ }
+{
+    if n < cap { n } else { cap }
+}
+
+// The sums with n of a component.
+fn counting(time: bool, letter: u8, n: u64, sums: Sums) -> Sums
+    requires { ⌜ (Small sums) × (n ≤ secondsCap) ⌝ }
+    ensures { λ r. ⌜ r ≡ cappedSums (the.counting time letter n sums) ⌝ }
+{
+    let k = n * weight(time, letter);
+    if counts_months(time, letter) {
+        return Sums {
+            months: up_to(MONTHS_CAP, sums.months + k),
+            seconds: sums.seconds,
+        };
+    }
+    Sums {
+        months: sums.months,
+        seconds: up_to(SECONDS_CAP, sums.seconds + k),
+    }
+}
+
+// After the point of a component: with it the sums are those given.
+fn pointed(s: &[u8], letter: u8, mut t: Walk, sums: Sums, from: usize) -> Walk
     requires { ⌜ (from ≤ length (now s)) × (1 ≤ letter) ⌝ }
-    ensures { λ r. ⌜ r ≡ the.pointed (now (s .entry)) letter t sum from (digits.fractionAt (now (s .entry)) from) ⌝ }
+    ensures { λ r. ⌜ r ≡ the.pointed (now (s .entry)) letter t sums from (digits.fractionAt (now (s .entry)) from) ⌝ }
 {
     let f = numerals::fraction_at(s, from);
     let end = f.end;
@@ -57,7 +94,7 @@ fn pointed(s: &[u8], letter: u8, mut t: Walk, sum: u64, from: usize) -> Walk
     if numerals::byte(s, end) != letter {
         return t;
     }
-    t.sum = sum;
+    t.sums = sums;
     t.ticks = f.ticks;
     t.long = f.long;
     t.at = end + 1;
@@ -65,42 +102,42 @@ fn pointed(s: &[u8], letter: u8, mut t: Walk, sum: u64, from: usize) -> Walk
     t
 }
 
-fn component(s: &[u8], time: bool, letter: u8, mut t: Walk, cap: u64) -> Walk
-    requires { ⌜ (t .at ≤ length (now s)) × (t .sum ≤ cap) × (1 ≤ letter) × (Roomy cap) ⌝ }
-    ensures { λ r. ⌜ r ≡ upTo cap (the.component (now (s .entry)) time letter t) ⌝ }
+fn component(s: &[u8], time: bool, letter: u8, mut t: Walk) -> Walk
+    requires { ⌜ (t .at ≤ length (now s)) × (Small (t .sums)) × (1 ≤ letter) ⌝ }
+    ensures { λ r. ⌜ r ≡ upTo (the.component (now (s .entry)) time letter t) ⌝ }
 {
     let at = t.at;
-    let n = numerals::digits(s, at, cap);
+    let n = numerals::digits(s, at, SECONDS_CAP);
     let end = n.end;
     if end == at {
         return t;
     }
-    let sum = plus(t.sum, n.value, weight(time, letter), cap);
+    let sums = counting(time, letter, n.value, t.sums);
     let b = numerals::byte(s, end);
     if b == letter {
-        t.sum = sum;
+        t.sums = sums;
         t.at = end + 1;
         t.far = end + 1;
         return t;
     }
     if letter == b'S' {
         if b == b'.' {
-            return pointed(s, letter, t, sum, end + 1);
+            return pointed(s, letter, t, sums, end + 1);
         }
     }
     t.far = end;
     t
 }
 
-fn components(s: &[u8], time: bool, letters: &[u8], start: Walk, cap: u64) -> Walk
-    requires { ⌜ (start .at ≤ length (now s)) × (start .sum ≤ cap) × (withoutZero (now letters) ≡ true) × (Roomy cap) ⌝ }
-    ensures { λ r. ⌜ r ≡ upTo cap (the.components (now (s .entry)) time (now (letters .entry)) start) ⌝ }
+fn components(s: &[u8], time: bool, letters: &[u8], start: Walk) -> Walk
+    requires { ⌜ (start .at ≤ length (now s)) × (Small (start .sums)) × (withoutZero (now letters) ≡ true) ⌝ }
+    ensures { λ r. ⌜ r ≡ upTo (the.components (now (s .entry)) time (now (letters .entry)) start) ⌝ }
 {
     let mut t = start;
     let mut k = 0;
     while k < letters.len() {
         let letter = letters[k];
-        t = component(s, time, letter, t, cap);
+        t = component(s, time, letter, t);
         k += 1;
     }
     t
@@ -109,10 +146,11 @@ fn components(s: &[u8], time: bool, letters: &[u8], start: Walk, cap: u64) -> Wa
 fn ended(s: &[u8], negative: bool, from: usize, t: Walk) -> Shape
     ensures { λ r. ⌜ r ≡ the.ended (now (s .entry)) negative from t ⌝ }
 {
+    let sums = t.sums;
     if t.at == from {
         return Shape {
             negative,
-            sum: t.sum,
+            sums,
             ticks: t.ticks,
             long: t.long,
             good: false,
@@ -121,7 +159,7 @@ fn ended(s: &[u8], negative: bool, from: usize, t: Walk) -> Shape
     }
     Shape {
         negative,
-        sum: t.sum,
+        sums,
         ticks: t.ticks,
         long: t.long,
         good: t.at == s.len(),
@@ -129,9 +167,9 @@ fn ended(s: &[u8], negative: bool, from: usize, t: Walk) -> Shape
     }
 }
 
-fn timed(s: &[u8], after: &[u8], negative: bool, from: usize, t: Walk, cap: u64) -> Shape
-    requires { ⌜ (t .at ≤ length (now s)) × (t .sum ≤ cap) × (withoutZero (now after) ≡ true) × (Roomy cap) ⌝ }
-    ensures { λ r. ⌜ r ≡ shapeUpTo cap (the.timed (now (after .entry)) (now (s .entry)) negative from t) ⌝ }
+fn timed(s: &[u8], after: &[u8], negative: bool, from: usize, t: Walk) -> Shape
+    requires { ⌜ (t .at ≤ length (now s)) × (Small (t .sums)) × (withoutZero (now after) ≡ true) ⌝ }
+    ensures { λ r. ⌜ r ≡ shapeUpTo (the.timed (now (after .entry)) (now (s .entry)) negative from t) ⌝ }
 {
     let at = t.at;
     if after.len() == 0 {
@@ -140,24 +178,29 @@ fn timed(s: &[u8], after: &[u8], negative: bool, from: usize, t: Walk, cap: u64)
     if numerals::byte(s, at) != b'T' {
         return ended(s, negative, from, t);
     }
+    let sums = t.sums;
     let start = Walk {
-        sum: t.sum,
+        sums,
         ticks: t.ticks,
         long: t.long,
         at: at + 1,
         far: at + 1,
     };
-    ended(s, negative, at + 1, components(s, true, after, start, cap))
+    ended(s, negative, at + 1, components(s, true, after, start))
 }
 
-fn shape_from(s: &[u8], before: &[u8], after: &[u8], negative: bool, at: usize, cap: u64) -> Shape
-    requires { ⌜ (at ≤ length (now s)) × (withoutZero (now before) ≡ true) × (withoutZero (now after) ≡ true) × (Roomy cap) ⌝ }
-    ensures { λ r. ⌜ r ≡ shapeUpTo cap (the.shapeFrom (now (before .entry)) (now (after .entry)) (now (s .entry)) negative at) ⌝ }
+fn shape_from(s: &[u8], before: &[u8], after: &[u8], negative: bool, at: usize) -> Shape
+    requires { ⌜ (at ≤ length (now s)) × (withoutZero (now before) ≡ true) × (withoutZero (now after) ≡ true) ⌝ }
+    ensures { λ r. ⌜ r ≡ shapeUpTo (the.shapeFrom (now (before .entry)) (now (after .entry)) (now (s .entry)) negative at) ⌝ }
 {
+    let sums = Sums {
+        months: 0,
+        seconds: 0,
+    };
     if numerals::byte(s, at) != b'P' {
         return Shape {
             negative,
-            sum: 0,
+            sums,
             ticks: 0,
             long: false,
             good: false,
@@ -166,23 +209,23 @@ fn shape_from(s: &[u8], before: &[u8], after: &[u8], negative: bool, at: usize, 
     }
     let from = at + 1;
     let start = Walk {
-        sum: 0,
+        sums,
         ticks: 0,
         long: false,
         at: from,
         far: from,
     };
-    let t = components(s, false, before, start, cap);
-    timed(s, after, negative, from, t, cap)
+    let t = components(s, false, before, start);
+    timed(s, after, negative, from, t)
 }
 
 // The shape of a text whose components are those letters, before T and after it.
-pub fn shape(s: &[u8], before: &[u8], after: &[u8], cap: u64) -> Shape
-    requires { ⌜ (withoutZero (now before) ≡ true) × (withoutZero (now after) ≡ true) × (Roomy cap) ⌝ }
-    ensures { λ r. ⌜ r ≡ shapeUpTo cap (the.shape (now (before .entry)) (now (after .entry)) (now (s .entry))) ⌝ }
+pub fn shape(s: &[u8], before: &[u8], after: &[u8]) -> Shape
+    requires { ⌜ (withoutZero (now before) ≡ true) × (withoutZero (now after) ≡ true) ⌝ }
+    ensures { λ r. ⌜ r ≡ shapeUpTo (the.shape (now (before .entry)) (now (after .entry)) (now (s .entry))) ⌝ }
 {
     if numerals::byte(s, 0) == b'-' {
-        return shape_from(s, before, after, true, 1, cap);
+        return shape_from(s, before, after, true, 1);
     }
-    shape_from(s, before, after, false, 0, cap)
+    shape_from(s, before, after, false, 0)
 }

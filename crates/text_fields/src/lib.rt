@@ -16,9 +16,7 @@ pub fn read(kind: Kind, line: &[u8], n: usize, made: &[u8]) -> Outcome
 {
     let ends = timetable::fields::find(line, n);
     if !ends.there {
-        return Outcome::Refused(Refusal {
-            number: Refusal::NO_FIELD,
-        });
+        return Outcome::Refused(Refusal::numbered(Refusal::NO_FIELD));
     }
     if n == SECOND {
         if 0 < made.len() {

@@ -26,7 +26,7 @@ use Rattle.numerals.proofs.Decimals.{length-digits, two-cells, four-pairs, digi
 use Rattle.numerals.proofs.Stripping.{strip-some}
 use Rattle.numerals.proofs.Fractions.{kept, kept-length, fraction-back}
 use Rattle.text_scan.specs.declared.Scan.{Scan}
-use Rattle.text_scan.specs.Scanning.{uncapped, fourZeros, pairAt, yearAt, yearPart, fractionPart, zonePart, zoneSigned, withYear, withFraction, withZoneParts}
+use Rattle.text_scan.specs.Scanning.{uncapped, fourZeros, pairAt, yearAt, yearPart, fractionPart, zonePart, zoneSigned, withYear, withFraction, withZonePart}
 use Rattle.text_layouts.specs.Writing.{hhmm, zoneText}
 use Rattle.text_layouts.proofs.Keeping.{zoneKept}
 
@@ -111,7 +111,7 @@ module _ (s : List ℕ) (t : Scan) (rest : List ℕ) where
       rw (head s (t .at) e, f, ne-eqb (t .at + 1 + length (kept u)) (t .at + 1) (λ z. omega arith))
 
 module _ (s : List ℕ) (t : Scan) (le : t .at ≤ length s) where
-  signed-back : (z n : ℕ) → n ≤ maxZone → drop (t .at) s ≡ z ∷ hhmm n → zoneSigned s t z ≡ withZoneParts t z (n / 60) (n % 60) (t .at + 6)
+  signed-back : (z n : ℕ) → n ≤ maxZone → drop (t .at) s ≡ z ∷ hhmm n → zoneSigned s t z ≡ withZonePart t (record { sign = z; hours = n / 60; minutes = n % 60 }) (t .at + 6)
   unfolding zoneSigned
   signed-back z n h e =
       let i : ℕ = t .at + 1 in
@@ -124,7 +124,7 @@ module _ (s : List ℕ) (t : Scan) (le : t .at ≤ length s) where
       let j : t .at + 1 + 2 + 1 + 2 ≡ t .at + 6 = omega arith in
       rw (a, c, b, j)
 
-  signed-zone : (z n : ℕ) → n ≤ maxZone → drop (t .at) s ≡ z ∷ hhmm n → (z ≡ code "+") ⊎ (z ≡ code "-") → zonePart s t ≡ withZoneParts t z (n / 60) (n % 60) (t .at + 6)
+  signed-zone : (z n : ℕ) → n ≤ maxZone → drop (t .at) s ≡ z ∷ hhmm n → (z ≡ code "+") ⊎ (z ≡ code "-") → zonePart s t ≡ withZonePart t (record { sign = z; hours = n / 60; minutes = n % 60 }) (t .at + 6)
   unfolding zonePart
   signed-zone z n h e (inl y) = rw (ne-eqb (length s) (t .at) (some-left s (t .at) le z (hhmm n) e), head s (t .at) e, y) (rw y at (signed-back z n h e))
   signed-zone z n h e (inr y) = rw (ne-eqb (length s) (t .at) (some-left s (t .at) le z (hhmm n) e), head s (t .at) e, y) (rw y at (signed-back z n h e))

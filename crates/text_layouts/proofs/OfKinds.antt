@@ -3,7 +3,7 @@
 use mathlib.Core.Path.{_≡_, refl, ap, sym, _∙_}
 use mathlib.Core.Bool.{Bool, true, false}
 use mathlib.Core.List.{List, [], _∷_, _++_}
-use Prim.Native.Nat.{ℕ, _+_, _*_, _/_, _%_, _≤_, _<_}
+use Prim.Native.Nat.{ℕ, _+_, _*_, _/_, _%_, _≤_}
 use Prim.Native.Char.{code}
 use native.Mathlib.Omega.{arith}
 use lib.Dec.{eqb}
@@ -14,9 +14,10 @@ use Rattle.basis.specs.Choice.{pick, both, every}
 use Rattle.basis.specs.Answer.{Answer, refuses}
 use Rattle.basis.proofs.Tests.{both-left}
 use Rattle.calendar.specs.declared.Date.{Date}
-use Rattle.value.specs.Bounds.{secondTicks, minuteTicks, hourTicks, dayTicks}
+use Rattle.value.specs.Bounds.{secondTicks}
+use Rattle.value.specs.Clocks.{clockOf, atClock, atClockOf}
 use Rattle.value.specs.Refusals.{badText}
-use Rattle.value.specs.Values.{okDate, okOffset, okZone, okDateTime}
+use Rattle.value.specs.Values.{okDate, okOffset, okZone, okTimePart, okDateTime, dateIn}
 use Rattle.value.specs.Kinds.{template, kept, ofKind}
 use Rattle.value.specs.declared.Offset.the-variants.{East, West}
 use Rattle.value.specs.declared.Zone.{Zone}
@@ -26,14 +27,17 @@ use Rattle.value.specs.declared.Kind.{Kind}
 use Rattle.value.specs.declared.Value.{Value}
 use Rattle.value.specs.declared.Kind.the-variants as KV
 use Rattle.value.proofs.Good.{good, day-ok}
+use Rattle.value.proofs.ClockLaws.{clock-at, clock-kept, one-record, clock-to, time-part-at, time-part-kept}
 use Rattle.value.proofs.KindParts.{of-kind-kept}
 use Rattle.numerals.specs.Reading.{isDigit}
+use Rattle.text_scan.specs.declared.FoundClock.{FoundClock}
 use Rattle.text_scan.specs.declared.Scan.{Scan}
-use Rattle.text_scan.specs.Scanning.{isPair, withPair, withFraction, layout, startOf, scanned}
-use Rattle.text_checks.specs.Reading.{valueGiven, clockTicks, zoneIs, offsetIs, judge, bounded, onCalendar, okParts, clocked, okClock}
+use Rattle.text_scan.specs.Scanning.{isPair, withPair, withFraction, clockFields, layout, startOf, scanned}
+use Rattle.text_checks.specs.Reading.{valueGiven, nextDay, clockTicks, offsetMinutes, zoneIs, offsetIs, dayFound, judge, bounded, onCalendar, okParts, clocked, okClock, goodClock}
 use Rattle.text_layouts.specs.Reading.{readLayout}
 use Rattle.text_layouts.specs.Writing.{pairOf, partText, kindText}
-use Rattle.text_layouts.proofs.Keeping.{zoneKept, partKept, allKept, recordOf, sane, follows, quietHead, isNil, small}
+use Rattle.text_scan.proofs.Along.{template-midnight}
+use Rattle.text_layouts.proofs.Keeping.{zoneKept, partKept, allKept, recordOf, ticks-shown, sane, follows, quietHead, isNil, small}
 use Rattle.text_layouts.proofs.Trip.{Sound, round-from}
 
 west-from : (n : ℕ) → okOffset (West n) ≡ true → 1 ≤ n
@@ -41,12 +45,12 @@ unfolding okOffset every
 west-from n e = leb-true 1 n (both-left _ _ e)
 
 abbrev zoned : Scan → Zone → DateTime
-zoned t z = record { year = t .year; month = t .month; day = t .day; micros = clockTicks (t .hour) (t .minute) (t .second) (t .part); zone = z }
+zoned t z = atClock (dayFound (t .date)) (clockTicks (t .clock)) z
 
 -- a zone is what its text says
-zone-ends : (z : Zone) (t : Scan) (i : ℕ) → okZone z ≡ true → t .sign ≡ 0 → recordOf (zoneKept z t i) ≡ zoned t z
+zone-ends : (z : Zone) (t : Scan) (i : ℕ) → okZone z ≡ true → t .zone .sign ≡ 0 → recordOf (zoneKept z t i) ≡ zoned t z
 unfolding zoneIs okZone
-zone-ends Absent t i g e = λ j. zoned t (pick (eq-eqb (t .sign) 0 e j) Absent (At (offsetIs (t .sign) (t .zh * 60 + t .zm))))
+zone-ends Absent t i g e = λ j. zoned t (pick (eq-eqb (t .zone .sign) 0 e j) Absent (At (offsetIs (t .zone .sign) (offsetMinutes (t .zone)))))
 zone-ends (At (East n)) t i g e = go (eqb n 0) refl
   where
     go : (b : Bool) → eqb n 0 ≡ b → recordOf (zoneKept (At (East n)) t i) ≡ zoned t (At (East n))
@@ -62,25 +66,29 @@ zone-ends (At (West n)) t i g e =
 abbrev fractioned : ℕ → Scan → ℕ → Scan
 fractioned u t i = pick (eqb u 0) t (withFraction t (record { ticks = u; long = false; end = i }))
 
-fraction-ends : (u : ℕ) (t : Scan) (i : ℕ) → t .part ≡ 0
-    → recordOf (fractioned u t i) ≡ record { year = t .year; month = t .month; day = t .day; micros = clockTicks (t .hour) (t .minute) (t .second) u; zone = recordOf t .zone }
-fraction-ends u t i e = go (eqb u 0) refl
+abbrev withPart : FoundClock → ℕ → FoundClock
+withPart c u = record { hour = c .hour; minute = c .minute; second = c .second; part = u; long = false; point = c .point }
+
+fraction-ends : (u : ℕ) (t : Scan) (i : ℕ) (z : Zone) → t .clock .part ≡ 0 → zoned (fractioned u t i) z ≡ atClock (dayFound (t .date)) (clockTicks (withPart (t .clock) u)) z
+unfolding clockTicks
+fraction-ends u t i z e = go (eqb u 0) refl
   where
-    go : (b : Bool) → eqb u 0 ≡ b
-        → recordOf (fractioned u t i) ≡ record { year = t .year; month = t .month; day = t .day; micros = clockTicks (t .hour) (t .minute) (t .second) u; zone = recordOf t .zone }
-    go true q = rw q (λ j. record { year = t .year; month = t .month; day = t .day; micros = clockTicks (t .hour) (t .minute) (t .second) ((e ∙ sym (eqb-true u 0 q)) j); zone = recordOf t .zone })
+    go : (b : Bool) → eqb u 0 ≡ b → zoned (fractioned u t i) z ≡ atClock (dayFound (t .date)) (clockTicks (withPart (t .clock) u)) z
+    go true q = rw q (λ j. atClock (dayFound (t .date)) (clockTicks (withPart (t .clock) ((e ∙ sym (eqb-true u 0 q)) j))) z)
     go false q = rw q
 
-no-sign : (u : ℕ) (t : Scan) (i : ℕ) → t .sign ≡ 0 → fractioned u t i .sign ≡ 0
+no-sign : (u : ℕ) (t : Scan) (i : ℕ) → t .zone .sign ≡ 0 → fractioned u t i .zone .sign ≡ 0
 no-sign u t i e = go (eqb u 0)
   where
-    go : (b : Bool) → pick b t (withFraction t (record { ticks = u; long = false; end = i })) .sign ≡ 0
+    go : (b : Bool) → pick b t (withFraction t (record { ticks = u; long = false; end = i })) .zone .sign ≡ 0
     go true = e
     go false = e
 
-fields-of-ticks : (u : ℕ) → u < dayTicks → clockTicks (u / hourTicks) (u / minuteTicks % 60) (u / secondTicks % 60) (u % secondTicks) ≡ u
-unfolding clockTicks
-fields-of-ticks u h = omega arith
+-- the time of day of a record, shown and put into another, is the record's own
+as-shown : (e : Date) (d : DateTime) (z : Zone) → okTimePart d ≡ true → atClock e (clockTicks (clockFields (clockOf d))) z ≡ atClockOf e d z
+as-shown e d z g =
+    ap (λ (u : ℕ). atClock e u z) (ticks-shown (clockOf d) (omega (arith, clock-to d g)))
+    ∙ one-record (atClock e (clockOf d) z) (atClockOf e d z) (time-part-at e (clockOf d) z (clock-to d g)) (time-part-kept e d z g) refl (clock-at e (clockOf d) z ∙ sym (clock-kept e d z)) refl
 
 -- the parts before the fraction and the zone
 abbrev time : List ℕ
@@ -91,15 +99,14 @@ date rest = bytes "Y-M-D" ++ rest
 
 module _ (v : DateTime) (o : okDateTime v ≡ true) where
   -- a layout that ends with a fraction and a zone, after the time
-  clocked-ends : (t : Scan) (i j : ℕ) → t .part ≡ 0 → t .sign ≡ 0
-      → t .hour ≡ v .micros / hourTicks → t .minute ≡ v .micros / minuteTicks % 60 → t .second ≡ v .micros / secondTicks % 60
-      → recordOf (zoneKept (v .zone) (fractioned (v .micros % secondTicks) t i) j) ≡ record { year = t .year; month = t .month; day = t .day; micros = v .micros; zone = v .zone }
-  clocked-ends t i j a b h m s =
-      let f = fraction-ends (v .micros % secondTicks) t i a in
-      let c : clockTicks (t .hour) (t .minute) (t .second) (v .micros % secondTicks) ≡ v .micros = (λ k. clockTicks (h k) (m k) (s k) (v .micros % secondTicks)) ∙ fields-of-ticks (v .micros) (small v o .micros) in
-      zone-ends (v .zone) (fractioned (v .micros % secondTicks) t i) j (small v o .zone) (no-sign (v .micros % secondTicks) t i b)
-      ∙ (λ k. record { year = f k .year; month = f k .month; day = f k .day; micros = f k .micros; zone = v .zone })
-      ∙ (λ k. record { year = t .year; month = t .month; day = t .day; micros = c k; zone = v .zone })
+  clocked-ends : (t : Scan) (i j : ℕ) → t .clock .part ≡ 0 → t .zone .sign ≡ 0 → withPart (t .clock) (clockOf v % secondTicks) ≡ clockFields (clockOf v)
+      → recordOf (zoneKept (v .zone) (fractioned (clockOf v % secondTicks) t i) j) ≡ atClockOf (dayFound (t .date)) v (v .zone)
+  clocked-ends t i j a b c =
+      let u : ℕ = clockOf v % secondTicks in
+      zone-ends (v .zone) (fractioned u t i) j (small v o .zone) (no-sign u t i b)
+      ∙ fraction-ends u t i (v .zone) a
+      ∙ ap (λ (x : FoundClock). atClock (dayFound (t .date)) (clockTicks x) (v .zone)) c
+      ∙ as-shown (dayFound (t .date)) v (v .zone) (good v o .time)
 
 -- the kinds that have a layout
 pub data Laid : Kind → Type 0 where
@@ -110,20 +117,24 @@ pub data Laid : Kind → Type 0 where
 abbrev pub castTo : Kind → DateTime → DateTime
 castTo k v = recordOf (allKept (layout k) v (startOf (template k)))
 
+no-part : (k : Kind) → clockOf (template k) % secondTicks ≡ 0
+no-part k = ap (λ (u : ℕ). u % secondTicks) (template-midnight k)
+
 -- the cast by a kind's layout is what the kind keeps
 pub cast-is : {k : Kind} → Laid k → (v : DateTime) → okDateTime v ≡ true → castTo k v ≡ kept k v
 unfolding allKept partKept isPair withPair pairOf clockTicks
 cast-is laid-date v o =
     let t : Scan = allKept (date []) v (startOf (template KV.Date)) in
     zone-ends (v .zone) t (t .at + length (partText (code "z") v)) (small v o .zone) refl
+    ∙ as-shown (dateIn v) (template KV.Date) (v .zone) (time-part-at (dateIn (template KV.Date)) 0 Absent (omega arith))
 cast-is laid-time v o =
     let t : Scan = allKept time v (startOf (template KV.Time)) in
     let f : Scan = allKept (bytes "h:m:sf") v (startOf (template KV.Time)) in
-    clocked-ends v o t (t .at + length (partText (code "f") v)) (f .at + length (partText (code "z") v)) refl refl refl refl refl
+    clocked-ends v o t (t .at + length (partText (code "f") v)) (f .at + length (partText (code "z") v)) (no-part KV.Time) refl refl
 cast-is laid-both v o =
     let t : Scan = allKept (date (code "T" ∷ time)) v (startOf (template KV.DateTime)) in
     let f : Scan = allKept (date (bytes "Th:m:sf")) v (startOf (template KV.DateTime)) in
-    clocked-ends v o t (t .at + length (partText (code "f") v)) (f .at + length (partText (code "z") v)) refl refl refl refl refl
+    clocked-ends v o t (t .at + length (partText (code "f") v)) (f .at + length (partText (code "z") v)) (no-part KV.DateTime) refl refl
 
 pub cast-whole : {k : Kind} → Laid k → (v : DateTime) → okDateTime v ≡ true → ofKind k v ≡ true → castTo k v ≡ v
 cast-whole {k} l v o e = cast-is l v o ∙ of-kind-kept k v e
@@ -137,7 +148,12 @@ sane-layout KV.DayTimeDuration = refl
 sane-layout KV.YearMonthDuration = refl
 
 sound-start : (k : Kind) → Sound (startOf (template k))
-sound-start k = record { plus = refl; short = refl; year = omega arith; hour = omega arith; minute = omega arith; second = omega arith; zm = omega arith; offset = omega arith }
+sound-start k =
+    record {
+      date = record { plus = refl; year = omega arith };
+      clock = record { short = refl; hour = omega (arith, template-midnight k); minute = omega arith; second = omega arith };
+      zone = record { minutes = omega arith; offset = omega arith };
+    }
 
 -- the date that a kind keeps is a day of the calendar: the record's or the reference day
 kept-date : (k : Kind) (v : DateTime) → okDateTime v ≡ true → okDate (kept k v .year) (kept k v .month) (kept k v .day) ≡ true
@@ -161,12 +177,12 @@ either-way true x = refl
 either-way false x = refl
 
 pub no-layout : (k : Kind) → layout k ≡ [] → (s : List ℕ) → readLayout k s ≡ refuses badText
-unfolding readLayout judge bounded onCalendar okParts clocked okClock okDate every both scanned
+unfolding readLayout judge bounded onCalendar okParts clocked goodClock okClock okDate every both scanned nextDay
 no-layout KV.Date e s = cc
 no-layout KV.Time e s = cc
 no-layout KV.DateTime e s = cc
-no-layout KV.DayTimeDuration e s = either-way (eqb 0 (length s)) (refuses badText)
-no-layout KV.YearMonthDuration e s = either-way (eqb 0 (length s)) (refuses badText)
+no-layout KV.DayTimeDuration e s = rw (template-midnight KV.DayTimeDuration) (either-way (eqb 0 (length s)) (refuses badText))
+no-layout KV.YearMonthDuration e s = rw (template-midnight KV.YearMonthDuration) (either-way (eqb 0 (length s)) (refuses badText))
 
 -- what is written of a record as a kind reads as what the kind keeps of the record
 pub written-reads : (k : Kind) (v : DateTime) → okDateTime v ≡ true → readLayout k (kindText k v) ≡ valueGiven k (kept k v)

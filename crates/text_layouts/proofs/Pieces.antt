@@ -12,11 +12,14 @@ use lib.Seq.{drop-cons}
 use borrow.Author.Tests.{eq-eqb, ne-eqb}
 use Rattle.basis.specs.Choice.{pick}
 use Rattle.value.specs.Bounds.{secondTicks}
+use Rattle.value.specs.Carried.{spanOf}
+use Rattle.value.specs.Clocks.{clockOf}
 use Rattle.value.specs.declared.Offset.{Offset}
 use Rattle.value.specs.declared.Offset.the-variants.{East, West}
 use Rattle.value.specs.declared.Zone.{Zone}
 use Rattle.value.specs.declared.Zone.the-variants.{Absent, At}
 use Rattle.value.specs.declared.DateTime.{DateTime}
+use Rattle.value.specs.declared.Span.{Span}
 use Rattle.value.specs.declared.Kind.{Kind}
 use Rattle.value.specs.declared.Kind.the-variants as KV
 use Rattle.numerals.specs.Reading.{fractionDigits}
@@ -27,8 +30,8 @@ use Rattle.numerals.proofs.Texts.{then, named}
 use Rattle.numerals.proofs.Decimals.{length-digits}
 use Rattle.numerals.proofs.Fractions.{fraction-short}
 use Rattle.text_scan.specs.Scanning.{layout, isPair}
+use Rattle.text_scan.specs.Carried.{signedWidth, width, widths}
 use Rattle.text_layouts.specs.Writing.{hhmm, offsetText, zoneText, pairOf, partText, layoutText, kindText}
-use Rattle.text_layouts.specs.Carried.{width, widths}
 
 -- the text of an offset, by its cases
 hhmm-length : (n : ℕ) → length (hhmm n) ≡ 5
@@ -57,14 +60,31 @@ wrote-west {o = o} n e s h k m = wrote-signed n s h k m o (ap offsetText e)
 pub at-zone : {t r : Text} {z x : Zone} → z ≡ x → Added t r (zoneText x) (length (zoneText x)) → Added t r (zoneText z) (length (zoneText z))
 at-zone {t} {r} e a = subst (λ (y : Zone). Added t r (zoneText y) (length (zoneText y))) (sym e) a
 
-pub zone-short : (z : Zone) → length (zoneText z) ≤ 6
+pub zone-short : (z : Zone) → length (zoneText z) ≤ signedWidth
 zone-short Absent = lit≤ tt
 zone-short (At (East n)) = go (eqb n 0)
   where
-    go : (b : Bool) → length (pick b (code "Z" ∷ []) (code "+" ∷ hhmm n)) ≤ 6
+    go : (b : Bool) → length (pick b (code "Z" ∷ []) (code "+" ∷ hhmm n)) ≤ signedWidth
     go true = lit≤ tt
     go false = omega (arith, hhmm-length n)
 zone-short (At (West n)) = omega (arith, hhmm-length n)
+
+-- a number of two digits of the clock, from the whole seconds of a time of day
+module _ (p : ℕ) (d : DateTime) {c : Span} (e : c ≡ spanOf (clockOf d)) where
+  whole : c .seconds ≡ clockOf d / secondTicks
+  whole = ap (λ (x : Span). x .seconds) e
+
+  pub pair-hour : p ≡ code "h" → c .seconds / 3600 ≡ pairOf p d
+  unfolding pairOf
+  pair-hour q = omega (arith, whole, ap (λ (x : ℕ). pairOf x d) q)
+
+  pub pair-minute : p ≡ code "m" → c .seconds / 60 % 60 ≡ pairOf p d
+  unfolding pairOf
+  pair-minute q = omega (arith, whole, ap (λ (x : ℕ). pairOf x d) q)
+
+  pub pair-second : (p ≡ code "M" → ⊥) → (p ≡ code "D" → ⊥) → (p ≡ code "h" → ⊥) → (p ≡ code "m" → ⊥) → c .seconds % 60 ≡ pairOf p d
+  unfolding pairOf
+  pair-second i j k l = rw (ne-eqb p (code "M") i, ne-eqb p (code "D") j, ne-eqb p (code "h") k, ne-eqb p (code "m") l) (ap (λ (x : ℕ). x % 60) whole)
 
 -- a part's text, by its letter
 module _ (p : ℕ) (d : DateTime) where
@@ -73,12 +93,12 @@ module _ (p : ℕ) (d : DateTime) where
   text-year e = (rw (eq-eqb p (code "Y") e), rw (eq-eqb p (code "Y") e))
 
   module _ (a : p ≡ code "Y" → ⊥) where
-    pub text-fraction : p ≡ code "f" → (partText p d ≡ fractionText (d .micros % secondTicks)) × (width p ≡ 1 + fractionDigits)
+    pub text-fraction : p ≡ code "f" → (partText p d ≡ fractionText (clockOf d % secondTicks)) × (width p ≡ 1 + fractionDigits)
     unfolding partText width
     text-fraction e = (rw (ne-eqb p (code "Y") a, eq-eqb p (code "f") e), rw (ne-eqb p (code "Y") a, eq-eqb p (code "f") e))
 
     module _ (b : p ≡ code "f" → ⊥) where
-      pub text-zone : p ≡ code "z" → (partText p d ≡ zoneText (d .zone)) × (width p ≡ 6)
+      pub text-zone : p ≡ code "z" → (partText p d ≡ zoneText (d .zone)) × (width p ≡ signedWidth)
       unfolding partText width
       text-zone e = (rw (ne-eqb p (code "Y") a, ne-eqb p (code "f") b, eq-eqb p (code "z") e), rw (ne-eqb p (code "Y") a, ne-eqb p (code "f") b, eq-eqb p (code "z") e))
 
@@ -97,7 +117,7 @@ text-short p d = go (eqb p (code "Y")) (eqb p (code "f")) (eqb p (code "z")) (is
   where
     go : (a b c f : Bool) → eqb p (code "Y") ≡ a → eqb p (code "f") ≡ b → eqb p (code "z") ≡ c → isPair p ≡ f → length (partText p d) ≤ width p
     go true b c f e g h i = rw e (omega (arith, length-digits 4 (d .year)))
-    go false true c f e g h i = rw (e, g) (fraction-short (d .micros % secondTicks))
+    go false true c f e g h i = rw (e, g) (fraction-short (clockOf d % secondTicks))
     go false false true f e g h i = rw (e, g, h) (zone-short (d .zone))
     go false false false true e g h i = rw (e, g, h, i) (omega (arith, length-digits 2 (pairOf p d)))
     go false false false false e g h i = rw (e, g, h, i) (lit≤ tt)

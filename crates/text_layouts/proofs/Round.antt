@@ -12,6 +12,7 @@ use borrow.Author.Tests.{eq-eqb, ne-eqb, eqb-true, eqb-false}
 use Rattle.basis.specs.Choice.{both, pick}
 use Rattle.basis.proofs.Tests.{never, both-left, both-right}
 use Rattle.value.specs.Bounds.{secondTicks}
+use Rattle.value.specs.Clocks.{clockOf}
 use Rattle.value.specs.declared.Offset.the-variants.{East, West}
 use Rattle.value.specs.declared.Zone.{Zone}
 use Rattle.value.specs.declared.Zone.the-variants.{Absent, At}
@@ -41,7 +42,7 @@ pair-lt p v m = go (eqb p (code "M")) (eqb p (code "D")) (eqb p (code "h")) (eqb
     go : (a b c d : Bool) → eqb p (code "M") ≡ a → eqb p (code "D") ≡ b → eqb p (code "h") ≡ c → eqb p (code "m") ≡ d → pairOf p v < 100
     go true b c d e f g h = rw e (m .month)
     go false true c d e f g h = rw (e, f) (m .day)
-    go false false true d e f g h = rw (e, f, g) (omega (arith, m .micros))
+    go false false true d e f g h = rw (e, f, g) (omega (arith, m .clock))
     go false false false true e f g h = rw (e, f, g, h) (omega arith)
     go false false false false e f g h = rw (e, f, g, h) (omega arith)
 
@@ -61,18 +62,18 @@ module _ (p : ℕ) (v : DateTime) (m : Small v) (s : List ℕ) (t : Scan) (g : t
     module _ (n1 : p ≡ code "Y" → ⊥) where
       back-fraction : p ≡ code "f" → scannedPart uncapped p s t ≡ partKept p v t
       unfolding partKept
-      back-fraction q = go (eqb (v .micros % secondTicks) 0) refl
+      back-fraction q = go (eqb (clockOf v % secondTicks) 0) refl
         where
-          x : partText p v ≡ fractionText (v .micros % secondTicks)
+          x : partText p v ≡ fractionText (clockOf v % secondTicks)
           x = text-fraction p v n1 q .0
 
-          go : (b : Bool) → eqb (v .micros % secondTicks) 0 ≡ b → scannedPart uncapped p s t ≡ partKept p v t
+          go : (b : Bool) → eqb (clockOf v % secondTicks) 0 ≡ b → scannedPart uncapped p s t ≡ partKept p v t
           go true z =
-              let y : fractionText (v .micros % secondTicks) ≡ [] = no-fraction (v .micros % secondTicks) (eqb-true (v .micros % secondTicks) 0 z) in
+              let y : fractionText (clockOf v % secondTicks) ≡ [] = no-fraction (clockOf v % secondTicks) (eqb-true (clockOf v % secondTicks) 0 z) in
               let k : partKept p v t ≡ t = rw (ne-eqb p (code "Y") n1, eq-eqb p (code "f") q, z) in
               sym (the-fraction uncapped p s t g n1 q) ∙ no-fraction-back s t rest (a .fraction q) (here (x ∙ y)) ∙ sym k
           go false z =
-              let u : ℕ = v .micros % secondTicks in
+              let u : ℕ = clockOf v % secondTicks in
               let nz : (u ≡ 0 → ⊥) = eqb-false u 0 z in
               let y : fractionText u ≡ code "." ∷ kept u = a-fraction u nz in
               let l : length (partText p v) ≡ suc (length (kept u)) = ap length (x ∙ y) in
@@ -122,14 +123,7 @@ module _ (p : ℕ) (v : DateTime) (t : Scan) (g : t .good ≡ true) where
 
   placed-next : (n i : ℕ) → Next (withPair p t (record { value = n; at = i; good = true })) i
   unfolding withPair
-  placed-next n i = go (eqb p (code "M")) (eqb p (code "D")) (eqb p (code "h")) (eqb p (code "m")) refl refl refl refl
-    where
-      go : (a b c d : Bool) → eqb p (code "M") ≡ a → eqb p (code "D") ≡ b → eqb p (code "h") ≡ c → eqb p (code "m") ≡ d → Next (withPair p t (record { value = n; at = i; good = true })) i
-      go true b c d e f h j = rw e (refl, refl)
-      go false true c d e f h j = rw (e, f) (refl, refl)
-      go false false true d e f h j = rw (e, f, h) (refl, refl)
-      go false false false true e f h j = rw (e, f, h, j) (refl, refl)
-      go false false false false e f h j = rw (e, f, h, j) (refl, refl)
+  placed-next n i = (refl, refl)
 
   zone-next : (z : Zone) (i : ℕ) → (z ≡ Absent → t .at ≡ i) → Next (zoneKept z t i) i
   zone-next Absent i h = (g, h refl)
@@ -149,19 +143,19 @@ module _ (p : ℕ) (v : DateTime) (t : Scan) (g : t .good ≡ true) where
           let l : length (partText p v) ≡ 0 = ap length (text-zone p v (eqb-false p (code "Y") x) (eqb-false p (code "f") y) (eqb-true p (code "z") z) .0) ∙ ap (λ (q : Zone). length (zoneText q)) e in
           omega arith
 
-      uncapped : eqb p (code "Y") ≡ false → eqb p (code "f") ≡ true → eqb (v .micros % secondTicks) 0 ≡ true → t .at ≡ t .at + length (partText p v)
+      uncapped : eqb p (code "Y") ≡ false → eqb p (code "f") ≡ true → eqb (clockOf v % secondTicks) 0 ≡ true → t .at ≡ t .at + length (partText p v)
       uncapped x y z =
-          let f : fractionText (v .micros % secondTicks) ≡ [] = no-fraction (v .micros % secondTicks) (eqb-true (v .micros % secondTicks) 0 z) in
+          let f : fractionText (clockOf v % secondTicks) ≡ [] = no-fraction (clockOf v % secondTicks) (eqb-true (clockOf v % secondTicks) 0 z) in
           let l : length (partText p v) ≡ 0 = ap length (text-fraction p v (eqb-false p (code "Y") x) (eqb-true p (code "f") y) .0 ∙ f) in
           omega arith
 
-      frac : (b : Bool) → eqb p (code "Y") ≡ false → eqb p (code "f") ≡ true → eqb (v .micros % secondTicks) 0 ≡ b → Next (partKept p v t) (t .at + length (partText p v))
+      frac : (b : Bool) → eqb p (code "Y") ≡ false → eqb p (code "f") ≡ true → eqb (clockOf v % secondTicks) 0 ≡ b → Next (partKept p v t) (t .at + length (partText p v))
       frac true x y z = rw (x, y, z) (g, uncapped x y z)
       frac false x y z = rw (x, y, z) (refl, refl)
 
       go : (b c d f : Bool) → eqb p (code "Y") ≡ b → eqb p (code "f") ≡ c → eqb p (code "z") ≡ d → isPair p ≡ f → Next (partKept p v t) (t .at + length (partText p v))
       go true c d f x y z w = rw x (refl, refl)
-      go false true d f x y z w = frac (eqb (v .micros % secondTicks) 0) x y refl
+      go false true d f x y z w = frac (eqb (clockOf v % secondTicks) 0) x y refl
       go false false true f x y z w = rw (x, y, z) (zone-next (v .zone) (t .at + length (partText p v)) (absent x y z))
       go false false false true x y z w = rw (x, y, z, w) (placed-next (pairOf p v) (t .at + length (partText p v)))
       go false false false false x y z w = rw (x, y, z, w) (refl, refl)

@@ -2,7 +2,7 @@
 -- and the zone say so of the parts; the parts that the kind has not are still the template's.
 use mathlib.Core.Path.{_≡_, refl, sym}
 use mathlib.Core.Bool.{Bool, true, false}
-use Prim.Native.Nat.{ℕ, zero, suc, _+_, _*_, _≤_, _<_}
+use Prim.Native.Nat.{ℕ, zero, suc, _+_, _≤_, _<_}
 use Prim.Native.Char.{code}
 use native.Mathlib.Omega.{arith}
 use lib.Dec.{eqb, leb}
@@ -17,9 +17,10 @@ use Rattle.calendar.specs.declared.Dated.the-variants.{On, Later}
 use Rattle.calendar.proofs.Years.{years-grow, year-starts, year-ends}
 use Rattle.calendar.proofs.Dates.{date-good, day-date}
 use Rattle.calendar.proofs.Answers.{OnTime, on-says}
-use Rattle.value.specs.Bounds.{minYear, maxYear, maxMicros, maxZone, secondTicks}
-use Rattle.value.specs.Values.{okDate, okOffset, okZone, okDateTime}
-use Rattle.value.specs.Kinds.{okValue, kindOf}
+use Rattle.value.specs.Bounds.{minYear, maxYear, maxClock, maxZone, secondTicks}
+use Rattle.value.specs.Clocks.{atClock}
+use Rattle.value.specs.Values.{okDate, okOffset, okZone, okDateTime, dateIn}
+use Rattle.value.specs.Kinds.{okValue, kindOf, template}
 use Rattle.value.specs.declared.Offset.the-variants.{East, West}
 use Rattle.value.specs.declared.Zone.{Zone}
 use Rattle.value.specs.declared.Zone.the-variants.{Absent, At}
@@ -28,9 +29,14 @@ use Rattle.value.specs.declared.Kind.{Kind}
 use Rattle.value.specs.declared.Kind.the-variants as KV
 use Rattle.value.specs.declared.Value.{Value}
 use Rattle.value.specs.declared.Value.the-variants as VV
-use Rattle.value.proofs.Good.{GoodDay, good-day, day-ok}
+use Rattle.value.proofs.Good.{GoodDay, good-day, day-ok, record-ok}
+use Rattle.value.proofs.ClockLaws.{time-part-at}
 use Rattle.value.proofs.KindParts.{kept-of-kind}
-use Rattle.text_checks.specs.Reading.{maxHour, maxMinute, valueGiven, placedOn, startOfDay, nextDay, okClock, isDayEnd, clockTicks, clocked, okParts, zoneIs, onCalendar}
+use Rattle.text_scan.specs.declared.FoundDate.{FoundDate}
+use Rattle.text_scan.specs.declared.FoundClock.{FoundClock}
+use Rattle.text_scan.specs.declared.FoundZone.{FoundZone}
+use Rattle.text_checks.specs.Reading.{valueGiven, startOfDay, nextDay, dayEnd, goodClock, clockTicks, clocked, offsetMinutes, okParts, zoneIs, dayFound, onCalendar}
+use Rattle.text_checks.proofs.Ways.{clock-within, within-day}
 
 -- a value within the bounds, of a kind
 pub record Valid (k : Kind) (v : Value) : Type 0 where
@@ -56,34 +62,36 @@ fine-pick k false x y f g = g refl
 -- what a kind has no part for is its template's
 abbrev pub Suits : Kind → Date → ℕ → Type 0
 Suits KV.Date d u = u ≡ 0
-Suits KV.Time d u = (d .year ≡ 1972) × (d .month ≡ 12) × (d .day ≡ 31)
+Suits KV.Time d u = d ≡ dateIn (template KV.Time)
 Suits KV.DateTime d u = u ≡ u
 Suits KV.DayTimeDuration d u = u ≡ u
 Suits KV.YearMonthDuration d u = u ≡ u
 
-fine-value : (k : Kind) (d : Date) (u : ℕ) (z : Zone) → okDateTime (placedOn d u z) ≡ true → Suits k d u → Fine k (valueGiven k (placedOn d u z))
+fine-value : (k : Kind) (d : Date) (u : ℕ) (z : Zone) → okDateTime (atClock d u z) ≡ true → Suits k d u → Fine k (valueGiven k (atClock d u z))
 unfolding okValue
 fine-value KV.Date d u z o e v q =
-    let w : v ≡ VV.Date (placedOn d u z) = cc in
-    rw w (record { ok = both-true _ _ o (kept-of-kind KV.Date (placedOn d u z) (λ i. placedOn d (sym e i) z)); kind = refl })
+    let w : v ≡ VV.Date (atClock d u z) = cc in
+    rw w (record { ok = both-true _ _ o (kept-of-kind KV.Date (atClock d u z) (λ i. atClock d (sym e i) z)); kind = refl })
 fine-value KV.Time d u z o e v q =
-    let w : v ≡ VV.Time (placedOn d u z) = cc in
-    rw w (record { ok = both-true _ _ o (kept-of-kind KV.Time (placedOn d u z) (λ i. record { year = sym (e .0) i; month = sym (e .1) i; day = sym (e .2) i; micros = u; zone = z })); kind = refl })
+    let w : v ≡ VV.Time (atClock d u z) = cc in
+    rw w (record { ok = both-true _ _ o (kept-of-kind KV.Time (atClock d u z) (λ i. atClock (sym e i) u z)); kind = refl })
 fine-value KV.DateTime d u z o e v q =
-    let w : v ≡ VV.DateTime (placedOn d u z) = cc in
+    let w : v ≡ VV.DateTime (atClock d u z) = cc in
     rw w (record { ok = o; kind = refl })
 fine-value KV.DayTimeDuration d u z o e v q = fine-refusal KV.DayTimeDuration 1 v q
 fine-value KV.YearMonthDuration d u z o e v q = fine-refusal KV.YearMonthDuration 1 v q
 
 -- a good date, a time below a day and a good zone are a record within the bounds
-record-good : (d : Date) (u : ℕ) (z : Zone) → okDate (d .year) (d .month) (d .day) ≡ true → u ≤ maxMicros → okZone z ≡ true → okDateTime (placedOn d u z) ≡ true
-unfolding okDateTime every
-record-good d u z e h g = both-true _ _ e (both-true _ _ (le-leb u maxMicros h) (both-true _ _ g refl))
+record-good : (d : Date) (u : ℕ) (z : Zone) → okDate (d .year) (d .month) (d .day) ≡ true → u ≤ maxClock → okZone z ≡ true → okDateTime (atClock d u z) ≡ true
+record-good d u z e h g = record-ok (atClock d u z) (record { day = good-day d e; time = time-part-at d u z h; zone = g })
 
-zone-good : (sign n : ℕ) → n ≤ maxZone → okZone (zoneIs sign n) ≡ true
+zone-good : (z : FoundZone) → offsetMinutes z ≤ maxZone → okZone (zoneIs z) ≡ true
 unfolding zoneIs okZone okOffset every
-zone-good sign n h = go (eqb sign 0) (eqb sign (code "-")) (eqb n 0) refl
+zone-good z h = go (eqb (z .sign) 0) (eqb (z .sign) (code "-")) (eqb (offsetMinutes z) 0) refl
   where
+    n : ℕ
+    n = offsetMinutes z
+
     go : (a b c : Bool) → eqb n 0 ≡ c → okZone (pick a Absent (At (pick b (pick c (East 0) (West n)) (East n)))) ≡ true
     go true b c e = refl
     go false true true e = refl
@@ -127,23 +135,18 @@ fine-next KV.DateTime d z u o g e = go (datedOf (dayOf d + 1) maxYear) refl
 fine-next KV.DayTimeDuration d z u o g e = fine-refusal KV.DayTimeDuration 1
 fine-next KV.YearMonthDuration d z u o g e = fine-refusal KV.YearMonthDuration 1
 
-clock-small : (h m s u : ℕ) → okClock h m s ≡ true → u < secondTicks → clockTicks h m s u ≤ maxMicros
-unfolding okClock every clockTicks
-clock-small h m s u e l =
-    let e1 = both-right _ _ e in
-    omega (arith, leb-true h maxHour (both-left _ _ e), leb-true m maxMinute (both-left _ _ e1), leb-true s maxMinute (both-left _ _ (both-right _ _ e1)))
-
 -- the checks of the calendar, the clock and the zone leave valid values alone
-pub fine-on-calendar : (k : Kind) (d : Date) (h m s u sign zh zm : ℕ) → u < secondTicks → Suits k d (clockTicks h m s u) → Fine k (onCalendar k d h m s u sign zh zm)
+pub fine-on-calendar : (k : Kind) (d : FoundDate) (c : FoundClock) (z : FoundZone) → c .part < secondTicks → Suits k (dayFound d) (clockTicks c) → Fine k (onCalendar k d c z)
 unfolding onCalendar clocked okParts every
-fine-on-calendar k d h m s u sign zh zm l e =
+fine-on-calendar k d c z l e =
     fine-pick k (okDate (d .year) (d .month) (d .day)) _ _
-    (λ o. fine-pick k (okParts zh zm) _ _
-    (λ p. zoned o (zone-good sign (zh * 60 + zm) (leb-true (zh * 60 + zm) maxZone (both-left _ _ (both-right _ _ p)))))
-    (λ p. fine-refusal k 1))
+    (λ o. fine-pick k (goodClock c) _ _
+    (λ w. fine-pick k (okParts z) _ _ (λ p. zoned o w (zone-good z (leb-true (offsetMinutes z) maxZone (both-left _ _ (both-right _ _ p))))) (λ p. fine-refusal k 1))
+    (λ w. fine-refusal k 1))
     (λ o. fine-refusal k 1)
   where
-    zoned : okDate (d .year) (d .month) (d .day) ≡ true → okZone (zoneIs sign (zh * 60 + zm)) ≡ true → Fine k (clocked k d h m s u (zoneIs sign (zh * 60 + zm)))
-    zoned o g =
-        fine-pick k (okClock h m s) _ _ (λ c. fine-value k d (clockTicks h m s u) (zoneIs sign (zh * 60 + zm)) (record-good d (clockTicks h m s u) (zoneIs sign (zh * 60 + zm)) o (clock-small h m s u c l) g) e)
-        (λ c. fine-pick k (isDayEnd h m s u) _ _ (λ x. fine-next k d (zoneIs sign (zh * 60 + zm)) (clockTicks h m s u) o g e) (λ x. fine-refusal k 1))
+    zoned : okDate (d .year) (d .month) (d .day) ≡ true → goodClock c ≡ true → okZone (zoneIs z) ≡ true → Fine k (clocked k (dayFound d) c (zoneIs z))
+    zoned o w g =
+        fine-pick k (eqb (c .hour) dayEnd) _ _ (λ h. fine-next k (dayFound d) (zoneIs z) (clockTicks c) o g e)
+        (λ h. fine-value k (dayFound d) (clockTicks c) (zoneIs z)
+        (record-good (dayFound d) (clockTicks c) (zoneIs z) o (omega (arith, clock-within c (within-day c (eqb-false (c .hour) dayEnd h) w) l)) g) e)

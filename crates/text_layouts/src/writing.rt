@@ -11,13 +11,13 @@ ghost use Prim.Native.Nat.{_+_, _≤_};
 ghost use lib.ListN.{length};
 ghost use Rattle.numerals.specs.Writing.{longest};
 ghost use Rattle.numerals.specs.Carried.{Holds, Added};
+ghost use Rattle.text_scan.specs.Carried.{signedWidth, width, widths};
 ghost use Rattle.text_layouts.specs.Writing.{offsetText, zoneText, pairOf, partText, layoutText};
-ghost use Rattle.text_layouts.specs.Carried.{width, widths};
 
 const HOUR_MINUTES: u16 = Span::HOUR_MINUTES as u16;
 
 fn with_offset(t: Text, o: Offset) -> Text
-    requires { ⌜ t .len + 6 ≤ longest ⌝ }
+    requires { ⌜ t .len + signedWidth ≤ longest ⌝ }
     ensures { λ r. ⌜ Added t r (offsetText o) (length (offsetText o)) ⌝ }
 {
     match o {
@@ -36,7 +36,7 @@ fn with_offset(t: Text, o: Offset) -> Text
 }
 
 fn with_zone(t: Text, z: Zone) -> Text
-    requires { ⌜ t .len + 6 ≤ longest ⌝ }
+    requires { ⌜ t .len + signedWidth ≤ longest ⌝ }
     ensures { λ r. ⌜ Added t r (zoneText z) (length (zoneText z)) ⌝ }
 {
     match z {
@@ -54,7 +54,8 @@ fn pair_of(p: u8, d: DateTime) -> u64
     if p == b'D' {
         return d.day as u64;
     }
-    let seconds = d.micros / Span::TICKS as u64;
+    let t = value::clocks::clock(d);
+    let seconds = t.seconds;
     if p == b'h' {
         return seconds / Span::HOUR;
     }
@@ -72,7 +73,8 @@ fn part(t: Text, p: u8, d: DateTime) -> Text
         return fixed(t, d.year as u64, text_scan::YEAR_DIGITS);
     }
     if p == b'f' {
-        return with_fraction(t, d.micros % Span::TICKS as u64);
+        let c = value::clocks::clock(d);
+        return with_fraction(t, c.part as u64);
     }
     if p == b'z' {
         let z = d.zone;

@@ -11,14 +11,18 @@ use Rattle.basis.specs.Choice.{both, pick}
 use Rattle.value.specs.Kinds.{template}
 use Rattle.value.specs.declared.Kind.{Kind}
 use Rattle.numerals.specs.Reading.{at, numeralAt, fractionAt}
+use Rattle.text_scan.specs.declared.FoundDate.{FoundDate}
 use Rattle.text_scan.specs.declared.Scan.{Scan}
 use Rattle.text_scan.specs.declared.Pair.{Pair}
 use Rattle.text_scan.specs.declared.Year.{Year}
-use Rattle.text_scan.specs.Scanning.{found, uncapped, fourZeros, pairAt, yearAt, yearPart, fractionPart, zonePart, zoneSigned, zoneHours, zoneMinutes, withPair, partAt, scannedPart, isPair, scanned, layout, startOf, scannedParts, withYear}
+use Rattle.text_scan.specs.Scanning.{uncapped, fourZeros, pairAt, yearAt, yearPart, fractionPart, zonePart, zoneSigned, zoneHours, zoneMinutes, withPair, partAt, scannedPart, isPair, scanned, layout, startOf, scannedParts, withYear}
 use Rattle.text_scan.specs.Carried.{capped}
 
+abbrev pub cutDate : FoundDate → FoundDate
+cutDate d = record { negative = d .negative; year = capped (d .year); month = d .month; day = d .day }
+
 abbrev pub cut : Scan → Scan
-cut t = found (t .negative) (capped (t .year)) (t .month) (t .day) (t .hour) (t .minute) (t .second) (t .part) (t .long) (t .sign) (t .zh) (t .zm) (t .at) (t .good)
+cut t = record { date = cutDate (t .date); clock = t .clock; zone = t .zone; at = t .at; good = t .good }
 
 abbrev cutYear : Year → Year
 cutYear y = record { value = capped (y .value); at = y .at; good = y .good }
@@ -85,14 +89,7 @@ module _ (s : List ℕ) (t : Scan) where
 
   placed-cut : (p : ℕ) (g : Pair) → withPair p (cut t) g ≡ cut (withPair p t g)
   unfolding withPair
-  placed-cut p g = go (eqb p (code "M")) (eqb p (code "D")) (eqb p (code "h")) (eqb p (code "m")) refl refl refl refl
-    where
-      go : (a b c d : Bool) → eqb p (code "M") ≡ a → eqb p (code "D") ≡ b → eqb p (code "h") ≡ c → eqb p (code "m") ≡ d → withPair p (cut t) g ≡ cut (withPair p t g)
-      go true b c d e f i j = rw e
-      go false true c d e f i j = rw (e, f)
-      go false false true d e f i j = rw (e, f, i)
-      go false false false true e f i j = rw (e, f, i, j)
-      go false false false false e f i j = rw (e, f, i, j)
+  placed-cut p g = refl
 
   part-at-cut : (p : ℕ) → partAt capped p s (cut t) ≡ cut (partAt uncapped p s t)
   unfolding partAt

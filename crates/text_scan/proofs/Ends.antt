@@ -93,17 +93,6 @@ module _ (s : List ℕ) (t : Scan) (h : t .at ≤ length s) where
       go false false false true e f g k = rw (e, f, g, k) (signed-le (code "-") (within s (t .at) (code "-") (eqb-true _ _ k) (omega arith)))
       go false false false false e f g k = rw (e, f, g, k) h
 
-  placed-le : (p : ℕ) (g : Pair) → g .at ≤ length s → withPair p t g .at ≤ length s
-  unfolding withPair
-  placed-le p g l = go (eqb p (code "M")) (eqb p (code "D")) (eqb p (code "h")) (eqb p (code "m")) refl refl refl refl
-    where
-      go : (a b c d : Bool) → eqb p (code "M") ≡ a → eqb p (code "D") ≡ b → eqb p (code "h") ≡ c → eqb p (code "m") ≡ d → withPair p t g .at ≤ length s
-      go true b c d e f i j = rw e l
-      go false true c d e f i j = rw (e, f) l
-      go false false true d e f i j = rw (e, f, i) l
-      go false false false true e f i j = rw (e, f, i, j) l
-      go false false false false e f i j = rw (e, f, i, j) l
-
 module _ (keep : ℕ → ℕ) (s : List ℕ) (t : Scan) (h : t .at ≤ length s) where
   year-part-le : yearPart keep s t .at ≤ length s
   unfolding yearPart
@@ -115,14 +104,14 @@ module _ (keep : ℕ → ℕ) (s : List ℕ) (t : Scan) (h : t .at ≤ length s)
 
   -- a byte that stands for itself is no 0, or it would be found past the end
   pub part-le : (p : ℕ) → 1 ≤ p → scannedPart keep p s t .at ≤ length s
-  unfolding partAt
+  unfolding partAt withPair
   part-le p hp = good (t .good) refl
     where
       go : (a b c d x : Bool) → eqb p (code "Y") ≡ a → eqb p (code "f") ≡ b → eqb p (code "z") ≡ c → isPair p ≡ d → eqb (at s (t .at)) p ≡ x → partAt keep p s t .at ≤ length s
       go true b c d x e f i j k = rw e year-part-le
       go false true c d x e f i j k = rw (e, f) (fraction-part-le s t h)
       go false false true d x e f i j k = rw (e, f, i) (zone-part-le s t h)
-      go false false false true x e f i j k = rw (e, f, i, j) (placed-le s t h p (pairAt s (t .at)) (pair-le s (t .at) h))
+      go false false false true x e f i j k = rw (e, f, i, j) (pair-le s (t .at) h)
       go false false false false true e f i j k = rw (e, f, i, j, k) (omega (arith, within s (t .at) p (eqb-true _ _ k) hp))
       go false false false false false e f i j k = rw (e, f, i, j, k) h
 

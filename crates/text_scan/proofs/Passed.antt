@@ -19,7 +19,7 @@ use Rattle.numerals.proofs.Passed.{Passed, passed-none, passed-byte, passed-mar
 use Rattle.numerals.proofs.Fractions.{fraction-end}
 use Rattle.text_scan.specs.declared.Scan.{Scan}
 use Rattle.text_scan.specs.declared.Pair.{Pair}
-use Rattle.text_scan.specs.Scanning.{layout, startOf, pairAt, fourZeros, leadingZero, yearDigits, yearAt, yearPart, fractionPart, zonePart, zoneSigned, zoneHours, zoneMinutes, withPair, withYear, withFraction, withZoneParts, partAt, scannedPart, isPair, reached, scanned, scannedParts}
+use Rattle.text_scan.specs.Scanning.{layout, startOf, pairAt, fourZeros, leadingZero, yearDigits, yearAt, yearPart, fractionPart, zonePart, zoneSigned, zoneHours, zoneMinutes, withPair, withYear, withFraction, withZonePart, partAt, scannedPart, isPair, reached, scanned, scannedParts}
 
 -- the bytes that stand in the text of a date, a time or a dateTime
 abbrev pub momentByte : ℕ → Bool
@@ -85,7 +85,7 @@ module _ (s : List ℕ) where
         minutes : (h m : Pair) → (m .good ≡ true → Passed momentByte s (m .at)) → Says s (zoneMinutes t z h m)
         minutes h m f = by (m .good) refl
           where
-            by : (x : Bool) → m .good ≡ x → Says s (pick x (withZoneParts t z (h .value) (m .value) (m .at)) (reached t (m .at) false))
+            by : (x : Bool) → m .good ≡ x → Says s (pick x (withZonePart t (record { sign = z; hours = h .value; minutes = m .value }) (m .at)) (reached t (m .at) false))
             by true e g = f e
             by false e g = absurd (never g)
 
@@ -106,24 +106,12 @@ module _ (s : List ℕ) where
         known c e m = ap momentByte (eqb-true (at s (t .at)) c e) ∙ m
 
         go : (x y z w : Bool) → eqb (at s (t .at)) (code "Z") ≡ y → eqb (at s (t .at)) (code "+") ≡ z → eqb (at s (t .at)) (code "-") ≡ w
-            → Says s (pick x t (pick y (withZoneParts t (code "Z") 0 0 (t .at + 1)) (pick z (zoneSigned s t (code "+")) (pick w (zoneSigned s t (code "-")) (reached t (t .at) false)))))
+            → Says s (pick x t (pick y (withZonePart t (record { sign = code "Z"; hours = 0; minutes = 0 }) (t .at + 1)) (pick z (zoneSigned s t (code "+")) (pick w (zoneSigned s t (code "-")) (reached t (t .at) false)))))
         go true y z w e f i = λ g. a
         go false true z w e f i = λ g. passed-mark momentByte s (t .at) (code "Z") e refl a
         go false false true w e f i = signed-says (code "+") (known (code "+") f refl)
         go false false false true e f i = signed-says (code "-") (known (code "-") i refl)
         go false false false false e f i = λ g. absurd (never g)
-
-    -- a pair's digits, whichever part they are
-    placed-says : (p : ℕ) (g : Pair) → (g .good ≡ true → Passed momentByte s (g .at)) → Says s (withPair p t g)
-    unfolding withPair
-    placed-says p g f = go (eqb p (code "M")) (eqb p (code "D")) (eqb p (code "h")) (eqb p (code "m")) refl refl refl refl
-      where
-        go : (a b c d : Bool) → eqb p (code "M") ≡ a → eqb p (code "D") ≡ b → eqb p (code "h") ≡ c → eqb p (code "m") ≡ d → Says s (withPair p t g)
-        go true b c d e k i j = rw e f
-        go false true c d e k i j = rw (e, k) f
-        go false false true d e k i j = rw (e, k, i) f
-        go false false false true e k i j = rw (e, k, i, j) f
-        go false false false false e k i j = rw (e, k, i, j) f
 
 -- a letter of a layout: one of a part, or a byte that stands for itself and may stand there
 abbrev okPart : ℕ → Bool
@@ -131,7 +119,7 @@ okPart p = pick (eqb p (code "Y")) true (pick (eqb p (code "f")) true (pick (eqb
 
 module _ (keep : ℕ → ℕ) (s : List ℕ) where
   part-says : (p : ℕ) (t : Scan) → okPart p ≡ true → t .good ≡ true → Passed momentByte s (t .at) → Says s (partAt keep p s t)
-  unfolding partAt
+  unfolding partAt withPair
   part-says p t l good a = go (eqb p (code "Y")) (eqb p (code "f")) (eqb p (code "z")) (isPair p) (eqb (at s (t .at)) p) refl refl refl refl refl l
     where
       go : (x y z w v : Bool) → eqb p (code "Y") ≡ x → eqb p (code "f") ≡ y → eqb p (code "z") ≡ z → isPair p ≡ w → eqb (at s (t .at)) p ≡ v
@@ -140,7 +128,7 @@ module _ (keep : ℕ → ℕ) (s : List ℕ) where
       go true y z w v e f h i j k = year-says s t a keep
       go false true z w v e f h i j k = fraction-says s t a good
       go false false true w v e f h i j k = zone-says s t a
-      go false false false true v e f h i j k = placed-says s t a p (pairAt s (t .at)) (pair-passed s (t .at) a)
+      go false false false true v e f h i j k = pair-passed s (t .at) a
       go false false false false true e f h i j k = λ g. passed-mark momentByte s (t .at) p j k a
       go false false false false false e f h i j k = λ g. absurd (never g)
 

@@ -5,12 +5,12 @@ use mathlib.Core.List.{List}
 use Prim.Native.Nat.{ℕ, _+_}
 use Prim.Native.Char.{code}
 use lib.Dec.{eqb}
-use borrow.Author.Tests.{eq-eqb, ne-eqb}
+use borrow.Author.Tests.{eq-eqb, ne-eqb, eqb-true}
 use Rattle.basis.specs.Choice.{pick}
 use Rattle.numerals.specs.Reading.{at}
 use Rattle.text_scan.specs.declared.Scan.{Scan}
 use Rattle.text_scan.specs.declared.Pair.{Pair}
-use Rattle.text_scan.specs.Scanning.{isPair, withPair, yearPart, fractionPart, zonePart, pairAt, partAt, scannedPart, zoneSigned, zoneHours, zoneMinutes, withZoneParts, reached}
+use Rattle.text_scan.specs.Scanning.{isPair, withPair, yearPart, fractionPart, zonePart, pairAt, partAt, scannedPart, zoneSigned, zoneHours, zoneMinutes, withZonePart, reached}
 
 module _ (keep : ℕ → ℕ) (p : ℕ) (s : List ℕ) (t : Scan) where
   pub on : t .good ≡ true → scannedPart keep p s t ≡ partAt keep p s t
@@ -43,6 +43,11 @@ module _ (keep : ℕ → ℕ) (p : ℕ) (s : List ℕ) (t : Scan) (g : t .good �
         unfolding partAt
         a-mark e = sym (on keep p s t g ∙ rw (ne-eqb p (code "Y") a, ne-eqb p (code "f") b, ne-eqb p (code "z") d, sym er ∙ e))
 
+-- the last letter of two digits, where it is none of the others
+pub last-pair : (p : ℕ) → isPair p ≡ true → (p ≡ code "M" → ⊥) → (p ≡ code "D" → ⊥) → (p ≡ code "h" → ⊥) → (p ≡ code "m" → ⊥) → p ≡ code "s"
+unfolding isPair
+last-pair p e a b c d = eqb-true p (code "s") (rw (ne-eqb p (code "M") a, ne-eqb p (code "D") b, ne-eqb p (code "h") c, ne-eqb p (code "m") d) at e)
+
 module _ (s : List ℕ) (t : Scan) (z : ℕ) {h : Pair} (eh : h ≡ pairAt s (t .at + 1)) where
   hours : zoneHours s t z h ≡ zoneSigned s t z
   unfolding zoneSigned
@@ -70,7 +75,7 @@ module _ (s : List ℕ) (t : Scan) (z : ℕ) {h : Pair} (eh : h ≡ pairAt s (t 
       last = ap (zoneMinutes t z h) em ∙ (rw (eq-eqb (at s (h .at)) (code ":") c) at more)
 
       pub no-minutes : m .good ≡ false → reached t (m .at) false ≡ zoneSigned s t z
-      no-minutes q = (λ i. pick (sym q i) (withZoneParts t z (h .value) (m .value) (m .at)) (reached t (m .at) false)) ∙ last
+      no-minutes q = (λ i. pick (sym q i) (withZonePart t (record { sign = z; hours = h .value; minutes = m .value }) (m .at)) (reached t (m .at) false)) ∙ last
 
-      pub a-zone : m .good ≡ true → withZoneParts t z (h .value) (m .value) (m .at) ≡ zoneSigned s t z
-      a-zone q = (λ i. pick (sym q i) (withZoneParts t z (h .value) (m .value) (m .at)) (reached t (m .at) false)) ∙ last
+      pub a-zone : m .good ≡ true → withZonePart t (record { sign = z; hours = h .value; minutes = m .value }) (m .at) ≡ zoneSigned s t z
+      a-zone q = (λ i. pick (sym q i) (withZonePart t (record { sign = z; hours = h .value; minutes = m .value }) (m .at)) (reached t (m .at) false)) ∙ last

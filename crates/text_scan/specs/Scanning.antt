@@ -10,12 +10,16 @@ use lib.ListN.{length}
 use Rattle.basis.specs.Choice.{both, every, pick}
 use Rattle.basis.specs.Letters.{bytes}
 use Rattle.value.specs.Bounds.{secondTicks, minuteSeconds, hourMinutes, minuteTicks, hourTicks}
+use Rattle.value.specs.Clocks.{clockOf}
 use Rattle.value.specs.Kinds.{template}
 use Rattle.value.specs.declared.DateTime.{DateTime}
 use Rattle.value.specs.declared.Kind.{Kind}
 use Rattle.value.specs.declared.Kind.the-variants as KV
 use Rattle.numerals.specs.Reading.{isDigit, Number, numeralAt, at, fractionAt}
 use Rattle.numerals.specs.declared.Fraction.{Fraction}
+use Rattle.text_scan.specs.declared.FoundDate.{FoundDate}
+use Rattle.text_scan.specs.declared.FoundClock.{FoundClock}
+use Rattle.text_scan.specs.declared.FoundZone.{FoundZone}
 use Rattle.text_scan.specs.declared.Scan.{Scan}
 use Rattle.text_scan.specs.declared.Pair.{Pair}
 use Rattle.text_scan.specs.declared.Year.{Year}
@@ -29,29 +33,62 @@ layout KV.DateTime = bytes "Y-M-DTh:m:sfz"
 layout KV.DayTimeDuration = []
 layout KV.YearMonthDuration = []
 
--- The parts found so far, the offset that is reached, and whether every part up to there was found; where not, the offset is
--- that of the first byte at which no text of good shape could go on. The zone is its sign (0: there is none), hours and
--- minutes.
-abbrev pub found : Bool → ℕ → ℕ → ℕ → ℕ → ℕ → ℕ → ℕ → Bool → ℕ → ℕ → ℕ → ℕ → Bool → Scan
-found n y mo d h mi se u l z zh zm i g =
-    record { negative = n; year = y; month = mo; day = d; hour = h; minute = mi; second = se; part = u; long = l; sign = z; zh = zh; zm = zm; at = i; good = g }
+-- What is found in a text is a date, a clock and a zone, each a record; the zone's sign is 0 where there is none.
+-- With them go the offset that is reached and whether every part up to there was found; where not, the offset is that
+-- of the first byte at which no text of good shape could go on.
+
+-- a time of day in ticks, as the clock that shows it
+abbrev pub clockFields : ℕ → FoundClock
+clockFields u =
+    record {
+      hour = u / hourTicks;
+      minute = u / minuteTicks % hourMinutes;
+      second = u / secondTicks % minuteSeconds;
+      part = u % secondTicks;
+      long = false;
+      point = 0;
+    }
 
 -- before the first byte: the template's fields, for the parts that the kind has not, and no zone
 abbrev pub startOf : DateTime → Scan
 startOf d =
-    found false (d .year) (d .month) (d .day) (d .micros / hourTicks) (d .micros / minuteTicks % hourMinutes) (d .micros / secondTicks % minuteSeconds) (d .micros % secondTicks) false 0 0 0 0 true
+    record {
+      date = record { negative = false; year = d .year; month = d .month; day = d .day };
+      clock = clockFields (clockOf d);
+      zone = record { sign = 0; hours = 0; minutes = 0 };
+      at = 0;
+      good = true;
+    }
 
+-- another offset, and nothing more that was found
 abbrev pub reached : Scan → ℕ → Bool → Scan
-reached t i g = found (t .negative) (t .year) (t .month) (t .day) (t .hour) (t .minute) (t .second) (t .part) (t .long) (t .sign) (t .zh) (t .zm) i g
+reached t i g = record { date = t .date; clock = t .clock; zone = t .zone; at = i; good = g }
 
+-- a year that was found, or not
 abbrev pub withYear : Scan → Bool → Year → Scan
-withYear t n y = found n (y .value) (t .month) (t .day) (t .hour) (t .minute) (t .second) (t .part) (t .long) (t .sign) (t .zh) (t .zm) (y .at) (y .good)
+withYear t n y =
+    record {
+      date = record { negative = n; year = y .value; month = t .date .month; day = t .date .day };
+      clock = t .clock;
+      zone = t .zone;
+      at = y .at;
+      good = y .good;
+    }
 
+-- a fraction that was found
 abbrev pub withFraction : Scan → Fraction → Scan
-withFraction t f = found (t .negative) (t .year) (t .month) (t .day) (t .hour) (t .minute) (t .second) (f .ticks) (f .long) (t .sign) (t .zh) (t .zm) (f .end) true
+withFraction t f =
+    record {
+      date = t .date;
+      clock = record { hour = t .clock .hour; minute = t .clock .minute; second = t .clock .second; part = f .ticks; long = f .long; point = t .at };
+      zone = t .zone;
+      at = f .end;
+      good = true;
+    }
 
-abbrev pub withZoneParts : Scan → ℕ → ℕ → ℕ → ℕ → Scan
-withZoneParts t z h m i = found (t .negative) (t .year) (t .month) (t .day) (t .hour) (t .minute) (t .second) (t .part) (t .long) z h m i true
+-- a zone that was found
+abbrev pub withZonePart : Scan → FoundZone → ℕ → Scan
+withZonePart t z i = record { date = t .date; clock = t .clock; zone = z; at = i; good = true }
 
 -- two digits at i, or the first offset at which there is none
 unfoldable pub pairAt : List ℕ → ℕ → Pair
@@ -65,13 +102,30 @@ pairAt s i =
 unfoldable pub isPair : ℕ → Bool
 isPair p = pick (eqb p (code "M")) true (pick (eqb p (code "D")) true (pick (eqb p (code "h")) true (pick (eqb p (code "m")) true (eqb p (code "s")))))
 
+-- a number as the field of a date, or of a clock, that a letter stands for; other letters leave it
+abbrev pub dateWith : ℕ → FoundDate → ℕ → FoundDate
+dateWith p d n = record { negative = d .negative; year = d .year; month = pick (eqb p (code "M")) n (d .month); day = pick (eqb p (code "D")) n (d .day) }
+
+abbrev pub clockWith : ℕ → FoundClock → ℕ → FoundClock
+clockWith p c n =
+    record {
+      hour = pick (eqb p (code "h")) n (c .hour);
+      minute = pick (eqb p (code "m")) n (c .minute);
+      second = pick (eqb p (code "s")) n (c .second);
+      part = c .part;
+      long = c .long;
+      point = c .point;
+    }
+
 unfoldable pub withPair : ℕ → Scan → Pair → Scan
 withPair p t g =
-    pick (eqb p (code "M")) (found (t .negative) (t .year) (g .value) (t .day) (t .hour) (t .minute) (t .second) (t .part) (t .long) (t .sign) (t .zh) (t .zm) (g .at) (g .good))
-    (pick (eqb p (code "D")) (found (t .negative) (t .year) (t .month) (g .value) (t .hour) (t .minute) (t .second) (t .part) (t .long) (t .sign) (t .zh) (t .zm) (g .at) (g .good))
-    (pick (eqb p (code "h")) (found (t .negative) (t .year) (t .month) (t .day) (g .value) (t .minute) (t .second) (t .part) (t .long) (t .sign) (t .zh) (t .zm) (g .at) (g .good))
-    (pick (eqb p (code "m")) (found (t .negative) (t .year) (t .month) (t .day) (t .hour) (g .value) (t .second) (t .part) (t .long) (t .sign) (t .zh) (t .zm) (g .at) (g .good))
-    (found (t .negative) (t .year) (t .month) (t .day) (t .hour) (t .minute) (g .value) (t .part) (t .long) (t .sign) (t .zh) (t .zm) (g .at) (g .good)))))
+    record {
+      date = dateWith p (t .date) (g .value);
+      clock = clockWith p (t .clock) (g .value);
+      zone = t .zone;
+      at = g .at;
+      good = g .good;
+    }
 
 -- f: nothing, or a point and at least one digit
 abbrev pub fractionIs : Scan → ℕ → Fraction → Scan
@@ -82,7 +136,7 @@ fractionPart s t = pick (eqb (at s (t .at)) (code ".")) (fractionIs t (t .at + 1
 
 -- z: the text's end, or Z, or a sign with hh:mm
 abbrev pub zoneMinutes : Scan → ℕ → Pair → Pair → Scan
-zoneMinutes t z h m = pick (m .good) (withZoneParts t z (h .value) (m .value) (m .at)) (reached t (m .at) false)
+zoneMinutes t z h m = pick (m .good) (withZonePart t (record { sign = z; hours = h .value; minutes = m .value }) (m .at)) (reached t (m .at) false)
 
 abbrev pub zoneHours : List ℕ → Scan → ℕ → Pair → Scan
 zoneHours s t z h =
@@ -94,7 +148,7 @@ zoneSigned s t z = zoneHours s t z (pairAt s (t .at + 1))
 unfoldable pub zonePart : List ℕ → Scan → Scan
 zonePart s t =
     pick (eqb (length s) (t .at)) t
-    (pick (eqb (at s (t .at)) (code "Z")) (withZoneParts t (code "Z") 0 0 (t .at + 1))
+    (pick (eqb (at s (t .at)) (code "Z")) (withZonePart t (record { sign = code "Z"; hours = 0; minutes = 0 }) (t .at + 1))
     (pick (eqb (at s (t .at)) (code "+")) (zoneSigned s t (code "+")) (pick (eqb (at s (t .at)) (code "-")) (zoneSigned s t (code "-")) (reached t (t .at) false))))
 
 -- What is kept of a year's number: all of it here; in the code less (Carried.antt).

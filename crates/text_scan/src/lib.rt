@@ -5,7 +5,6 @@ use numerals::digits;
 use numerals::fraction_at;
 use value::DateTime;
 use value::Kind;
-use value::Span;
 ghost use mathlib.Core.Path.{_≡_};
 ghost use mathlib.Core.Bool.{true, false};
 ghost use Prim.Native.Nat.{_+_, _-_, _≤_, _<_};
@@ -34,22 +33,38 @@ pub struct Year {
     pub good: bool,
 }
 
-// The parts found so far, the offset that is reached, and whether every part up to there was found. Where not, the offset
-// is that of the first byte at which no text of good shape could go on. Of a year no more is kept than one above the
-// greatest.
-pub struct Scan {
+// The date that was found in a text. Of a year no more is kept than one above the greatest.
+pub struct FoundDate {
     pub negative: bool,
     pub year: u16,
     pub month: u8,
     pub day: u8,
+}
+
+// The clock that was found: a part of a second in ticks, or that its digits are too many, and the offset of the point
+// before them, 0 where there is none.
+pub struct FoundClock {
     pub hour: u8,
     pub minute: u8,
     pub second: u8,
     pub part: u32,
     pub long: bool,
+    pub point: usize,
+}
+
+// The zone that was found: +, - or Z with its hours and minutes; sign 0 where there is none.
+pub struct FoundZone {
     pub sign: u8,
-    pub zh: u8,
-    pub zm: u8,
+    pub hours: u8,
+    pub minutes: u8,
+}
+
+// The parts found so far, the offset that is reached, and whether every part up to there was found. Where not, the
+// offset is that of the first byte at which no text of good shape could go on.
+pub struct Scan {
+    pub date: FoundDate,
+    pub clock: FoundClock,
+    pub zone: FoundZone,
     pub at: usize,
     pub good: bool,
 }
@@ -154,15 +169,15 @@ fn year_part(s: &[u8], mut t: Scan) -> Scan
     let at = t.at;
     if byte(s, at) == b'-' {
         let y = year_at(s, at + 1);
-        t.negative = true;
-        t.year = y.value;
+        t.date.negative = true;
+        t.date.year = y.value;
         t.at = y.at;
         t.good = y.good;
         return t;
     }
     let y = year_at(s, at);
-    t.negative = false;
-    t.year = y.value;
+    t.date.negative = false;
+    t.date.year = y.value;
     t.at = y.at;
     t.good = y.good;
     t
@@ -185,8 +200,9 @@ fn fraction_part(s: &[u8], mut t: Scan) -> Scan
         t.good = false;
         return t;
     }
-    t.part = f.ticks;
-    t.long = f.long;
+    t.clock.part = f.ticks;
+    t.clock.long = f.long;
+    t.clock.point = at;
     t.at = end;
     t.good = true;
     t
@@ -215,9 +231,9 @@ fn zone_signed(s: &[u8], mut t: Scan, sign: u8) -> Scan
         t.good = false;
         return t;
     }
-    t.sign = sign;
-    t.zh = h.value;
-    t.zm = m.value;
+    t.zone.sign = sign;
+    t.zone.hours = h.value;
+    t.zone.minutes = m.value;
     t.good = true;
     t
 }
@@ -233,9 +249,9 @@ fn zone_part(s: &[u8], mut t: Scan) -> Scan
     }
     let b = byte(s, at);
     if b == b'Z' {
-        t.sign = b'Z';
-        t.zh = 0;
-        t.zm = 0;
+        t.zone.sign = b'Z';
+        t.zone.hours = 0;
+        t.zone.minutes = 0;
         t.at = at + 1;
         t.good = true;
         return t;
@@ -271,32 +287,33 @@ pub fn is_pair(p: u8) -> bool
 
 // Two digits as the part that a letter stands for.
 fn with_pair(p: u8, mut t: Scan, g: Pair) -> Scan
+    requires { ⌜ isPair p ≡ true ⌝ }
     ensures { λ r. ⌜ r ≡ withPair p t g ⌝ }
 {
     t.at = g.at;
     t.good = g.good;
     if p == b'M' {
-        t.month = g.value;
+        t.date.month = g.value;
         return t;
     }
     if p == b'D' {
-        t.day = g.value;
+        t.date.day = g.value;
         return t;
     }
     if p == b'h' {
-        t.hour = g.value;
+        t.clock.hour = g.value;
         return t;
     }
     if p == b'm' {
-        t.minute = g.value;
+        t.clock.minute = g.value;
         return t;
     }
-    t.second = g.value;
+    t.clock.second = g.value;
     t
 }
 
 fn pair_part(p: u8, s: &[u8], t: Scan) -> Scan
-    requires { ⌜ t .at ≤ length (now s) ⌝ }
+    requires { ⌜ (t .at ≤ length (now s)) × (isPair p ≡ true) ⌝ }
     ensures { λ r. ⌜ r ≡ withPair p t (pairAt (now (s .entry)) (t .at)) ⌝ }
 {
     let at = t.at;
@@ -357,25 +374,31 @@ fn scan_all(layout: &[u8], s: &[u8], template: Scan) -> Scan
     t
 }
 
-// Before the first byte.
+// Before the first byte. A template is at 00:00:00.
 fn start(kind: Kind) -> Scan
     ensures { λ r. ⌜ r ≡ startOf (template kind) ⌝ }
 {
     let d = value::kinds::template(kind);
-    let parts = Span::TICKS as u64;
     Scan {
-        negative: false,
-        year: d.year,
-        month: d.month,
-        day: d.day,
-        hour: (d.micros / (Span::HOUR * parts)) as u8,
-        minute: (d.micros / (Span::MINUTE * parts) % Span::HOUR_MINUTES) as u8,
-        second: (d.micros / parts % Span::MINUTE) as u8,
-        part: (d.micros % parts) as u32,
-        long: false,
-        sign: 0,
-        zh: 0,
-        zm: 0,
+        date: FoundDate {
+            negative: false,
+            year: d.year,
+            month: d.month,
+            day: d.day,
+        },
+        clock: FoundClock {
+            hour: 0,
+            minute: 0,
+            second: 0,
+            part: 0,
+            long: false,
+            point: 0,
+        },
+        zone: FoundZone {
+            sign: 0,
+            hours: 0,
+            minutes: 0,
+        },
         at: 0,
         good: true,
     }

@@ -7,8 +7,9 @@ use lib.Dec.{eqb}
 use borrow.Author.Tests.{eq-eqb, eqb-true}
 use Rattle.basis.specs.Choice.{pick, both, every}
 use Rattle.basis.proofs.Tests.{both-left, both-right, both-true}
-use Rattle.value.specs.Bounds.{maxMicros, maxDayTime, maxYearMonth}
-use Rattle.value.specs.Values.{okDateTime}
+use Rattle.value.specs.Bounds.{maxDayTime, maxYearMonth}
+use Rattle.value.specs.Clocks.{atClockOf, sameClock, ticksIn}
+use Rattle.value.specs.Values.{okDateTime, dateIn}
 use Rattle.value.specs.Kinds.{hasDate, hasTime, template, kept, ofKind, okValue}
 use Rattle.value.specs.declared.DateTime.{DateTime}
 use Rattle.value.specs.declared.DayTime.{DayTime}
@@ -19,31 +20,17 @@ use Rattle.value.specs.declared.Value.{Value}
 use Rattle.value.specs.declared.Value.the-variants as VV
 use Rattle.value.proofs.Good.{good}
 use Rattle.value.proofs.Signs.{signed-within}
+use Rattle.value.proofs.ClockLaws.{same-clock-self, same-clock-one, ticks-to}
 
 pub kept-by : (k : Kind) (d t : DateTime) (a b : Bool) → hasDate k ≡ a → hasTime k ≡ b → t ≡ template k
-    → record {
-      year = pick a (d .year) (t .year);
-      month = pick a (d .month) (t .month);
-      day = pick a (d .day) (t .day);
-      micros = pick b (d .micros) (t .micros);
-      zone = d .zone;
-    }
-    ≡ kept k d
-kept-by k d t a b ea eb et =
-    λ i.
-    record {
-      year = pick (sym ea i) (d .year) (et i .year);
-      month = pick (sym ea i) (d .month) (et i .month);
-      day = pick (sym ea i) (d .day) (et i .day);
-      micros = pick (sym eb i) (d .micros) (et i .micros);
-      zone = d .zone;
-    }
+    → atClockOf (dateIn (pick a d t)) (pick b d t) (d .zone) ≡ kept k d
+kept-by k d t a b ea eb et = λ i. atClockOf (dateIn (pick (sym ea i) d (et i))) (pick (sym eb i) d (et i)) (d .zone)
 
 pub of-kind-by : (k : Kind) (d x : DateTime) → x ≡ kept k d
-    → every (eqb (d .year) (x .year) ∷ eqb (d .month) (x .month) ∷ eqb (d .day) (x .day) ∷ eqb (d .micros) (x .micros) ∷ []) ≡ ofKind k d
+    → every (eqb (d .year) (x .year) ∷ eqb (d .month) (x .month) ∷ eqb (d .day) (x .day) ∷ sameClock d x ∷ []) ≡ ofKind k d
 unfolding ofKind
 of-kind-by k d x e =
-    λ i. every (eqb (d .year) (e i .year) ∷ eqb (d .month) (e i .month) ∷ eqb (d .day) (e i .day) ∷ eqb (d .micros) (e i .micros) ∷ [])
+    λ i. every (eqb (d .year) (e i .year) ∷ eqb (d .month) (e i .month) ∷ eqb (d .day) (e i .day) ∷ sameClock d (e i) ∷ [])
 
 -- a record is of a kind exactly where the kind keeps all of it
 pub of-kind-kept : (k : Kind) (d : DateTime) → ofKind k d ≡ true → kept k d ≡ d
@@ -54,8 +41,8 @@ of-kind-kept k d e =
     let y : d .year ≡ kept k d .year = eqb-true _ _ (both-left _ _ e) in
     let m : d .month ≡ kept k d .month = eqb-true _ _ (both-left _ _ e1) in
     let g : d .day ≡ kept k d .day = eqb-true _ _ (both-left _ _ e2) in
-    let u : d .micros ≡ kept k d .micros = eqb-true _ _ (both-left _ _ (both-right _ _ e2)) in
-    λ i. record { year = sym y i; month = sym m i; day = sym g i; micros = sym u i; zone = d .zone }
+    let u : sameClock d (kept k d) ≡ true = both-left _ _ (both-right _ _ e2) in
+    (λ i. atClockOf (record { year = sym y i; month = sym m i; day = sym g i }) (kept k d) (d .zone)) ∙ sym (same-clock-one d (kept k d) (dateIn d) (d .zone) u)
 
 pub kept-of-kind : (k : Kind) (d : DateTime) → kept k d ≡ d → ofKind k d ≡ true
 unfolding ofKind every
@@ -63,7 +50,7 @@ kept-of-kind k d e =
     both-true _ _ (eq-eqb _ _ (ap (λ (x : DateTime). x .year) (sym e)))
     (both-true _ _ (eq-eqb _ _ (ap (λ (x : DateTime). x .month) (sym e)))
     (both-true _ _ (eq-eqb _ _ (ap (λ (x : DateTime). x .day) (sym e)))
-    (both-true _ _ (eq-eqb _ _ (ap (λ (x : DateTime). x .micros) (sym e))) refl)))
+    (both-true _ _ (ap (sameClock d) e ∙ same-clock-self d) refl)))
 
 -- what a kind keeps it keeps again
 pub kept-again : (k : Kind) (d : DateTime) → kept k (kept k d) ≡ kept k d
@@ -87,9 +74,9 @@ module _ (v : Value) (g : okValue v ≡ true) where
   unfolding okValue
   date-time-good d e = ap okValue (sym e) ∙ g
 
-  pub day-time-within : (d : DayTime) → v ≡ VV.DayTime d → d .micros ≤ maxDayTime
+  pub day-time-within : (d : DayTime) → v ≡ VV.DayTime d → ticksIn d ≤ maxDayTime
   unfolding okValue
-  day-time-within d e = signed-within maxDayTime (d .micros) (d .negative) (ap okValue (sym e) ∙ g)
+  day-time-within d e = ticks-to d (ap okValue (sym e) ∙ g)
 
   pub year-month-within : (d : YearMonth) → v ≡ VV.YearMonth d → d .months ≤ maxYearMonth
   unfolding okValue

@@ -1,6 +1,8 @@
 pub mod Answers
-pub mod Good
 pub mod Signs
+pub mod ClockLaws
+pub mod Spans
+pub mod Good
 pub mod KindParts
 pub mod Numbers
 pub mod Cases

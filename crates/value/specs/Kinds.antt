@@ -4,9 +4,11 @@ use mathlib.Core.Bool.{Bool, true, false}
 use mathlib.Core.List.{[], _∷_}
 use lib.Dec.{eqb}
 use Rattle.basis.specs.Choice.{pick, both, every}
-use Rattle.basis.specs.Answer.{Answer, gives, refuses}
+use Rattle.basis.specs.Answer.{Answer, gives, refusesFor, refuses}
+use Rattle.value.specs.Reasons.{reasonOf}
 use Rattle.value.specs.Refusals.{outside}
-use Rattle.value.specs.Values.{okDateTime, okDayTime, okYearMonth}
+use Rattle.value.specs.Clocks.{atClock, atClockOf, sameClock}
+use Rattle.value.specs.Values.{okDateTime, okDayTime, okYearMonth, dateIn}
 use Rattle.value.specs.declared.Zone.the-variants.{Absent}
 use Rattle.value.specs.declared.DateTime.{DateTime}
 use Rattle.value.specs.declared.Kind.{Kind}
@@ -33,18 +35,11 @@ hasTime KV.YearMonthDuration = false
 
 -- what stands for the parts that a kind has not: 1972-12-31T00:00:00, no zone
 abbrev pub template : Kind → DateTime
-template k = record { year = 1972; month = 12; day = 31; micros = 0; zone = Absent }
+template k = atClock (record { year = 1972; month = 12; day = 31 }) 0 Absent
 
 -- what a kind keeps of a record: the parts that it has, and its template's for the others
 abbrev pub kept : Kind → DateTime → DateTime
-kept k d =
-    record {
-      year = pick (hasDate k) (d .year) (template k .year);
-      month = pick (hasDate k) (d .month) (template k .month);
-      day = pick (hasDate k) (d .day) (template k .day);
-      micros = pick (hasTime k) (d .micros) (template k .micros);
-      zone = d .zone;
-    }
+kept k d = atClockOf (dateIn (pick (hasDate k) d (template k))) (pick (hasTime k) d (template k)) (d .zone)
 
 -- a record is of a kind where the kind keeps all of it
 unfoldable pub ofKind : Kind → DateTime → Bool
@@ -53,7 +48,7 @@ ofKind k d =
     (eqb (d .year) (kept k d .year)
     ∷ eqb (d .month) (kept k d .month)
     ∷ eqb (d .day) (kept k d .day)
-    ∷ eqb (d .micros) (kept k d .micros)
+    ∷ sameClock d (kept k d)
     ∷ [])
 
 abbrev pub kindOf : Value → Kind
@@ -74,7 +69,7 @@ okValue (VV.YearMonth d) = okYearMonth d
 -- what an answer says: a value, or the number of a refusal
 abbrev pub meaning : Outcome → Answer Value
 meaning (OV.Is v) = gives v
-meaning (OV.Refused r) = refuses (r .number)
+meaning (OV.Refused r) = refusesFor (reasonOf r)
 
 -- a value that was given, or 16 where it is outside the bounds
 unfoldable pub made : Value → Answer Value

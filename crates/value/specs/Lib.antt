@@ -1,5 +1,8 @@
 pub mod Bounds
 pub mod Refusals
+pub mod Reasons
+pub mod Clocks
 pub mod Values
 pub mod Durations
 pub mod Kinds
+pub mod Carried

@@ -2,6 +2,8 @@
 use crate::DateTime;
 use crate::Kind;
 use crate::Zone;
+use crate::clocks;
+use calendar::Date;
 ghost use mathlib.Core.Path.{_≡_};
 ghost use Rattle.value.specs.Kinds as the;
 
@@ -33,13 +35,12 @@ pub fn has_time(kind: Kind) -> bool
 pub fn template(kind: Kind) -> DateTime
     ensures { λ r. ⌜ r ≡ the.template kind ⌝ }
 {
-    DateTime {
+    let day = Date {
         year: 1972,
         month: 12,
         day: 31,
-        micros: 0,
-        zone: Zone::Absent,
-    }
+    };
+    clocks::of_ticks(day, 0, Zone::Absent)
 }
 
 pub fn kept(kind: Kind, d: DateTime) -> DateTime
@@ -51,30 +52,22 @@ pub fn kept(kind: Kind, d: DateTime) -> DateTime
         if has_time(kind) {
             return d;
         }
-        return DateTime {
+        let own = Date {
             year: d.year,
             month: d.month,
             day: d.day,
-            micros: t.micros,
-            zone,
         };
+        return clocks::at_clock_of(own, t, zone);
     }
-    if has_time(kind) {
-        return DateTime {
-            year: t.year,
-            month: t.month,
-            day: t.day,
-            micros: d.micros,
-            zone,
-        };
-    }
-    DateTime {
+    let day = Date {
         year: t.year,
         month: t.month,
         day: t.day,
-        micros: t.micros,
-        zone,
+    };
+    if has_time(kind) {
+        return clocks::at_clock_of(day, d, zone);
     }
+    clocks::at_clock_of(day, t, zone)
 }
 
 pub fn of_kind(kind: Kind, d: DateTime) -> bool
@@ -90,5 +83,5 @@ pub fn of_kind(kind: Kind, d: DateTime) -> bool
     if d.day != k.day {
         return false;
     }
-    d.micros == k.micros
+    clocks::same(d, k)
 }

@@ -1,11 +1,16 @@
 // The values of the five kinds: records, bounds, makers and validity.
 use calendar::Date;
 ghost use mathlib.Core.Path.{_≡_};
+ghost use Rattle.basis.specs.Answer.{onlyNumber};
+ghost use Rattle.value.specs.Reasons.{reasonOf};
+ghost use Rattle.value.specs.Clocks.{atClock, durationOf};
+ghost use Rattle.value.specs.Values.{dateIn};
 ghost use Rattle.value.specs.Kinds.{made, meaning, kindOf, template};
 ghost use Rattle.value.specs.declared.Kind.the-variants as KV;
 ghost use Rattle.value.specs.declared.Value.the-variants as VV;
 
 pub mod bounds; // bounds.rt: each constant is the number of the definitions
+pub mod clocks; // clocks.rt: the time of day of a record and the size of a duration
 pub mod kinds; // kinds.rt: which parts a kind has
 pub mod valid; // valid.rt: which records are within the bounds
 
@@ -110,6 +115,13 @@ impl Refusal {
     pub const BAD_STEP: u8 = 17;
 
     pub const TOO_MANY: u8 = 18;
+
+    // A refusal of that number and nothing more. No other function makes one.
+    pub fn numbered(number: u8) -> Refusal
+        ensures { λ r. ⌜ reasonOf r ≡ onlyNumber number ⌝ }
+    {
+        Refusal { number }
+    }
 }
 
 impl Span {
@@ -134,55 +146,45 @@ impl DateTime {
 
     pub const MAX_YEAR: u16 = 9999;
 
-    pub const MAX_MICROS: u64 = 86_399_999_999;
+    // The last tick of a day.
+    pub const MAX_CLOCK: u64 = Span::DAY * Span::TICKS as u64 - 1;
 
     pub const MAX_ZONE: u16 = 840;
 
-    pub fn new(year: u16, month: u8, day: u8, micros: u64, zone: Zone) -> Outcome
-        ensures { λ r. ⌜ meaning r ≡ made (VV.DateTime (record { year = year; month = month; day = day; micros = micros; zone = zone })) ⌝ }
+    pub fn new(year: u16, month: u8, day: u8, ticks: u64, zone: Zone) -> Outcome
+        ensures { λ r. ⌜ meaning r ≡ made (VV.DateTime (atClock (record { year = year; month = month; day = day }) ticks zone)) ⌝ }
     {
-        valid::checked(Value::DateTime(DateTime {
-            year,
-            month,
-            day,
-            micros,
-            zone,
-        }))
+        let e = Date { year, month, day };
+        valid::checked(Value::DateTime(clocks::of_ticks(e, ticks, zone)))
     }
 
     pub fn date(year: u16, month: u8, day: u8, zone: Zone) -> Outcome
-        ensures { λ r. ⌜ meaning r ≡ made (VV.Date (record { year = year; month = month; day = day; micros = 0; zone = zone })) ⌝ }
+        ensures { λ r. ⌜ meaning r ≡ made (VV.Date (atClock (record { year = year; month = month; day = day }) 0 zone)) ⌝ }
     {
-        valid::checked(Value::Date(DateTime {
-            year,
-            month,
-            day,
-            micros: 0,
-            zone,
-        }))
+        let e = Date { year, month, day };
+        valid::checked(Value::Date(clocks::of_ticks(e, 0, zone)))
     }
 
-    pub fn time(micros: u64, zone: Zone) -> Outcome
-        ensures { λ r. ⌜ meaning r ≡ made (VV.Time (record { year = template KV.Time .year; month = template KV.Time .month; day = template KV.Time .day; micros = micros; zone = zone })) ⌝ }
+    pub fn time(ticks: u64, zone: Zone) -> Outcome
+        ensures { λ r. ⌜ meaning r ≡ made (VV.Time (atClock (dateIn (template KV.Time)) ticks zone)) ⌝ }
     {
         let t = kinds::template(Kind::Time);
-        valid::checked(Value::Time(DateTime {
+        let e = Date {
             year: t.year,
             month: t.month,
             day: t.day,
-            micros,
-            zone,
-        }))
+        };
+        valid::checked(Value::Time(clocks::of_ticks(e, ticks, zone)))
     }
 }
 
 impl DayTime {
-    pub const MAX: u64 = 1_000_000_000_000_000_000;
+    pub const MAX_SECONDS: u64 = 1_000_000_000_000;
 
-    pub fn new(negative: bool, micros: u64) -> Outcome
-        ensures { λ r. ⌜ meaning r ≡ made (VV.DayTime (record { negative = negative; micros = micros })) ⌝ }
+    pub fn new(negative: bool, ticks: u64) -> Outcome
+        ensures { λ r. ⌜ meaning r ≡ made (VV.DayTime (durationOf negative ticks)) ⌝ }
     {
-        valid::checked(Value::DayTime(DayTime { negative, micros }))
+        valid::checked(Value::DayTime(clocks::duration(negative, ticks)))
     }
 }
 

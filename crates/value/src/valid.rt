@@ -5,15 +5,18 @@ use crate::Kind;
 use crate::Offset;
 use crate::Outcome;
 use crate::Refusal;
+use crate::Span;
 use crate::Value;
 use crate::YearMonth;
 use crate::Zone;
 use crate::kinds;
 ghost use mathlib.Core.Path.{_≡_};
-ghost use Rattle.value.specs.Values.{okDate, okOffset, okZone, okDateTime, okSigned};
+ghost use Rattle.value.specs.Values.{okDate, okOffset, okZone, okTimePart, okDateTime, okSigned, okDayTime};
 ghost use Rattle.value.specs.Kinds.{okValue, made, meaning};
 
 const MONTHS: u8 = calendar::MONTH_COUNT as u8;
+
+const MAX_DAY_TIME: u64 = DayTime::MAX_SECONDS * Span::TICKS as u64;
 
 pub fn date_ok(year: u16, month: u8, day: u8) -> bool
     ensures { λ r. ⌜ r ≡ okDate year month day ⌝ }
@@ -59,13 +62,19 @@ pub fn zone_ok(z: Zone) -> bool
     }
 }
 
+fn time_part_ok(d: DateTime) -> bool
+    ensures { λ r. ⌜ r ≡ okTimePart d ⌝ }
+{
+    d.micros <= DateTime::MAX_CLOCK
+}
+
 pub fn date_time_ok(d: DateTime) -> bool
     ensures { λ r. ⌜ r ≡ okDateTime d ⌝ }
 {
     if !date_ok(d.year, d.month, d.day) {
         return false;
     }
-    if DateTime::MAX_MICROS < d.micros {
+    if !time_part_ok(d) {
         return false;
     }
     let zone = d.zone;
@@ -80,6 +89,12 @@ pub fn signed_ok(bound: u64, negative: bool, n: u64) -> bool
         return false;
     }
     if negative { 0 < n } else { true }
+}
+
+fn day_time_ok(d: DayTime) -> bool
+    ensures { λ r. ⌜ r ≡ okDayTime d ⌝ }
+{
+    signed_ok(MAX_DAY_TIME, d.negative, d.micros)
 }
 
 pub fn value_ok(v: Value) -> bool
@@ -99,7 +114,7 @@ pub fn value_ok(v: Value) -> bool
             kinds::of_kind(Kind::Time, d)
         }
         Value::DateTime(d) => date_time_ok(d),
-        Value::DayTime(d) => signed_ok(DayTime::MAX, d.negative, d.micros),
+        Value::DayTime(d) => day_time_ok(d),
         Value::YearMonth(d) => signed_ok(YearMonth::MAX as u64, d.negative, d.months as u64),
     }
 }
@@ -111,8 +126,6 @@ pub fn checked(v: Value) -> Outcome
     if value_ok(v) {
         Outcome::Is(v)
     } else {
-        Outcome::Refused(Refusal {
-            number: Refusal::OUTSIDE,
-        })
+        Outcome::Refused(Refusal::numbered(Refusal::OUTSIDE))
     }
 }

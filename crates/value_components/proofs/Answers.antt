@@ -1,6 +1,7 @@
 -- Answers of equal meaning are equal, so that a contract on the meaning determines the answer.
 use mathlib.Core.Path.{_≡_, refl, ap}
-use Rattle.basis.specs.Answer.{Answer, gives, refuses}
+use Rattle.basis.specs.Answer.{Answer, gives, refusesFor}
+use Rattle.value.specs.Reasons.{refusalOf}
 use Rattle.value_components.specs.Components as components
 use Rattle.value_components.specs.Components.{ComponentParts, ofDate, ofTime, ofDateTime, ofDuration}
 use Rattle.value_components.specs.declared.Components.{Components}
@@ -11,7 +12,7 @@ componentsFrom (gives (ofDate d z)) = CV.Date d z
 componentsFrom (gives (ofTime c z)) = CV.Time c z
 componentsFrom (gives (ofDateTime d c z)) = CV.DateTime d c z
 componentsFrom (gives (ofDuration l)) = CV.Duration l
-componentsFrom (refuses n) = CV.Refused (record { number = n })
+componentsFrom (refusesFor r) = CV.Refused (refusalOf r)
 
 components-back : (a : Components) → componentsFrom (components.componentsMeaning a) ≡ a
 components-back (CV.Date d z) = refl

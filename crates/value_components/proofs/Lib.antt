@@ -1,3 +1,4 @@
 pub mod SignedNumbers
+pub mod SpanParts
 pub mod PartsGiven
 pub mod Answers

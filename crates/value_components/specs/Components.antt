@@ -4,11 +4,13 @@ use mathlib.Core.Bool.{Bool, true, false}
 use Prim.Native.Nat.{ℕ, _/_, _%_}
 use lib.IntN.{ℤ, pos, negℤ}
 use Rattle.basis.specs.Choice.{pick}
-use Rattle.basis.specs.Answer.{Answer, gives, refuses}
+use Rattle.basis.specs.Answer.{Answer, gives, refusesFor, refuses}
 use Rattle.calendar.specs.Calendar.{monthCount}
 use Rattle.calendar.specs.declared.Date.{Date}
+use Rattle.value.specs.Reasons.{reasonOf}
 use Rattle.value.specs.Bounds.{secondTicks, minuteSeconds, hourMinutes, dayHours, minuteTicks, hourTicks, dayTicks}
 use Rattle.value.specs.Refusals.{outside}
+use Rattle.value.specs.Clocks.{clockOf, ticksIn}
 use Rattle.value.specs.Values.{dateIn}
 use Rattle.value.specs.Kinds.{okValue}
 use Rattle.value.specs.declared.Zone.{Zone}
@@ -33,11 +35,11 @@ componentsMeaning (CV.Date d z) = gives (ofDate d z)
 componentsMeaning (CV.Time c z) = gives (ofTime c z)
 componentsMeaning (CV.DateTime d c z) = gives (ofDateTime d c z)
 componentsMeaning (CV.Duration l) = gives (ofDuration l)
-componentsMeaning (CV.Refused r) = refuses (r .number)
+componentsMeaning (CV.Refused r) = refusesFor (reasonOf r)
 
--- hours, minutes, seconds and their fraction
+-- hours, minutes, seconds and the part of a second
 abbrev pub clockIn : ℕ → Clock
-clockIn t = record { hours = t / hourTicks; minutes = t / minuteTicks % hourMinutes; seconds = t / secondTicks % minuteSeconds; micros = t % secondTicks }
+clockIn t = record { hours = t / hourTicks; minutes = t / minuteTicks % hourMinutes; seconds = t / secondTicks % minuteSeconds; part = t % secondTicks }
 
 -- a number with a duration's sign
 abbrev pub signedNumber : Bool → ℕ → ℤ
@@ -54,14 +56,14 @@ lasting negative months ticks =
       hours = signedNumber negative (ticks / hourTicks % dayHours);
       minutes = signedNumber negative (ticks / minuteTicks % hourMinutes);
       seconds = signedNumber negative (ticks / secondTicks % minuteSeconds);
-      micros = signedNumber negative (ticks % secondTicks);
+      part = signedNumber negative (ticks % secondTicks);
     }
 
 abbrev pub partsOf : Value → ComponentParts
 partsOf (VV.Date d) = ofDate (dateIn d) (d .zone)
-partsOf (VV.Time d) = ofTime (clockIn (d .micros)) (d .zone)
-partsOf (VV.DateTime d) = ofDateTime (dateIn d) (clockIn (d .micros)) (d .zone)
-partsOf (VV.DayTime d) = ofDuration (lasting (d .negative) 0 (d .micros))
+partsOf (VV.Time d) = ofTime (clockIn (clockOf d)) (d .zone)
+partsOf (VV.DateTime d) = ofDateTime (dateIn d) (clockIn (clockOf d)) (d .zone)
+partsOf (VV.DayTime d) = ofDuration (lasting (d .negative) 0 (ticksIn d))
 partsOf (VV.YearMonth d) = ofDuration (lasting (d .negative) (d .months) 0)
 
 unfoldable pub componentsOf : Value → Answer ComponentParts

@@ -5,19 +5,21 @@ use value::Refusal;
 use value::Span;
 use value::Value;
 use value::Zone;
+use value::clocks;
 use value::valid;
 ghost use mathlib.Core.Path.{_≡_};
 ghost use Prim.Native.Nat.{_≤_, _<_, _^_};
-ghost use Rattle.value.specs.Bounds.{maxMicros, maxDayTime};
+ghost use Rattle.value.specs.Bounds.{secondTicks, maxClock, maxDayTime};
+ghost use Rattle.value.specs.Carried.{ticksOf};
 ghost use Rattle.value.specs.Values.{dateIn};
 ghost use Rattle.value_components.specs.Components as the;
 
-// The time of day by its fields.
+// The time of day by its fields, the last a part of a second in ticks.
 pub struct Clock {
     pub hours: u8,
     pub minutes: u8,
     pub seconds: u8,
-    pub micros: u32,
+    pub part: u32,
 }
 
 // The six parts of a duration, the seconds with their fraction beside them. None is above zero if the duration is negative,
@@ -29,7 +31,7 @@ pub struct Lasting {
     pub hours: i32,
     pub minutes: i32,
     pub seconds: i32,
-    pub micros: i32,
+    pub part: i32,
 }
 
 // The parts that a value's kind has.
@@ -53,16 +55,16 @@ fn date_in(d: DateTime) -> Date
     }
 }
 
-fn clock_in(t: u64) -> Clock
-    requires { ⌜ t ≤ maxMicros ⌝ }
-    ensures { λ r. ⌜ r ≡ the.clockIn t ⌝ }
+fn clock_in(t: Span) -> Clock
+    requires { ⌜ (t .part < secondTicks) × (ticksOf t ≤ maxClock) ⌝ }
+    ensures { λ r. ⌜ r ≡ the.clockIn (ticksOf t) ⌝ }
 {
-    let parts = Span::TICKS as u64;
+    let s = t.seconds;
     Clock {
-        hours: (t / (Span::HOUR * parts)) as u8,
-        minutes: (t / (Span::MINUTE * parts) % Span::HOUR_MINUTES) as u8,
-        seconds: (t / parts % Span::MINUTE) as u8,
-        micros: (t % parts) as u32,
+        hours: (s / Span::HOUR) as u8,
+        minutes: (s / Span::MINUTE % Span::HOUR_MINUTES) as u8,
+        seconds: (s % Span::MINUTE) as u8,
+        part: t.part,
     }
 }
 
@@ -75,24 +77,18 @@ fn signed(negative: bool, n: u32) -> i32
     if negative { 0 - m } else { m }
 }
 
-fn six_parts(negative: bool, months: u32, ticks: u64) -> Lasting
-    requires { ⌜ (months < 2 ^ 31) × (ticks ≤ maxDayTime) ⌝ }
-    ensures { λ r. ⌜ r ≡ the.lasting negative months ticks ⌝ }
+fn six_parts(negative: bool, months: u32, t: Span) -> Lasting
+    requires { ⌜ (months < 2 ^ 31) × (t .part < secondTicks) × (ticksOf t ≤ maxDayTime) ⌝ }
+    ensures { λ r. ⌜ r ≡ the.lasting negative months (ticksOf t) ⌝ }
 {
-    let parts = Span::TICKS as u64;
+    let s = t.seconds;
     let years = signed(negative, months / MONTHS);
     let months = signed(negative, months % MONTHS);
-    let days = signed(negative, (ticks / (Span::DAY * parts)) as u32);
-    let hours = signed(
-        negative,
-        (ticks / (Span::HOUR * parts) % Span::DAY_HOURS) as u32,
-    );
-    let minutes = signed(
-        negative,
-        (ticks / (Span::MINUTE * parts) % Span::HOUR_MINUTES) as u32,
-    );
-    let seconds = signed(negative, (ticks / parts % Span::MINUTE) as u32);
-    let micros = signed(negative, (ticks % parts) as u32);
+    let days = signed(negative, (s / Span::DAY) as u32);
+    let hours = signed(negative, (s / Span::HOUR % Span::DAY_HOURS) as u32);
+    let minutes = signed(negative, (s / Span::MINUTE % Span::HOUR_MINUTES) as u32);
+    let seconds = signed(negative, (s % Span::MINUTE) as u32);
+    let part = signed(negative, t.part);
     Lasting {
         years,
         months,
@@ -100,7 +96,7 @@ fn six_parts(negative: bool, months: u32, ticks: u64) -> Lasting
         hours,
         minutes,
         seconds,
-        micros,
+        part,
     }
 }
 
@@ -108,9 +104,7 @@ pub fn of_value(v: Value) -> Components
     ensures { λ r. ⌜ the.componentsMeaning r ≡ the.componentsOf v ⌝ }
 {
     if !valid::value_ok(v) {
-        return Components::Refused(Refusal {
-            number: Refusal::OUTSIDE,
-        });
+        return Components::Refused(Refusal::numbered(Refusal::OUTSIDE));
     }
     match v {
         Value::Date(d) => {
@@ -119,13 +113,17 @@ pub fn of_value(v: Value) -> Components
         }
         Value::Time(d) => {
             let zone = d.zone;
-            Components::Time(clock_in(d.micros), zone)
+            Components::Time(clock_in(clocks::clock(d)), zone)
         }
         Value::DateTime(d) => {
             let zone = d.zone;
-            Components::DateTime(date_in(d), clock_in(d.micros), zone)
+            Components::DateTime(date_in(d), clock_in(clocks::clock(d)), zone)
         }
-        Value::DayTime(d) => Components::Duration(six_parts(d.negative, 0, d.micros)),
-        Value::YearMonth(d) => Components::Duration(six_parts(d.negative, d.months, 0)),
+        Value::DayTime(d) => Components::Duration(six_parts(d.negative, 0, clocks::size(d))),
+        Value::YearMonth(d) => Components::Duration(six_parts(
+            d.negative,
+            d.months,
+            clocks::span(0),
+        )),
     }
 }

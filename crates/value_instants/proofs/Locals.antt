@@ -10,18 +10,19 @@ use Rattle.basis.proofs.Tests.{both-left, both-right, both-true}
 use Rattle.calendar.specs.declared.Date.{Date}
 use Rattle.calendar.specs.Calendar.{GoodDate, dayNumber, dayOf, dateOf}
 use Rattle.calendar.proofs.Dates.{date-day, date-good, day-date}
-use Rattle.value.specs.Bounds.{minYear, maxYear, maxMicros, dayTicks}
-use Rattle.value.specs.Values.{okZone, okDateTime}
-use Rattle.value.specs.Values.{dateIn}
+use Rattle.value.specs.Bounds.{minYear, maxYear, maxClock, dayTicks}
+use Rattle.value.specs.Clocks.{clockOf, atClock}
+use Rattle.value.specs.Values.{okZone, okDateTime, dateIn}
 use Rattle.value_instants.specs.Ticks.{localOf, atLocal, inYears, placedAt}
 use Rattle.value.specs.declared.Zone.{Zone}
 use Rattle.value.specs.declared.DateTime.{DateTime}
 use Rattle.value_instants.specs.declared.Placed.the-variants as PV
+use Rattle.value.proofs.ClockLaws.{clock-at, at-its-clock, clock-to, time-part-at}
 use Rattle.value.proofs.Good.{Good, GoodDay, good, record-ok}
 
 pub local-of-placed : (t : ℕ) (z : Zone) → localOf (atLocal t z) ≡ t
 unfolding localOf
-local-of-placed t z = omega (arith, day-date (t / dayTicks))
+local-of-placed t z = omega (arith, day-date (t / dayTicks), clock-at (dateOf (t / dayTicks)) (t % dayTicks) z)
 
 pub placed-ok : (t : ℕ) (z : Zone) → inYears t ≡ true → okZone z ≡ true → okDateTime (atLocal t z) ≡ true
 unfolding inYears
@@ -34,7 +35,7 @@ placed-ok t z e h =
             year-from = leb-true _ _ (both-left _ _ e);
             year-to = leb-true _ _ (both-right _ _ e);
           };
-      micros-to = omega arith;
+      time = time-part-at (dateOf (t / dayTicks)) (t % dayTicks) z (omega arith);
       zone = h;
     })
 
@@ -44,25 +45,25 @@ unfolding placedAt
 placed-there t z e = λ i. pick (e i) (PV.At (atLocal t z)) PV.Beyond
 
 -- the day and the time of day of a local time
-day-of-local : (n u : ℕ) → u ≤ maxMicros → (n * dayTicks + u) / dayTicks ≡ n
+day-of-local : (n u : ℕ) → u ≤ maxClock → (n * dayTicks + u) / dayTicks ≡ n
 day-of-local n u h = omega arith
 
-time-of-local : (n u : ℕ) → u ≤ maxMicros → (n * dayTicks + u) % dayTicks ≡ u
+time-of-local : (n u : ℕ) → u ≤ maxClock → (n * dayTicks + u) % dayTicks ≡ u
 time-of-local n u h = omega arith
 
 date-of-local : (d : DateTime) → okDateTime d ≡ true → dateOf (localOf d / dayTicks) ≡ dateIn d
 unfolding localOf
 date-of-local d e =
     let g = good d e in
-    ap dateOf (day-of-local (dayOf (dateIn d)) (d .micros) (g .micros-to)) ∙ date-day (dateIn d) (g .day .date)
+    ap dateOf (day-of-local (dayOf (dateIn d)) (clockOf d) (clock-to d (g .time))) ∙ date-day (dateIn d) (g .day .date)
 
 pub placed-of-local : (d : DateTime) → okDateTime d ≡ true → atLocal (localOf d) (d .zone) ≡ d
 unfolding localOf
 placed-of-local d e =
     let g = good d e in
     let b : dateOf (localOf d / dayTicks) ≡ dateIn d = date-of-local d e in
-    let u : localOf d % dayTicks ≡ d .micros = time-of-local (dayOf (dateIn d)) (d .micros) (g .micros-to) in
-    λ i. record { year = b i .year; month = b i .month; day = b i .day; micros = u i; zone = d .zone }
+    let u : localOf d % dayTicks ≡ clockOf d = time-of-local (dayOf (dateIn d)) (clockOf d) (clock-to d (g .time)) in
+    (λ i. atClock (b i) (u i) (d .zone)) ∙ at-its-clock d (g .time)
 
 pub local-in-years : (d : DateTime) → okDateTime d ≡ true → inYears (localOf d) ≡ true
 unfolding inYears

@@ -11,6 +11,7 @@ use Rattle.calendar.specs.declared.Dated.the-variants.{On, Later}
 use Rattle.calendar.specs.Calendar.{dateOf, datedOf}
 use Rattle.calendar.proofs.Answers.{on-says, later-says, OnTime}
 use Rattle.value.specs.Bounds.{minYear, maxYear, secondTicks, dayTicks}
+use Rattle.value.specs.Clocks.{atClock}
 use Rattle.value_instants.specs.Ticks.{atLocal, inYears, placedAt}
 use Rattle.value.specs.declared.Zone.{Zone}
 use Rattle.value.specs.declared.DateTime.{DateTime}
@@ -28,15 +29,14 @@ module _ (s p : ℕ) (z : Zone) (small : p < secondTicks) where
   same-time = omega arith
 
   pub placed-on : (d : Date) → On d ≡ datedOf (s / 86400) maxYear → minYear ≤ d .year
-      → PV.At (record { year = d .year; month = d .month; day = d .day; micros = s % 86400 * secondTicks + p; zone = z }) ≡ placedAt now-ticks z
+      → PV.At (atClock d (s % 86400 * secondTicks + p) z) ≡ placedAt now-ticks z
   unfolding placedAt inYears both
   placed-on d e h =
       let o : OnTime (s / 86400) maxYear d = on-says (s / 86400) maxYear d (sym e) in
       let q : d ≡ dateOf (now-ticks / dayTicks) = o .date ∙ ap dateOf same-day in
       let a : leb minYear (dateOf (now-ticks / dayTicks) .year) ≡ true = ap (λ (x : Date). leb minYear (x .year)) (sym q) ∙ le-leb _ _ h in
       let b : leb (dateOf (now-ticks / dayTicks) .year) maxYear ≡ true = ap (λ (x : Date). leb (x .year) maxYear) (sym q) ∙ le-leb _ _ (o .year-to) in
-      let r : record { year = d .year; month = d .month; day = d .day; micros = s % 86400 * secondTicks + p; zone = z } ≡ atLocal now-ticks z
-      = λ i. record { year = q i .year; month = q i .month; day = q i .day; micros = same-time i; zone = z } in
+      let r : atClock d (s % 86400 * secondTicks + p) z ≡ atLocal now-ticks z = λ i. atClock (q i) (same-time i) z in
       ap PV.At r ∙ sym (λ i. pick (both (a i) (b i)) (PV.At (atLocal now-ticks z)) PV.Beyond)
 
   pub placed-early : (d : Date) → On d ≡ datedOf (s / 86400) maxYear → d .year < minYear → PV.Beyond ≡ placedAt now-ticks z

@@ -8,23 +8,11 @@ use borrow.Author.Tests.{lt-ltb, le-ltb, ltb-true, ltb-false}
 use mathlib.Core.Bool.{Bool, true, false}
 use Rattle.value.specs.Bounds.{secondTicks, dayTicks}
 use Rattle.value_instants.specs.Ticks.{instantAt}
-use Rattle.value_instants.specs.Carried.{ticksOf, spanOf}
+use Rattle.value.specs.Carried.{spanOf}
+use Rattle.value.proofs.Spans.{span-is}
 use Rattle.value.specs.declared.Offset.{Offset}
 use Rattle.value.specs.declared.Offset.the-variants.{East, West}
 use Rattle.value.specs.declared.Span.{Span}
-
--- the one span with a number of ticks
-pub span-is : (s p t : ℕ) → p < secondTicks → s * secondTicks + p ≡ t → record { seconds = s; part = p } ≡ spanOf t
-span-is s p t h e =
-    let es : s ≡ t / secondTicks = omega arith in
-    let ep : p ≡ t % secondTicks = omega arith in
-    λ i. record { seconds = es i; part = ep i }
-
-pub span-ticks : (t : ℕ) → ticksOf (spanOf t) ≡ t
-span-ticks t = omega arith
-
-pub span-part : (t : ℕ) → spanOf t .part < secondTicks
-span-part t = omega arith
 
 -- spans of equally many seconds are in the order of their parts
 pub order-by-part : (s t p q : ℕ) → s ≡ t → ltb p q ≡ ltb (s * secondTicks + p) (t * secondTicks + q)
@@ -56,13 +44,3 @@ span-east s p m o h k e = span-is (s - m * 60) p (instantAt (s * secondTicks + p
 
 pub span-west : (s p m : ℕ) (o : Offset) → p < secondTicks → o ≡ West m → record { seconds = s + m * 60; part = p } ≡ spanOf (instantAt (s * secondTicks + p) o)
 span-west s p m o h e = span-is (s + m * 60) p (instantAt (s * secondTicks + p) (West m)) h (omega arith) ∙ (λ i. spanOf (instantAt (s * secondTicks + p) (sym e i)))
-
--- what the span of a number of ticks has
-pub record HasTicks (s : Span) (t : ℕ) : Type 0 where
-  pub ticks : ticksOf s ≡ t
-  pub part : s .part < secondTicks
-
-pub has-ticks : (s : Span) (t : ℕ) → s ≡ spanOf t → HasTicks s t
-has-ticks s t e =
-    let p : s .part ≡ t % secondTicks = ap (λ (x : Span). x .part) e in
-    record { ticks = ap (λ (x : Span). ticksOf x) e ∙ span-ticks t; part = omega arith }

@@ -1,2 +1,1 @@
 pub mod Ticks
-pub mod Carried

@@ -10,7 +10,8 @@ use Rattle.value.specs.declared.Offset.{Offset}
 use Rattle.value.specs.declared.Offset.the-variants.{East, West}
 use Rattle.value.specs.declared.Zone.{Zone}
 use Rattle.value.specs.declared.Zone.the-variants.{Absent, At}
-use Rattle.value.specs.Durations.{plusHalf}
+use Rattle.value.specs.Clocks.{clockOf, atClock}
+use Rattle.value.specs.Durations.{plusTicks}
 use Rattle.value.specs.declared.DateTime.{DateTime}
 use Rattle.value.specs.declared.Value.{Value}
 use Rattle.value.specs.declared.Value.the-variants as VV
@@ -18,7 +19,7 @@ use Rattle.value_instants.specs.declared.Placed.{Placed}
 use Rattle.value_instants.specs.declared.Placed.the-variants as P
 
 unfoldable pub localOf : DateTime → ℕ
-localOf d = dayNumber (d .year) (d .month) (d .day) * dayTicks + d .micros
+localOf d = dayNumber (d .year) (d .month) (d .day) * dayTicks + clockOf d
 
 -- the minutes that an offset is east of UTC, and west of it
 abbrev pub east : Offset → ℕ
@@ -47,14 +48,7 @@ instantOf o d = instantAt (localOf d) (offsetIn o (d .zone))
 
 -- the record with a local time
 abbrev pub atLocal : ℕ → Zone → DateTime
-atLocal t z =
-    record {
-      year = dateOf (t / dayTicks) .year;
-      month = dateOf (t / dayTicks) .month;
-      day = dateOf (t / dayTicks) .day;
-      micros = t % dayTicks;
-      zone = z;
-    }
+atLocal t z = atClock (dateOf (t / dayTicks)) (t % dayTicks) z
 
 -- whether a local time lies within the years
 unfoldable pub inYears : ℕ → Bool
@@ -74,5 +68,5 @@ abbrev pub forwardOf : Value → ℕ
 forwardOf (VV.Date d) = 0
 forwardOf (VV.Time d) = 0
 forwardOf (VV.DateTime d) = 0
-forwardOf (VV.DayTime t) = plusHalf (t .negative) (t .micros)
+forwardOf (VV.DayTime t) = plusTicks t
 forwardOf (VV.YearMonth m) = 0

@@ -5,25 +5,7 @@ ghost use mathlib.Core.Path.{_≡_};
 ghost use Prim.Native.Nat.{_+_, _-_, _*_, _≤_, _<_, _^_};
 ghost use lib.Dec.{ltb};
 ghost use Rattle.value.specs.Bounds.{secondTicks};
-ghost use Rattle.value_instants.specs.Carried.{ticksOf, spanOf};
-
-// Records keep microseconds: from them, and back.
-pub fn from_micros(micros: u64) -> Span
-    ensures { λ r. ⌜ r ≡ spanOf micros ⌝ }
-{
-    let parts = Span::TICKS as u64;
-    Span {
-        seconds: micros / parts,
-        part: (micros % parts) as u32,
-    }
-}
-
-pub fn to_micros(s: Span) -> u64
-    requires { ⌜ ticksOf s < 2 ^ 64 ⌝ }
-    ensures { λ r. ⌜ r ≡ ticksOf s ⌝ }
-{
-    s.seconds * Span::TICKS as u64 + s.part as u64
-}
+ghost use Rattle.value.specs.Carried.{ticksOf, spanOf};
 
 pub fn is_less(a: Span, b: Span) -> bool
     requires { ⌜ (a .part < secondTicks) × (b .part < secondTicks) ⌝ }

@@ -1,6 +1,5 @@
 // Local time and UTC instant of a record, and the record at a local time.
 use crate::Placed;
-use crate::spans;
 use calendar::Date;
 use calendar::Dated;
 use value::DateTime;
@@ -8,13 +7,14 @@ use value::Offset;
 use value::Span;
 use value::Value;
 use value::Zone;
+use value::clocks;
 ghost use mathlib.Core.Path.{_≡_};
 ghost use mathlib.Core.Bool.{true};
 ghost use Prim.Native.Nat.{_*_, _≤_, _<_, _^_};
 ghost use Rattle.value.specs.Bounds.{secondTicks, minuteSeconds, maxZone};
 ghost use Rattle.value.specs.Values.{okOffset, okDateTime};
 ghost use Rattle.value_instants.specs.Ticks.{localOf, offsetIn, instantAt, instantOf, placedAt, pastYears, forwardOf};
-ghost use Rattle.value_instants.specs.Carried.{ticksOf, spanOf};
+ghost use Rattle.value.specs.Carried.{ticksOf, spanOf};
 ghost use Rattle.value_instants.specs.Ticks as the;
 
 pub fn local(d: DateTime) -> Span
@@ -26,7 +26,7 @@ pub fn local(d: DateTime) -> Span
         month: d.month,
         day: d.day,
     });
-    let t = spans::from_micros(d.micros);
+    let t = clocks::clock(d);
     Span {
         seconds: n * Span::DAY + t.seconds,
         part: t.part,
@@ -92,13 +92,11 @@ pub fn placed(t: Span, zone: Zone) -> Placed
             if d.year < DateTime::MIN_YEAR {
                 return Placed::Beyond;
             }
-            Placed::At(DateTime {
-                year: d.year,
-                month: d.month,
-                day: d.day,
-                micros: seconds % Span::DAY * Span::TICKS as u64 + t.part as u64,
-                zone,
-            })
+            let time = Span {
+                seconds: seconds % Span::DAY,
+                part: t.part,
+            };
+            Placed::At(clocks::at(d, time, zone))
         }
     }
 }
@@ -121,15 +119,15 @@ pub fn forward(v: Value) -> Span
     ensures { λ r. ⌜ r ≡ spanOf (forwardOf v) ⌝ }
 {
     match v {
-        Value::Date(_) => spans::from_micros(0),
-        Value::Time(_) => spans::from_micros(0),
-        Value::DateTime(_) => spans::from_micros(0),
-        Value::YearMonth(_) => spans::from_micros(0),
+        Value::Date(_) => clocks::span(0),
+        Value::Time(_) => clocks::span(0),
+        Value::DateTime(_) => clocks::span(0),
+        Value::YearMonth(_) => clocks::span(0),
         Value::DayTime(d) => {
             if d.negative {
-                return spans::from_micros(0);
+                return clocks::span(0);
             }
-            spans::from_micros(d.micros)
+            clocks::size(d)
         }
     }
 }

@@ -1,5 +1,5 @@
-use borrow.Author.Needs.{needs}
 use Rattle.condition.proofs.Ways.{judge-bad, judge-got}
+use borrow.Author.Needs.{needs}
 use Rattle.condition.proofs.judge.Statement.{statement}
 use Rattle.condition.proofs.judge.Tie as tie
 
@@ -8,6 +8,9 @@ whole-requires c κs = search needs
 
 enum-told : tie.Need-enum-told
 enum-told c = search needs
+
+unreadable-requires : tie.Need-unreadable-requires
+unreadable-requires c κs = search needs
 
 enum-known-part : tie.Need-enum-known-part
 enum-known-part c = search needs
@@ -27,6 +30,7 @@ judge-spec =
     (tie.spec
     whole-requires
     enum-told
+    unreadable-requires
     enum-known-part
     judged-of-requires
     returns

@@ -2,14 +2,18 @@ use Rattle.condition.proofs.Ways.{shows-nothing, shows-value, shows-hit
 use borrow.Author.Needs.{needs}
 use Rattle.condition.proofs.judged_of.Statement.{statement}
 use Rattle.condition.proofs.judged_of.Tie as tie
-use Rattle.condition.proofs.judged_of.Reads as reads
-use Rattle.condition.proofs.judged_of.Lts as lts
 
 enum-told : tie.Need-enum-told
 enum-told c = search needs
 
+unreadable-requires : tie.Need-unreadable-requires
+unreadable-requires c κs = search needs
+
 enum-told-2 : tie.Need-enum-told-2
 enum-told-2 c = search needs
+
+unreadable-requires-2 : tie.Need-unreadable-requires-2
+unreadable-requires-2 c κs = search needs
 
 enum-known-given : tie.Need-enum-known-given
 enum-known-given c = search needs
@@ -37,7 +41,9 @@ judged-of-spec =
     tie.close
     (tie.spec
     enum-told
+    unreadable-requires
     enum-told-2
+    unreadable-requires-2
     enum-known-given
     returns
     enum-known-given-2

@@ -13,9 +13,12 @@ use Rattle.desk_seat.proofs.free.Reads as free-reads
 free-requires : tie.Need-free-requires
 free-requires c κs = search needs
 
+numbered-requires : tie.Need-numbered-requires
+numbered-requires c κs = search needs
+
 returns : tie.Need-returns
 unfolding freshOf
-returns c = simp (c .before .free .ensures, lt-leb _ _ (c .if1 .taken))
+returns c = simp (c .numbered .ensures, c .before .before .free .ensures, lt-leb _ _ (c .before .if1 .taken))
 
 sub-t9 : tie.Need-sub-t9
 sub-t9 c = search needs
@@ -25,4 +28,4 @@ unfolding freshOf
 returns-2 c = simp (c .before .free .ensures, le-leb _ _ (c .if1 .left))
 
 pub fresh-spec : {M : Type 1} → statement M
-fresh-spec = tie.close (tie.spec free-requires returns sub-t9 returns-2)
+fresh-spec = tie.close (tie.spec free-requires numbered-requires returns sub-t9 returns-2)

@@ -3,7 +3,7 @@ use borrow.Author.Tests.{lt-ltb, le-ltb, le-leb, lt-leb, eq-eqb, ne-eqb}
 use native.Mathlib.Omega.{arith}
 use mathlib.Core.Path.{_≡_, refl, sym, ap, _∙_}
 use Prim.Native.Nat.{ℕ, _<_, _≤_, _+_, _%_}
-use Rattle.basis.specs.Answer.{Answer, gives, refuses}
+use Rattle.basis.specs.Answer.{Answer, gives}
 use Rattle.desk_seat.specs.Conditions.{Result, hit, miss, unreadable}
 use Rattle.desk_seat.specs.Serving.{judgedAs}
 use borrow.Author.Needs.{needs}

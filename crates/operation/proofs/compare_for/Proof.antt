@@ -8,9 +8,12 @@ use Rattle.operation.proofs.compare_for.Tie as tie
 offset-ok-requires : tie.Need-offset-ok-requires
 offset-ok-requires c κs = search needs
 
+numbered-requires : tie.Need-numbered-requires
+numbered-requires c κs = search needs
+
 returns : tie.Need-returns
 unfolding orderFor
-returns c = simp (no (c .before .offset-ok .ensures) (c .if1 .taken))
+returns c = simp (c .numbered .ensures, no (c .before .before .offset-ok .ensures) (c .before .if1 .taken))
 
 compare-in-requires : tie.Need-compare-in-requires
 compare-in-requires c κs = good (c .before .offset-ok .ensures) (c .if1 .left)
@@ -20,4 +23,4 @@ unfolding orderFor
 returns-2 c = simp (← c .compare-in .ensures, good (c .before .before .offset-ok .ensures) (c .before .if1 .left))
 
 pub compare-for-spec : {M : Type 1} → statement M
-compare-for-spec = tie.close (tie.spec offset-ok-requires returns compare-in-requires returns-2)
+compare-for-spec = tie.close (tie.spec offset-ok-requires numbered-requires returns compare-in-requires returns-2)

@@ -16,11 +16,8 @@ instant-requires c κs = (moment-good _ _ (c .before .before .before .before .pr
 enum-known-x-2 : tie.Need-enum-known-x-2
 enum-known-x-2 c = search needs
 
-plus-half-requires : tie.Need-plus-half-requires
-plus-half-requires c κs = search needs
-
-from-micros-requires : tie.Need-from-micros-requires
-from-micros-requires c κs = search needs
+plus-ticks-requires : tie.Need-plus-ticks-requires
+plus-ticks-requires c κs = search needs
 
 enum-known-x-3 : tie.Need-enum-known-x-3
 enum-known-x-3 c = search needs
@@ -28,11 +25,11 @@ enum-known-x-3 c = search needs
 cast-plus-half : tie.Need-cast-plus-half
 cast-plus-half c = search needs
 
-plus-half-requires-2 : tie.Need-plus-half-requires-2
-plus-half-requires-2 c κs = search needs
+plus-half-requires : tie.Need-plus-half-requires
+plus-half-requires c κs = search needs
 
-from-micros-requires-2 : tie.Need-from-micros-requires-2
-from-micros-requires-2 c κs = search needs
+span-requires : tie.Need-span-requires
+span-requires c κs = search needs
 
 returns : tie.Need-returns
 unfolding up
@@ -40,11 +37,11 @@ returns c = simp (← c .instant .ensures, c .before .before .x .given .1, ← c
 
 returns-2 : tie.Need-returns-2
 unfolding up
-returns-2 c = simp (← c .from-micros .ensures, ← c .before .plus-half .ensures, c .before .before .before .x2 .given .1, ← c .before .before .before .before .before .operand .ensures)
+returns-2 c = simp (← c .plus-ticks .ensures, c .before .before .x2 .given .1, ← c .before .before .before .before .operand .ensures)
 
 returns-3 : tie.Need-returns-3
 unfolding up
-returns-3 c = simp (← c .from-micros2 .ensures, ← c .before .plus-half2 .ensures, c .before .before .before .before .x3 .given .1, ← c .before .before .before .before .before .before .operand .ensures)
+returns-3 c = simp (← c .span .ensures, ← c .before .plus-half .ensures, c .before .before .before .before .x3 .given .1, ← c .before .before .before .before .before .before .operand .ensures)
 
 pub up-spec : {M : Type 1} → statement M
 up-spec =
@@ -54,12 +51,11 @@ up-spec =
     enum-known-x
     instant-requires
     enum-known-x-2
-    plus-half-requires
-    from-micros-requires
+    plus-ticks-requires
     enum-known-x-3
     cast-plus-half
-    plus-half-requires-2
-    from-micros-requires-2
+    plus-half-requires
+    span-requires
     returns
     returns-2
     returns-3)

@@ -4,7 +4,7 @@ use native.Mathlib.Omega.{arith}
 use borrow.Author.Tests.{ltb-true}
 use Rattle.basis.proofs.Tests.{no, yes}
 use Rattle.value_instants.specs.Ticks.{placedAt}
-use Rattle.value_instants.proofs.TwoParts.{has-ticks}
+use Rattle.value.proofs.Spans.{has-ticks}
 use Rattle.run_times.specs.Occurrences.{countOf}
 use Rattle.run_times.specs.Carried.{spanTimes}
 use Rattle.run_cases.proofs.Showing.{placed-is, placed-not, in-years, there-shown, gone-shown}

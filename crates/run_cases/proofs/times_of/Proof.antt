@@ -4,8 +4,8 @@ use native.Mathlib.Omega.{arith}
 use Rattle.value.specs.Values.{okOffset}
 use Rattle.value.proofs.Good.{good}
 use Rattle.value_instants.specs.Ticks.{localOf, instantAt, instantOf, offsetIn}
-use Rattle.value_instants.specs.Carried.{ticksOf, spanOf}
-use Rattle.value_instants.proofs.TwoParts.{span-ticks, has-ticks}
+use Rattle.value.specs.Carried.{ticksOf, spanOf}
+use Rattle.value.proofs.Spans.{span-ticks, has-ticks}
 use Rattle.value_instants.proofs.Within.{timed}
 use Rattle.value_instants.proofs.Instants.{offset-good}
 use borrow.Author.Needs.{needs}

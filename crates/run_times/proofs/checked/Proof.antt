@@ -17,21 +17,27 @@ use Rattle.value_instants.proofs.spans.is_less.Reads as is-less-reads
 is-less-requires : tie.Need-is-less-requires
 is-less-requires c κs = search needs
 
+refused-requires : tie.Need-refused-requires
+refused-requires c κs = search needs
+
 returns : tie.Need-returns
 returns c =
-    let b = c .before .before .before in
-    refused-step (spanTimes (b .args .r)) (ltb-false _ _ (no (c .before .is-less .ensures) (c .if1 .taken)))
+    let b = c .before .before .before .before in
+    c .refused .ensures ∙ refused-step (spanTimes (b .args .r)) (ltb-false _ _ (no (c .before .before .is-less .ensures) (c .before .if1 .taken)))
 
 reached-requires : tie.Need-reached-requires
 reached-requires c κs =
     (record { good = c .before .before .before .pre; above = ltb-true _ _ (yes (c .before .is-less .ensures) (c .if1 .left)) }, omega arith)
 
+refused-requires-2 : tie.Need-refused-requires-2
+refused-requires-2 c κs = search needs
+
 returns-2 : tie.Need-returns-2
 returns-2 c =
-    let d = c .before .before in
+    let d = c .before .before .before in
     let b = d .before .before .before in
-    refused-many (spanTimes (b .args .r)) (ltb-true _ _ (yes (d .before .is-less .ensures) (d .if1 .left)))
-    (ltb-true _ _ (sym (c .before .reached .ensures) ∙ c .if2 .taken))
+    c .refused2 .ensures ∙ refused-many (spanTimes (b .args .r)) (ltb-true _ _ (yes (d .before .is-less .ensures) (d .if1 .left)))
+    (ltb-true _ _ (sym (c .before .before .reached .ensures) ∙ c .before .if2 .taken))
 
 some-passes-requires : tie.Need-some-passes-requires
 some-passes-requires c κs =
@@ -41,14 +47,17 @@ some-passes-requires c κs =
       ltb-false _ _ (sym (c .before .reached .ensures) ∙ c .if2 .left),
     )
 
+refused-requires-3 : tie.Need-refused-requires-3
+refused-requires-3 c κs = search needs
+
 returns-3 : tie.Need-returns-3
 returns-3 c =
-    let f = c .before .before in
+    let f = c .before .before .before in
     let d = f .before .before in
     let b = d .before .before .before in
-    refused-beyond (spanTimes (b .args .r)) (ltb-true _ _ (yes (d .before .is-less .ensures) (d .if1 .left)))
+    c .refused3 .ensures ∙ refused-beyond (spanTimes (b .args .r)) (ltb-true _ _ (yes (d .before .is-less .ensures) (d .if1 .left)))
     (ltb-false _ _ (sym (f .before .reached .ensures) ∙ f .if2 .left))
-    (sym (c .before .some-passes .ensures) ∙ c .if3 .taken)
+    (sym (c .before .before .some-passes .ensures) ∙ c .before .if3 .taken)
 
 returns-4 : tie.Need-returns-4
 returns-4 c =
@@ -64,9 +73,9 @@ checked-spec =
     tie.close
     (tie.spec
     is-less-requires
-    returns
+    refused-requires returns
     reached-requires
-    returns-2
+    refused-requires-2 returns-2
     some-passes-requires
-    returns-3
+    refused-requires-3 returns-3
     returns-4)

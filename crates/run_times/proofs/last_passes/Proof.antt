@@ -1,6 +1,6 @@
 use mathlib.Core.Path.{ap, _∙_}
 use Rattle.value_instants.specs.Ticks.{pastYears}
-use Rattle.value_instants.proofs.TwoParts.{has-ticks}
+use Rattle.value.proofs.Spans.{has-ticks}
 use Rattle.run_times.specs.Carried.{spanTimes}
 use Rattle.run_times.proofs.Passing as laws
 use borrow.Author.Needs.{needs}

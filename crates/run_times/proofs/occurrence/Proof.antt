@@ -1,7 +1,7 @@
 use Prim.Native.Nat.{_+_}
 use mathlib.Core.Path.{_∙_}
 use native.Mathlib.Omega.{arith}
-use Rattle.value_instants.specs.Carried.{ticksOf, spanOf}
+use Rattle.value.specs.Carried.{ticksOf, spanOf}
 use Rattle.run_times.proofs.OnSpans.{steps-fit, steps}
 use Rattle.run_times.proofs.occurrence.Statement.{statement}
 use Rattle.run_times.proofs.occurrence.Tie as tie

@@ -1,7 +1,7 @@
 use mathlib.Core.Path.{sym, _∙_}
 use mathlib.Core.Bool.{true, false}
 use native.Mathlib.Omega.{arith}
-use Rattle.value_instants.proofs.TwoParts.{has-ticks}
+use Rattle.value.proofs.Spans.{has-ticks}
 use Rattle.run_times.proofs.OnSpans.{steps-fit, steps, reached-says}
 use Rattle.run_times.proofs.reached.Statement.{statement}
 use Rattle.run_times.proofs.reached.Tie as tie

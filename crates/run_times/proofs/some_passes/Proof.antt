@@ -3,9 +3,9 @@ use mathlib.Core.Path.{_≡_, ap, sym, _∙_}
 use native.Mathlib.Omega.{arith}
 use borrow.Author.Tests.{ltb-true, ltb-false}
 use Rattle.basis.proofs.Tests.{no}
-use Rattle.value_instants.specs.Carried.{ticksOf}
+use Rattle.value.specs.Carried.{ticksOf}
 use Rattle.value_instants.specs.Ticks.{pastYears}
-use Rattle.value_instants.proofs.TwoParts.{has-ticks}
+use Rattle.value.proofs.Spans.{has-ticks}
 use Rattle.run_times.specs.Carried.{spanTimes}
 use Rattle.run_times.proofs.Counts.{one-there}
 use Rattle.run_times.proofs.Passing.{passes-empty, none-passes}

@@ -1,5 +1,6 @@
 use Rattle.text.proofs.Rooms.{outside-leaves, no-room-leaves, copied, own-length}
 use Rattle.basis.proofs.Tests.{no, yes as good}
+use mathlib.Core.Path.{_∙_}
 use native.Mathlib.Omega.{arith}
 use borrow.Author.Needs.{needs}
 use Rattle.text.proofs.write.Statement.{statement}
@@ -13,14 +14,24 @@ use Rattle.value.proofs.valid.value_ok.Reads as value-ok-reads
 value-ok-requires : tie.Need-value-ok-requires
 value-ok-requires c κs = search needs
 
+refused-requires : tie.Need-refused-requires
+refused-requires c κs = search needs
+
 returns : tie.Need-returns
-returns c = outside-leaves (c .before .before .before .args .v) (c .before .before .before .args .room .now) (no (c .before .value-ok .ensures) (c .if1 .taken))
+returns c =
+    let o = outside-leaves (c .before .before .before .before .args .v) (c .before .before .before .before .args .room .now) (no (c .before .before .value-ok .ensures) (c .before .if1 .taken)) in
+    (c .refused .ensures ∙ o .0, o .1)
 
 text-of-requires : tie.Need-text-of-requires
 text-of-requires c κs = search needs
 
+refused-requires-2 : tie.Need-refused-requires-2
+refused-requires-2 c κs = search needs
+
 returns-2 : tie.Need-returns-2
-returns-2 c = no-room-leaves (c .before .before .before .before .before .before .args .v) (c .before .before .before .before .before .before .args .room .now) (good (c .before .before .before .before .value-ok .ensures) (c .before .before .before .if1 .left)) _ (c .before .before .text-of .ensures .size) (c .if2 .taken)
+returns-2 c =
+    let o = no-room-leaves (c .before .before .before .before .before .before .before .args .v) (c .before .before .before .before .before .before .before .args .room .now) (good (c .before .before .before .before .before .value-ok .ensures) (c .before .before .before .before .if1 .left)) _ (c .before .before .before .text-of .ensures .size) (c .before .if2 .taken) in
+    (c .refused2 .ensures ∙ o .0, o .1)
 
 array-share-prefix-bytes : tie.Need-array-share-prefix-bytes
 array-share-prefix-bytes c = own-length (c .before .before .text-of .result) _ (c .before .before .text-of .ensures) .1
@@ -42,9 +53,9 @@ write-spec =
     tie.close
     (tie.spec
     value-ok-requires
-    returns
+    refused-requires returns
     text-of-requires
-    returns-2
+    refused-requires-2 returns-2
     array-share-prefix-bytes
     slice-aggregate-copy
     copy-requires

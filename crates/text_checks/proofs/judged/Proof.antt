@@ -46,7 +46,7 @@ on-calendar-requires : tie.Need-on-calendar-requires
 on-calendar-requires c κs = search needs
 
 returns-6 : tie.Need-returns-6
-returns-6 c = c .on-calendar .ensures ∙ past-checks (c .before .before .before .before .before .before .before .before .before .args .kind) _ (c .before .before .before .before .before .before .before .before .before .args .t) (yes {t = c .before .before .before .before .before .before .before .before .before .args .t .good} refl (c .before .before .before .before .before .before .before .if1 .left)) (c .before .before .before .before .before .if2 .left) (c .before .before .before .before .if3 .left) (c .before .before .before .if4 .left) (c .before .if5 .left)
+returns-6 c = c .on-calendar .ensures ∙ past-checks (c .before .before .before .before .before .before .before .before .before .before .before .before .args .kind) _ (c .before .before .before .before .before .before .before .before .before .before .before .before .args .t) (yes {t = c .before .before .before .before .before .before .before .before .before .before .before .before .args .t .good} refl (c .before .before .before .before .before .before .before .before .before .before .if1 .left)) (c .before .before .before .before .before .before .before .before .if2 .left) (c .before .before .before .before .before .before .before .if3 .left) (c .before .before .before .before .before .before .if4 .left) (c .before .before .before .before .if5 .left)
 
 pub judged-spec : {M : Type 1} → statement M
 judged-spec =

@@ -8,17 +8,14 @@ use Rattle.text_checks.proofs.zone_ok.Tie as tie
 
 returns : tie.Need-returns
 unfolding both every okParts
-returns c = simp (le-leb, lt-leb, c .if1 .taken)
+returns c = simp (lt-leb, c .if1 .taken)
 
-mul-result : tie.Need-mul-result
-mul-result c = search needs
-
-add-result : tie.Need-add-result
-add-result c = search needs
+offset-minutes-requires : tie.Need-offset-minutes-requires
+offset-minutes-requires c κs = search needs
 
 returns-2 : tie.Need-returns-2
 unfolding both every okParts
-returns-2 c = simp (both-end, le-leb, lt-leb, c .if1 .left)
+returns-2 c = simp (both-end, le-leb, c .before .if1 .left, ← c .offset-minutes .ensures)
 
 pub zone-ok-spec : {M : Type 1} → statement M
-zone-ok-spec = tie.close (tie.spec returns mul-result add-result returns-2)
+zone-ok-spec = tie.close (tie.spec returns offset-minutes-requires returns-2)

@@ -10,8 +10,11 @@ use Rattle.text_fields.proofs.read.Tie as tie
 find-requires : tie.Need-find-requires
 find-requires c κs = search needs
 
+numbered-requires : tie.Need-numbered-requires
+numbered-requires c κs = search needs
+
 returns : tie.Need-returns
-returns c = no-field _ _ _ _ (c .before .before .find .ensures .there) (c .if1 .taken) refl
+returns c = no-field _ _ _ _ (c .before .before .before .find .ensures .there) (c .before .if1 .taken) (rw (c .numbered .ensures))
 
 read-requires : tie.Need-read-requires
 read-requires c κs = search needs
@@ -44,7 +47,7 @@ read-spec =
     tie.close
     (tie.spec
     find-requires
-    returns
+    numbered-requires returns
     read-requires
     returns-2
     sub-read

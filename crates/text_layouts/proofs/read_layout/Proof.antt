@@ -1,4 +1,6 @@
 use mathlib.Core.Path.{_∙_}
+use Rattle.text_scan.specs.Carried.{capped}
+use Rattle.text_scan.proofs.BelowSecond.{part-below}
 use Rattle.text_checks.proofs.Ways.{way}
 use Rattle.text_layouts.specs.Reading.{readLayout}
 use borrow.Author.Needs.{needs}
@@ -9,7 +11,7 @@ parts-of-requires : tie.Need-parts-of-requires
 parts-of-requires c κs = search needs
 
 judged-requires : tie.Need-judged-requires
-judged-requires c κs = search needs
+judged-requires c κs = rw (c .parts-of .ensures) (part-below capped (c .before .before .args .kind) (c .before .before .args .s .now))
 
 returns : tie.Need-returns
 unfolding readLayout

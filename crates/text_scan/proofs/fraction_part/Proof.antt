@@ -27,7 +27,7 @@ returns-2 c = simp (eq-eqb _ _ (c .if2 .taken), ← c .before .fraction-at .ensu
 
 returns-3 : tie.Need-returns-3
 unfolding fractionPart
-returns-3 c = simp (ne-eqb _ _ (c .if2 .left), ← c .before .fraction-at .ensures, eq-eqb _ _ (c .before .before .if1 .left), ← c .before .before .before .byte .ensures)
+returns-3 c = simp (ne-eqb _ _ (c .before .before .before .if2 .left), ← c .before .before .before .before .fraction-at .ensures, eq-eqb _ _ (c .before .before .before .before .before .if1 .left), ← c .before .before .before .before .before .before .byte .ensures)
 
 pub fraction-part-spec : {M : Type 1} → statement M
 fraction-part-spec =

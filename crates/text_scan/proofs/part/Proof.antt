@@ -32,7 +32,7 @@ is-pair-requires : tie.Need-is-pair-requires
 is-pair-requires c κs = search needs
 
 pair-part-requires : tie.Need-pair-part-requires
-pair-part-requires c κs = search needs
+pair-part-requires c κs = (c .before .before .before .before .before .before .before .before .pre, sym (c .before .is-pair .ensures) ∙ c .if5 .taken)
 
 returns-5 : tie.Need-returns-5
 returns-5 c = c .pair-part .ensures ∙ a-pair capped (c .before .before .before .before .before .before .before .before .before .args .p) (c .before .before .before .before .before .before .before .before .before .args .s .now) (c .before .before .before .before .before .before .before .before .before .args .t) (good refl (c .before .before .before .before .before .before .if1 .left)) (c .before .before .before .before .before .if2 .left) (c .before .before .before .before .if3 .left) (c .before .before .before .if4 .left) (c .before .before .is-pair .ensures) (c .before .if5 .taken)

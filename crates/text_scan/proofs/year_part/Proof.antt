@@ -19,14 +19,14 @@ year-at-requires c κs = omega (arith, within (c .before .before .before .args .
 
 returns : tie.Need-returns
 unfolding yearPart
-returns c = simp (← c .year-at .ensures, eq-eqb _ _ (c .before .if1 .taken), ← c .before .before .byte .ensures)
+returns c = simp (← c .before .before .year-at .ensures, eq-eqb _ _ (c .before .before .before .if1 .taken), ← c .before .before .before .before .byte .ensures)
 
 year-at-requires-2 : tie.Need-year-at-requires-2
 year-at-requires-2 c κs = search needs
 
 returns-2 : tie.Need-returns-2
 unfolding yearPart
-returns-2 c = simp (← c .year-at2 .ensures, ne-eqb _ _ (c .before .if1 .left), ← c .before .before .byte .ensures)
+returns-2 c = simp (← c .before .before .year-at2 .ensures, ne-eqb _ _ (c .before .before .before .if1 .left), ← c .before .before .before .before .byte .ensures)
 
 pub year-part-spec : {M : Type 1} → statement M
 year-part-spec =

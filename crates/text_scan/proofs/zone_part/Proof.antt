@@ -17,7 +17,7 @@ add-t c = search needs
 
 returns-2 : tie.Need-returns-2
 unfolding zonePart
-returns-2 c = simp (eq-eqb _ _ (c .if2 .taken), ← c .before .byte .ensures, ne-eqb _ _ (c .before .before .if1 .left))
+returns-2 c = simp (eq-eqb _ _ (c .before .before .before .if2 .taken), ← c .before .before .before .before .byte .ensures, ne-eqb _ _ (c .before .before .before .before .before .if1 .left))
 
 zone-signed-requires : tie.Need-zone-signed-requires
 zone-signed-requires c κs = search needs

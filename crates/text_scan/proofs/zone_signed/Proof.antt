@@ -34,7 +34,7 @@ returns-3 : tie.Need-returns-3
 returns-3 c = no-minutes _ (c .before .before .before .before .before .before .before .before .before .args .t) _ (c .before .before .before .before .before .before .before .pair-at .ensures) (good refl (c .before .before .before .before .before .if1 .left)) (sym (c .before .before .before .before .byte .ensures) ∙ c .before .before .before .if2 .left) (c .before .before .pair-at2 .ensures) (no refl (c .if3 .taken))
 
 returns-4 : tie.Need-returns-4
-returns-4 c = a-zone _ (c .before .before .before .before .before .before .before .before .before .args .t) _ (c .before .before .before .before .before .before .before .pair-at .ensures) (good refl (c .before .before .before .before .before .if1 .left)) (sym (c .before .before .before .before .byte .ensures) ∙ c .before .before .before .if2 .left) (c .before .before .pair-at2 .ensures) (good refl (c .if3 .left))
+returns-4 c = a-zone _ (c .before .before .before .before .before .before .before .before .before .before .before .before .args .t) _ (c .before .before .before .before .before .before .before .before .before .before .pair-at .ensures) (good refl (c .before .before .before .before .before .before .before .before .if1 .left)) (sym (c .before .before .before .before .before .before .before .byte .ensures) ∙ c .before .before .before .before .before .before .if2 .left) (c .before .before .before .before .before .pair-at2 .ensures) (good refl (c .before .before .before .if3 .left))
 
 pub zone-signed-spec : {M : Type 1} → statement M
 zone-signed-spec =

@@ -59,7 +59,7 @@ returns c =
     (then (kept (bytes " days=") (l .days) (pos 0) (t .1 .1 .0 .1) (c .before .before .before .before .before .before .before .before .before .before .with-signed3 .ensures .0))
     (then (kept (bytes " hours=") (l .hours) (pos 0) (t .1 .1 .1 .0 .1) (c .before .before .before .before .before .before .before .with-signed4 .ensures .0))
     (then (kept (bytes " minutes=") (l .minutes) (pos 0) (t .1 .1 .1 .1 .0 .1) (c .before .before .before .before .with-signed5 .ensures .0))
-    (kept-both (bytes " seconds=") (l .seconds) (l .micros) (t .1 .1 .1 .1 .1 .0 .1) (t .1 .1 .1 .1 .1 .1 .0 .1) (c .with-signed6 .ensures .0)))))))
+    (kept-both (bytes " seconds=") (l .seconds) (l .part) (t .1 .1 .1 .1 .1 .0 .1) (t .1 .1 .1 .1 .1 .1 .0 .1) (c .with-signed6 .ensures .0)))))))
 
 pub of-duration-spec : {M : Type 1} → statement M
 of-duration-spec =

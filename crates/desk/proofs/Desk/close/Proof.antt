@@ -17,16 +17,22 @@ use Rattle.desk_seat.proofs.free.Reads as free-reads
 sound-requires : tie.Need-sound-requires
 sound-requires c κs = search needs
 
+numbered-requires : tie.Need-numbered-requires
+numbered-requires c κs = search needs
+
 returns : tie.Need-returns
 unfolding closeOf
-returns c = simp (no (c .before .sound .ensures) (c .if1 .taken))
+returns c = simp (c .numbered .ensures, no (c .before .before .sound .ensures) (c .before .if1 .taken))
 
 seat-of-requires : tie.Need-seat-of-requires
 seat-of-requires c κs = search needs
 
+numbered-requires-2 : tie.Need-numbered-requires-2
+numbered-requires-2 c κs = search needs
+
 returns-2 : tie.Need-returns-2
 unfolding closeOf
-returns-2 c = simp (yes (c .before .before .before .sound .ensures) (c .before .before .if1 .left), ← c .before .seat-of .ensures .0, le-ltb _ _ (c .if2 .taken))
+returns-2 c = simp (c .numbered2 .ensures, yes (c .before .before .before .before .sound .ensures) (c .before .before .before .if1 .left), ← c .before .before .seat-of .ensures .0, le-ltb _ _ (c .before .if2 .taken))
 
 free-requires : tie.Need-free-requires
 free-requires c κs = search needs
@@ -46,9 +52,9 @@ close-spec =
     tie.close
     (tie.spec
     sound-requires
-    returns
+    numbered-requires returns
     seat-of-requires
-    returns-2
+    numbered-requires-2 returns-2
     free-requires
     mul-t12
     element-set-from-next

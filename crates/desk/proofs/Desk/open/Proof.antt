@@ -3,7 +3,7 @@ use native.Mathlib.Omega.{arith}
 use mathlib.Core.Path.{_≡_, refl, sym, ap, _∙_}
 use Prim.Native.Nat.{ℕ, _<_, _≤_, _+_, _%_}
 use Rattle.basis.proofs.Tests.{no, yes}
-use Rattle.basis.specs.Answer.{gives, refuses}
+use Rattle.basis.specs.Answer.{gives}
 use Rattle.desk_seat.specs.Conditions.{checkOf}
 use Rattle.desk_seat.proofs.Conditions.{checked-accepted, accepted-fits}
 use Rattle.desk.specs.Desk.{openOf}
@@ -21,12 +21,15 @@ use Rattle.desk_seat.proofs.taken.Reads as taken-reads
 sound-requires : tie.Need-sound-requires
 sound-requires c κs = search needs
 
+numbered-requires : tie.Need-numbered-requires
+numbered-requires c κs = search needs
+
 not-opened-requires : tie.Need-not-opened-requires
 not-opened-requires c κs = search needs
 
 returns : tie.Need-returns
 unfolding openOf
-returns c = simp (c .not-opened .ensures .0, c .not-opened .ensures .1, no (c .before .before .sound .ensures) (c .before .if1 .taken))
+returns c = simp (c .not-opened .ensures .0, c .not-opened .ensures .1, c .before .numbered .ensures, no (c .before .before .before .sound .ensures) (c .before .before .if1 .taken))
 
 check-requires : tie.Need-check-requires
 check-requires c κs = search needs
@@ -47,19 +50,25 @@ enum-told c = search needs
 find-requires : tie.Need-find-requires
 find-requires c κs = search needs
 
+numbered-requires-2 : tie.Need-numbered-requires-2
+numbered-requires-2 c κs = search needs
+
 not-opened-requires-3 : tie.Need-not-opened-requires-3
 not-opened-requires-3 c κs = search needs
 
 returns-3 : tie.Need-returns-3
 unfolding openOf
-returns-3 c = simp (c .not-opened3 .ensures .0, c .not-opened3 .ensures .1, yes (c .before .before .before .before .before .before .before .sound .ensures) (c .before .before .before .before .before .before .if1 .left), ← c .before .before .before .before .before .check .ensures, c .before .before .before .enum-told .given .1, ← c .before .before .find .ensures .0, le-ltb _ _ (c .before .if2 .taken))
+returns-3 c = simp (c .not-opened3 .ensures .0, c .not-opened3 .ensures .1, c .before .numbered2 .ensures, yes (c .before .before .before .before .before .before .before .before .sound .ensures) (c .before .before .before .before .before .before .before .if1 .left), ← c .before .before .before .before .before .before .check .ensures, c .before .before .before .before .enum-told .given .1, ← c .before .before .before .find .ensures .0, le-ltb _ _ (c .before .before .if2 .taken))
+
+numbered-requires-3 : tie.Need-numbered-requires-3
+numbered-requires-3 c κs = search needs
 
 not-opened-requires-4 : tie.Need-not-opened-requires-4
 not-opened-requires-4 c κs = search needs
 
 returns-4 : tie.Need-returns-4
 unfolding openOf
-returns-4 c = simp (c .not-opened4 .ensures .0, c .not-opened4 .ensures .1, yes (c .before .before .before .before .before .before .before .before .before .sound .ensures) (c .before .before .before .before .before .before .before .before .if1 .left), ← c .before .before .before .before .before .before .before .check .ensures, c .before .before .before .before .before .enum-told .given .1, ← c .before .before .before .before .find .ensures .0, lt-ltb _ _ (c .before .before .before .if2 .left), le-ltb _ _ (c .before .if3 .taken))
+returns-4 c = simp (c .not-opened4 .ensures .0, c .not-opened4 .ensures .1, c .before .numbered3 .ensures, yes (c .before .before .before .before .before .before .before .before .before .before .sound .ensures) (c .before .before .before .before .before .before .before .before .before .if1 .left), ← c .before .before .before .before .before .before .before .before .check .ensures, c .before .before .before .before .before .before .enum-told .given .1, ← c .before .before .before .before .before .find .ensures .0, lt-ltb _ _ (c .before .before .before .before .if2 .left), le-ltb _ _ (c .before .before .if3 .taken))
 
 add-ticket : tie.Need-add-ticket
 add-ticket c = search needs
@@ -67,8 +76,8 @@ add-ticket c = search needs
 taken-requires : tie.Need-taken-requires
 taken-requires c κs = accepted-fits _ (checked-accepted _ tt (sym (c .before .before .before .before .before .before .before .check .ensures) ∙ rw (c .before .before .before .before .before .enum-told .given .1)))
 
-mul-t11 : tie.Need-mul-t11
-mul-t11 c = search needs
+mul-t14 : tie.Need-mul-t14
+mul-t14 c = search needs
 
 element-set-from-next : tie.Need-element-set-from-next
 element-set-from-next c = search needs
@@ -82,6 +91,7 @@ open-spec =
     tie.close
     (tie.spec
     sound-requires
+    numbered-requires
     not-opened-requires
     returns
     check-requires
@@ -90,12 +100,14 @@ open-spec =
     returns-2
     enum-told
     find-requires
+    numbered-requires-2
     not-opened-requires-3
     returns-3
+    numbered-requires-3
     not-opened-requires-4
     returns-4
     add-ticket
     taken-requires
-    mul-t11
+    mul-t14
     element-set-from-next
     returns-5)

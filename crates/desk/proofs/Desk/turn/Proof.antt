@@ -17,15 +17,21 @@ use Rattle.desk.proofs.Desk.sound.Reads as sound-reads
 sound-requires : tie.Need-sound-requires
 sound-requires c κs = search needs
 
+numbered-requires : tie.Need-numbered-requires
+numbered-requires c κs = search needs
+
 returns : tie.Need-returns
 unfolding turnOf
-returns c = simp (no (c .before .sound .ensures) (c .if1 .taken))
+returns c = simp (c .numbered .ensures, no (c .before .before .sound .ensures) (c .before .if1 .taken))
+
+numbered-requires-2 : tie.Need-numbered-requires-2
+numbered-requires-2 c κs = search needs
 
 returns-2 : tie.Need-returns-2
 unfolding turnOf
 returns-2 c =
-    let a = c .before .before .before .before .before .args in
-    simp (yes (c .before .before .before .sound .ensures) (c .before .before .if1 .left), other-lengths (over (a .t .now)) (a .self) (λ e. omega (arith, e)))
+    let a = c .before .before .before .before .before .before .args in
+    simp (c .numbered2 .ensures, yes (c .before .before .before .before .sound .ensures) (c .before .before .before .if1 .left), other-lengths (over (a .t .now)) (a .self) (λ e. omega (arith, e)))
 
 next-requires : tie.Need-next-requires
 next-requires c κs =
@@ -40,4 +46,4 @@ returns-3 c =
     c .next .ensures ∙ sym (simp (yes (c .before .before .before .before .sound .ensures) (c .before .before .before .if1 .left), e))
 
 pub turn-spec : {M : Type 1} → statement M
-turn-spec = tie.close (tie.spec sound-requires returns returns-2 next-requires returns-3)
+turn-spec = tie.close (tie.spec sound-requires numbered-requires returns numbered-requires-2 returns-2 next-requires returns-3)

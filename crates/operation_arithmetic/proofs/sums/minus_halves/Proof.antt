@@ -1,38 +1,24 @@
-use Prim.Native.Nat.{_+_}
-use Rattle.value_instants.specs.Carried.{spanOf}
 use native.Mathlib.Omega.{arith}
 use mathlib.Core.Path.{_≡_, _∙_}
+use Rattle.value.specs.Clocks.{ticksIn}
 use Rattle.operation_quantities.proofs.Spanned.{part-of, seconds-of, spans-sum}
 use Rattle.operation_shifting.proofs.Halves.{minus-to}
 use borrow.Author.Needs.{needs}
 use Rattle.operation_arithmetic.proofs.sums.minus_halves.Statement.{statement}
 use Rattle.operation_arithmetic.proofs.sums.minus_halves.Tie as tie
 
-minus-half-requires : tie.Need-minus-half-requires
-minus-half-requires c κs = search needs
+minus-ticks-requires : tie.Need-minus-ticks-requires
+minus-ticks-requires c κs = search needs
 
-minus-half-requires-2 : tie.Need-minus-half-requires-2
-minus-half-requires-2 c κs = search needs
-
-from-micros-requires : tie.Need-from-micros-requires
-from-micros-requires c κs = search needs
-
-from-micros-requires-2 : tie.Need-from-micros-requires-2
-from-micros-requires-2 c κs = search needs
+minus-ticks-requires-2 : tie.Need-minus-ticks-requires-2
+minus-ticks-requires-2 c κs = search needs
 
 plus-requires : tie.Need-plus-requires
-plus-requires c κs = (part-of _ _ (c .before .from-micros .ensures), part-of _ _ (c .from-micros2 .ensures), let h = minus-to (c .before .before .before .before .args .a .negative) (c .before .before .before .before .args .a .micros) in let k = minus-to (c .before .before .before .before .args .b .negative) (c .before .before .before .before .args .b .micros) in omega (arith, seconds-of _ _ (c .before .from-micros .ensures), seconds-of _ _ (c .from-micros2 .ensures), c .before .before .before .minus-half .ensures, c .before .before .minus-half2 .ensures, c .before .before .before .before .pre))
+plus-requires c κs = (part-of _ _ (c .before .minus-ticks .ensures), part-of _ _ (c .minus-ticks2 .ensures), let h = minus-to (c .before .before .args .a .negative) (ticksIn (c .before .before .args .a)) in let k = minus-to (c .before .before .args .b .negative) (ticksIn (c .before .before .args .b)) in omega (arith, seconds-of _ _ (c .before .minus-ticks .ensures), seconds-of _ _ (c .minus-ticks2 .ensures), c .before .before .pre))
 
 returns : tie.Need-returns
-returns c = c .plus .ensures ∙ spans-sum _ _ _ _ (c .before .before .from-micros .ensures) (c .before .from-micros2 .ensures) ∙ (λ i. spanOf (c .before .before .before .before .minus-half .ensures i + c .before .before .before .minus-half2 .ensures i))
+returns c = c .plus .ensures ∙ spans-sum _ _ _ _ (c .before .before .minus-ticks .ensures) (c .before .minus-ticks2 .ensures)
 
 pub minus-halves-spec : {M : Type 1} → statement M
 minus-halves-spec =
-    tie.close
-    (tie.spec
-    minus-half-requires
-    minus-half-requires-2
-    from-micros-requires
-    from-micros-requires-2
-    plus-requires
-    returns)
+    tie.close (tie.spec minus-ticks-requires minus-ticks-requires-2 plus-requires returns)

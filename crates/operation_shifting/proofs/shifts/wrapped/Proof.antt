@@ -1,13 +1,20 @@
 use native.Mathlib.Omega.{arith}
-use Rattle.value.proofs.Good.{good}
+use mathlib.Core.Path.{_∙_}
+use Rattle.value.specs.Clocks.{atClock}
+use Rattle.value.specs.Values.{dateIn}
+use Rattle.operation_quantities.proofs.Spanned.{part-of, ticks-of}
+use borrow.Author.Needs.{needs}
 use Rattle.operation_shifting.proofs.shifts.wrapped.Statement.{statement}
 use Rattle.operation_shifting.proofs.shifts.wrapped.Tie as tie
 
-wrapped-micros-requires : tie.Need-wrapped-micros-requires
-wrapped-micros-requires c κs = omega (arith, good _ (c .pre) .micros-to)
+wrapped-clock-requires : tie.Need-wrapped-clock-requires
+wrapped-clock-requires c κs = search needs
+
+at-requires : tie.Need-at-requires
+at-requires c κs = (part-of _ _ (c .wrapped-clock .ensures), omega (arith, ticks-of _ _ (c .wrapped-clock .ensures)))
 
 returns : tie.Need-returns
-returns c = λ i. record { year = c .before .args .d .year; month = c .before .args .d .month; day = c .before .args .d .day; micros = c .wrapped-micros .ensures i; zone = c .before .args .d .zone }
+returns c = c .at .ensures ∙ (λ i. atClock (dateIn (c .before .before .args .d)) (ticks-of _ _ (c .before .wrapped-clock .ensures) i) (c .before .before .args .d .zone))
 
 pub wrapped-spec : {M : Type 1} → statement M
-wrapped-spec = tie.close (tie.spec wrapped-micros-requires returns)
+wrapped-spec = tie.close (tie.spec wrapped-clock-requires at-requires returns)

@@ -1,6 +1,6 @@
-use native.Mathlib.Omega.{arith}
 use borrow.Author.Tests.{eq-eqb, ne-eqb}
 use Rattle.text_layouts.specs.Writing.{pairOf}
+use Rattle.text_layouts.proofs.Pieces.{pair-hour, pair-minute, pair-second}
 use borrow.Author.Needs.{needs}
 use Rattle.text_layouts.proofs.writing.pair_of.Statement.{statement}
 use Rattle.text_layouts.proofs.writing.pair_of.Tie as tie
@@ -19,23 +19,17 @@ returns-2 : tie.Need-returns-2
 unfolding pairOf
 returns-2 c = simp (eq-eqb _ _ (c .before .if2 .taken), ne-eqb _ _ (c .before .before .if1 .left))
 
-cast-seconds : tie.Need-cast-seconds
-cast-seconds c = search needs
-
-div-seconds : tie.Need-div-seconds
-div-seconds c = search needs
+clock-requires : tie.Need-clock-requires
+clock-requires c κs = search needs
 
 returns-3 : tie.Need-returns-3
-unfolding pairOf
-returns-3 c = simp (eq-eqb _ _ (c .if3 .taken), ne-eqb _ _ (c .before .before .if2 .left), ne-eqb _ _ (c .before .before .before .if1 .left)) (omega arith)
+returns-3 c = pair-hour (c .before .before .before .before .args .p) (c .before .before .before .before .args .d) (c .before .clock .ensures) (c .if3 .taken)
 
 returns-4 : tie.Need-returns-4
-unfolding pairOf
-returns-4 c = simp (eq-eqb _ _ (c .if4 .taken), ne-eqb _ _ (c .before .if3 .left), ne-eqb _ _ (c .before .before .before .if2 .left), ne-eqb _ _ (c .before .before .before .before .if1 .left)) (omega arith)
+returns-4 c = pair-minute (c .before .before .before .before .before .args .p) (c .before .before .before .before .before .args .d) (c .before .before .clock .ensures) (c .if4 .taken)
 
 returns-5 : tie.Need-returns-5
-unfolding pairOf
-returns-5 c = simp (ne-eqb _ _ (c .if4 .left), ne-eqb _ _ (c .before .if3 .left), ne-eqb _ _ (c .before .before .before .if2 .left), ne-eqb _ _ (c .before .before .before .before .if1 .left))
+returns-5 c = pair-second (c .before .before .before .before .before .args .p) (c .before .before .before .before .before .args .d) (c .before .before .clock .ensures) (c .before .before .before .before .if1 .left) (c .before .before .before .if2 .left) (c .before .if3 .left) (c .if4 .left)
 
 pub pair-of-spec : {M : Type 1} → statement M
 pair-of-spec =
@@ -45,8 +39,7 @@ pair-of-spec =
     returns
     cast-result-2
     returns-2
-    cast-seconds
-    div-seconds
+    clock-requires
     returns-3
     returns-4
     returns-5)

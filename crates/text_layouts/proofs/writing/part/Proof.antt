@@ -1,8 +1,7 @@
 use mathlib.Core.Path.{refl, ap, sym, _∙_}
 use native.Mathlib.Omega.{arith}
-use Prim.Native.Nat.{_%_}
-use Rattle.value.specs.Bounds.{secondTicks}
-use Rattle.numerals.specs.Writing.{digits}
+use Rattle.value.specs.declared.Span.{Span}
+use Rattle.numerals.specs.Writing.{digits, fractionText}
 use Rattle.numerals.proofs.Decimals.{length-digits}
 use Rattle.numerals.proofs.Fractions.{fraction-short}
 use Rattle.numerals.proofs.Texts.{named}
@@ -20,17 +19,17 @@ fixed-requires c κs = omega (arith, c .before .before .pre, text-year (c .befor
 returns : tie.Need-returns
 returns c = named (text-year (c .before .before .before .args .p) (c .before .before .before .args .d) (c .before .before .if1 .taken) .0) (sym (length-digits 4 _)) (c .fixed .ensures)
 
+clock-requires : tie.Need-clock-requires
+clock-requires c κs = search needs
+
 cast-with-fraction : tie.Need-cast-with-fraction
 cast-with-fraction c = search needs
 
-rem-with-fraction : tie.Need-rem-with-fraction
-rem-with-fraction c = search needs
-
 with-fraction-requires : tie.Need-with-fraction-requires
-with-fraction-requires c κs = omega (arith, c .before .before .before .pre, fraction-short (c .before .before .before .args .d .micros % secondTicks), text-fraction (c .before .before .before .args .p) (c .before .before .before .args .d) (c .before .before .if1 .left) (c .before .if2 .taken) .1)
+with-fraction-requires c κs = omega (arith, c .before .before .before .before .pre, fraction-short (c .before .clock .result .part), text-fraction (c .before .before .before .before .args .p) (c .before .before .before .before .args .d) (c .before .before .before .if1 .left) (c .before .before .if2 .taken) .1)
 
 returns-2 : tie.Need-returns-2
-returns-2 c = named (text-fraction (c .before .before .before .before .args .p) (c .before .before .before .before .args .d) (c .before .before .before .if1 .left) (c .before .before .if2 .taken) .0) refl (c .with-fraction .ensures)
+returns-2 c = named (text-fraction (c .before .before .before .before .before .args .p) (c .before .before .before .before .before .args .d) (c .before .before .before .before .if1 .left) (c .before .before .before .if2 .taken) .0 ∙ ap (λ (x : Span). fractionText (x .part)) (sym (c .before .before .clock .ensures))) refl (c .with-fraction .ensures)
 
 with-zone-requires : tie.Need-with-zone-requires
 with-zone-requires c κs = omega (arith, c .before .before .before .pre, text-zone (c .before .before .before .args .p) (c .before .before .before .args .d) (c .before .before .if1 .left) (c .before .if2 .left) (c .if3 .taken) .1)
@@ -63,8 +62,8 @@ part-spec =
     cast-fixed
     fixed-requires
     returns
+    clock-requires
     cast-with-fraction
-    rem-with-fraction
     with-fraction-requires
     returns-2
     with-zone-requires

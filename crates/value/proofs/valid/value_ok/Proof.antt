@@ -8,6 +8,7 @@ use Rattle.value.proofs.valid.value_ok.Reads as reads
 use Rattle.value.proofs.valid.value_ok.Lts as lts
 use Rattle.value.proofs.kinds.of_kind.Reads as of-kind-reads
 use Rattle.value.proofs.valid.date_time_ok.Reads as date-time-ok-reads
+use Rattle.value.proofs.valid.day_time_ok.Reads as day-time-ok-reads
 use Rattle.value.proofs.valid.signed_ok.Reads as signed-ok-reads
 
 enum-known-v : tie.Need-enum-known-v
@@ -45,8 +46,8 @@ date-time-ok-requires-3 c κs = search needs
 enum-known-v-4 : tie.Need-enum-known-v-4
 enum-known-v-4 c = search needs
 
-signed-ok-requires : tie.Need-signed-ok-requires
-signed-ok-requires c κs = search needs
+day-time-ok-requires : tie.Need-day-time-ok-requires
+day-time-ok-requires c κs = search needs
 
 enum-known-v-5 : tie.Need-enum-known-v-5
 enum-known-v-5 c = search needs
@@ -57,8 +58,8 @@ cast-signed-ok c = search needs
 cast-signed-ok-2 : tie.Need-cast-signed-ok-2
 cast-signed-ok-2 c = search needs
 
-signed-ok-requires-2 : tie.Need-signed-ok-requires-2
-signed-ok-requires-2 c κs = search needs
+signed-ok-requires : tie.Need-signed-ok-requires
+signed-ok-requires c κs = search needs
 
 returns-3 : tie.Need-returns-3
 unfolding both okValue
@@ -74,11 +75,11 @@ returns-5 c = simp (← c .date-time-ok3 .ensures, c .before .before .v3 .given 
 
 returns-6 : tie.Need-returns-6
 unfolding both okValue
-returns-6 c = simp (← c .signed-ok .ensures, c .before .before .v4 .given .1)
+returns-6 c = simp (← c .day-time-ok .ensures, c .before .before .v4 .given .1)
 
 returns-7 : tie.Need-returns-7
 unfolding both okValue
-returns-7 c = simp (← c .signed-ok2 .ensures, c .before .before .before .v5 .given .1)
+returns-7 c = simp (← c .signed-ok .ensures, c .before .before .before .v5 .given .1)
 
 pub value-ok-spec : {M : Type 1} → statement M
 value-ok-spec =
@@ -95,11 +96,11 @@ value-ok-spec =
     enum-known-v-3
     date-time-ok-requires-3
     enum-known-v-4
-    signed-ok-requires
+    day-time-ok-requires
     enum-known-v-5
     cast-signed-ok
     cast-signed-ok-2
-    signed-ok-requires-2
+    signed-ok-requires
     returns-3
     returns-4
     returns-5

@@ -1,4 +1,4 @@
-use Rattle.value_instants.specs.Carried.{ticksOf}
+use Rattle.value.specs.Carried.{ticksOf}
 use Rattle.value_instants.proofs.TwoParts.{order-by-part}
 use borrow.Author.Tests.{lt-ltb, le-ltb}
 use native.Mathlib.Omega.{arith}

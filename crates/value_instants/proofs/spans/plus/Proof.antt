@@ -1,4 +1,4 @@
-use Rattle.value_instants.proofs.TwoParts.{span-is}
+use Rattle.value.proofs.Spans.{span-is}
 use native.Mathlib.Omega.{arith}
 use borrow.Author.Needs.{needs}
 use Rattle.value_instants.proofs.spans.plus.Statement.{statement}

@@ -1,10 +1,10 @@
-use Rattle.value_instants.proofs.TwoParts.{span-ticks}
+use Rattle.value.proofs.Spans.{span-ticks}
 use Rattle.value_instants.proofs.Instants.{offset-good}
 use Rattle.value.proofs.Good.{good}
 use Rattle.value_instants.proofs.Within.{timed}
 use Rattle.value.specs.declared.Span.{Span}
 use Rattle.value_instants.specs.Ticks.{localOf, instantOf, instantAt, offsetIn}
-use Rattle.value_instants.specs.Carried.{spanOf, ticksOf}
+use Rattle.value.specs.Carried.{spanOf, ticksOf}
 use Rattle.value.specs.Values.{okOffset}
 use Rattle.value.specs.Bounds.{secondTicks}
 use native.Mathlib.Omega.{arith}
