@@ -22,7 +22,7 @@ function shown(text,   out, bad) {
 function reason(number, what) {
   if (number == 1) return "a " what " that is no value of its kind: shape, calendar or clock"
   if (number == 2) return "a " what " beyond the bounds of its kind"
-  if (number == 3) return "a " what " with over six fraction digits"
+  if (number == 3) return "a " what " with over nine fraction digits"
   return (number in reasons) ? reasons[number] : "refusal " number
 }
 

@@ -135,10 +135,15 @@ declare function local:year-beyond($kind as xs:string, $text as xs:string) as xs
   $kind = ('xs:date', 'xs:dateTime') and matches($text, '^(-[0-9]{4,}|[0-9]{5,})-')
 };
 
+(: Document 02, letter e: over nine fraction digits. :)
+declare function local:long-fraction($text as xs:string) as xs:boolean {
+  matches($text, '\.[0-9]{10}')
+};
+
 (: A text that BaseX refuses. :)
 declare function local:after-error($kind as xs:string, $text as xs:string, $code as xs:string) as map(*) {
   map:merge((
-    if (matches($text, '\.[0-9]{7}')) then local:refused(3, 'out', 'two faults') else (),
+    if (local:long-fraction($text)) then local:refused(3, 'out', 'two faults') else (),
     switch ($code)
       case 'FORG0001' return (
         local:refused(1, 'same', 'refused 1, FORG0001'),
@@ -151,7 +156,7 @@ declare function local:after-error($kind as xs:string, $text as xs:string, $code
 declare function local:after-value($kind as xs:string, $text as xs:string, $value as xs:anyAtomicType) as map(*)? {
   if ($kind = 'xs:dateTime' and matches($text, '([ \r]|Z|:[0-9]{2})T|T[ \r]'))
   then local:refused(1, 'out', 'fault: blank or zone at T')
-  else if (matches($text, '\.[0-9]{7}')) then local:refused(3, 'out', 'digits')
+  else if (local:long-fraction($text)) then local:refused(3, 'out', 'digits')
   else if (local:beyond($value) or local:year-beyond($kind, $text)) then local:refused(2, 'out', 'bounds of a text')
   else ()
 };

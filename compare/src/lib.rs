@@ -1,4 +1,4 @@
-//! The timetable desk a second time, as an ordinary program written from document 01, letters a and b of document 02,
+//! The timetable desk a second time, as an ordinary program written from document 01, letters a, b and e of document 02,
 //! docs/DECISIONS.md and docs/LINES.md alone. It shares no code with the proved programs and exists to be compared with
 //! them.
 
@@ -13,6 +13,7 @@ pub mod programs;
 pub mod read_once;
 pub mod runs;
 pub mod values;
+pub mod words;
 
 /// A refusal number of document 01's table or of a later request.
 pub type Refusal = u8;

@@ -7,7 +7,7 @@ use crate::programs::{named, order_word, refused, turn_line, MOST_CALLS_BYTES};
 use crate::values::calendar::{civil_from_days, Civil};
 use crate::values::operations::{compare, subtract, REFERENCE_DAY};
 use crate::values::reading::read;
-use crate::values::records::{Record, Signed};
+use crate::values::records::{Clock, Record, Signed};
 use crate::values::writing::write;
 use crate::values::{Kind, Value};
 use crate::{Refusal, NO_GRAMMAR, NO_ROOM};
@@ -17,7 +17,11 @@ pub const MOST_ROOM: usize = 64;
 pub const MOST_HEX_DIGITS: usize = 512;
 const MOST_YEAR: usize = 65_535;
 const MOST_MONTH_OR_DAY: usize = 255;
-const MOST_MICROS: usize = 18_446_744_073_709_551_615;
+/// Of a time of day.
+const MOST_SECOND: usize = 4_294_967_295;
+const MOST_NANO: usize = 4_294_967_295;
+/// Of a dayTimeDuration.
+const MOST_SECONDS: usize = 18_446_744_073_709_551_615;
 const MOST_MONTHS: usize = 4_294_967_295;
 const MOST_MINUTES: usize = 65_535;
 
@@ -67,10 +71,12 @@ impl<'a> Session<'a> {
 /// The calls that the desk has no part in and whose fields hold no tabs.
 fn call_over_values(word: &[u8], rest: &[&[u8]]) -> Result<String, Refusal> {
     match (word, rest) {
-        (b"date", [year, month, day, zone]) => made(moment(Kind::Date, [year, month, day, b"0", zone])?),
-        (b"time", [micros, zone]) => made(time(micros, zone)?),
-        (b"dateTime", [year, month, day, micros, zone]) => made(moment(Kind::DateTime, [year, month, day, micros, zone])?),
-        (b"dayTime", [span]) => made(Record::DayTime(signed(span, MOST_MICROS)?)),
+        (b"date", [year, month, day, zone]) => made(moment(Kind::Date, [year, month, day, b"0", b"0", zone])?),
+        (b"time", [second, nano, zone]) => made(time(second, nano, zone)?),
+        (b"dateTime", &[year, month, day, second, nano, zone]) => {
+            made(moment(Kind::DateTime, [year, month, day, second, nano, zone])?)
+        }
+        (b"dayTime", [span, nano]) => made(day_time(span, nano)?),
         (b"yearMonth", [span]) => made(Record::YearMonth(signed(span, MOST_MONTHS)?)),
         (b"record", [room, rest @ ..]) => {
             let (size, record) = (number(room, MOST_ROOM)?, record(rest)?);
@@ -149,27 +155,37 @@ fn write_into(value: &Value, room: &mut [u8]) -> Result<usize, Refusal> {
 fn record(rest: &[&[u8]]) -> Result<Record, Refusal> {
     let (kind, numbers) = rest.split_first().ok_or(NO_GRAMMAR)?;
     match (named(kind)?, numbers) {
-        (Kind::DayTime, [span]) => Ok(Record::DayTime(signed(span, MOST_MICROS)?)),
+        (Kind::DayTime, [span, nano]) => day_time(span, nano),
         (Kind::YearMonth, [span]) => Ok(Record::YearMonth(signed(span, MOST_MONTHS)?)),
-        (kind @ (Kind::Date | Kind::Time | Kind::DateTime), &[year, month, day, micros, zone]) => {
-            moment(kind, [year, month, day, micros, zone])
+        (kind @ (Kind::Date | Kind::Time | Kind::DateTime), &[year, month, day, second, nano, zone]) => {
+            moment(kind, [year, month, day, second, nano, zone])
         }
         _ => Err(NO_GRAMMAR),
     }
 }
 
-fn moment(kind: Kind, [year, month, day, micros, offset]: [&[u8]; 5]) -> Result<Record, Refusal> {
+fn moment(kind: Kind, [year, month, day, second, nano, offset]: [&[u8]; 6]) -> Result<Record, Refusal> {
     let date = Civil {
         year: number(year, MOST_YEAR)? as i64,
         month: number(month, MOST_MONTH_OR_DAY)? as i64,
         day: number(day, MOST_MONTH_OR_DAY)? as i64,
     };
-    Ok(Record::Moment { kind, date, micro: number(micros, MOST_MICROS)? as i128, zone: zone(offset)? })
+    Ok(Record::Moment { kind, date, clock: clock(second, nano)?, zone: zone(offset)? })
 }
 
-fn time(micros: &[u8], offset: &[u8]) -> Result<Record, Refusal> {
+fn time(second: &[u8], nano: &[u8], offset: &[u8]) -> Result<Record, Refusal> {
     let date = civil_from_days(REFERENCE_DAY as i64);
-    Ok(Record::Moment { kind: Kind::Time, date, micro: number(micros, MOST_MICROS)? as i128, zone: zone(offset)? })
+    Ok(Record::Moment { kind: Kind::Time, date, clock: clock(second, nano)?, zone: zone(offset)? })
+}
+
+fn clock(second: &[u8], nano: &[u8]) -> Result<Clock, Refusal> {
+    Ok(Clock { second: number(second, MOST_SECOND)? as i128, nano: number(nano, MOST_NANO)? as i128 })
+}
+
+/// The sign before the seconds is that of the nanoseconds too.
+fn day_time(span: &[u8], nano: &[u8]) -> Result<Record, Refusal> {
+    let Signed { minus, magnitude } = signed(span, MOST_SECONDS)?;
+    Ok(Record::DayTime { minus, size: Clock { second: magnitude, nano: number(nano, MOST_NANO)? as i128 } })
 }
 
 fn zone(text: &[u8]) -> Result<Option<Signed>, Refusal> {

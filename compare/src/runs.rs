@@ -13,7 +13,7 @@ pub const MOST_OCCURRENCES: usize = 1_440;
 #[derive(Clone, Copy, PartialEq, Eq, Debug)]
 pub struct Run {
     first: Value,
-    /// Microseconds, above zero.
+    /// Ticks, above zero.
     step: i128,
     /// At most 1,440. A run may be empty.
     pub count: usize,
@@ -33,12 +33,12 @@ impl Run {
         let field = |number: usize, kind: Kind| read(kind, fields.get(number - 1).ok_or(TOO_FEW_FIELDS)?);
         let first = field(3, Kind::DateTime)?;
         let last = field(4, Kind::DateTime)?;
-        let step = micros(field(5, Kind::DayTime)?);
+        let step = ticks(field(5, Kind::DayTime)?);
         if step <= 0 {
             return Err(STEP_NOT_ABOVE_ZERO);
         }
         // The whole calendar lies within the bounds of a duration, so this difference of two instants is never refused.
-        let apart = micros(subtract(&last, &first)?);
+        let apart = ticks(subtract(&last, &first)?);
         let count = if apart < 0 { 0 } else { apart / step + 1 };
         if count > MOST_OCCURRENCES as i128 {
             return Err(TOO_MANY_OCCURRENCES);
@@ -61,9 +61,9 @@ impl Run {
     }
 }
 
-fn micros(duration: Value) -> i128 {
-    let Value::DayTime(micros) = duration else {
+fn ticks(duration: Value) -> i128 {
+    let Value::DayTime(ticks) = duration else {
         unreachable!("read as a dayTimeDuration, or a difference of two dateTimes");
     };
-    micros
+    ticks
 }

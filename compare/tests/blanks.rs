@@ -119,15 +119,15 @@ fn the_order_of_checks_begins_after_the_stripping() {
         ("read|date| 02000-01-01", "refused 1"),
         ("read|date|\r-0001-13-45", "refused 2"),
         ("read|date|\r0000-01-01", "refused 1"),
-        ("read|time|  25:00:00.0000000\r", "refused 3"),
+        ("read|time|  25:00:00.0000000000\r", "refused 3"),
         ("read|time|\r24:00:00 ", "00:00:00"),
-        ("read|dateTime| 12000-13-45T99:99:99.0000000+99:99 ", "refused 3"),
+        ("read|dateTime| 12000-13-45T99:99:99.0000000000+99:99 ", "refused 3"),
         ("read|dateTime| 12000-13-45T99:99:99+99:99 ", "refused 2"),
         ("read|dateTime|9999-12-31T24:00:00+14:01 ", "refused 1"),
         ("read|dateTime|9999-12-31T24:00:00 ", "refused 2"),
         ("read|dt| -PT0S ", "PT0S"),
         ("read|dt|- PT0S", "refused 1"),
-        ("read|dt| PT0.0000000S", "refused 3"),
+        ("read|dt| PT0.0000000000S", "refused 3"),
         ("read|ym|P83333Y4M ", "P83333Y4M"),
         ("read|ym|P83333Y5M ", "refused 2"),
         ("read|ym| ", "refused 1"),
@@ -188,7 +188,7 @@ fn literals_are_stripped_and_conditions_are_not() {
         assert_eq!(opened(&format!("xs:date(\"{literal}\") eq {DAY}")), 1, "{literal:?}");
     }
     assert_eq!(opened(&format!("xs:date(\" 12000-13-45\") eq {DAY}")), 2);
-    assert_eq!(opened("xs:time(\"\t12:00:00.0000000\") eq xs:time($1)"), 3);
+    assert_eq!(opened("xs:time(\"\t12:00:00.0000000000\") eq xs:time($1)"), 3);
     assert_eq!(opened("xs:date(\" \") eq xs:time($1)"), 9);
     for condition in [
         "xs:date($1) eq xs:date($1)\r",

@@ -10,7 +10,7 @@ use compare::lines::lines;
 use compare::programs::{desk, MOST_CALLS_BYTES};
 use compare::values::calendar::civil_from_days;
 use compare::values::reading::read;
-use compare::values::{Kind, Value, LAST_YEAR, MICROS_A_DAY};
+use compare::values::{ticks_a_day, Kind, Value, LAST_YEAR};
 use std::collections::BTreeSet;
 
 fn part(name: &str) -> Vec<String> {
@@ -124,8 +124,8 @@ fn texts_choose_the_cycle() {
             years.insert(civil_from_days(day).year);
         }
         let text = texts::good(random, Kind::DayTime);
-        if let Ok(Value::DayTime(micros)) = read(Kind::DayTime, text.as_bytes()) {
-            lengths.extend((micros % MICROS_A_DAY == 0).then_some((micros / MICROS_A_DAY) as i64));
+        if let Ok(Value::DayTime(ticks)) = read(Kind::DayTime, text.as_bytes()) {
+            lengths.extend((ticks % ticks_a_day() == 0).then_some((ticks / ticks_a_day()) as i64));
         }
     }
     assert!(YEARS.iter().all(|year| years.contains(year)));

@@ -143,7 +143,7 @@ const SOUND: &[&str] = &[
     "condition-literal-leap-p",
     "condition-literal-last-year-p",
     "condition-literal-padded-p",
-    "condition-literal-six-digits-p",
+    "condition-literal-nine-digits-p",
     "condition-result-beyond-p",
     "offset-21",
     "offset-66",

@@ -85,7 +85,7 @@ fn the_rooms_stand_either_side_of_the_text() {
         }
     }
     let lengths: BTreeSet<usize> = seen.iter().map(|(count, _)| *count).collect();
-    assert!(lengths.contains(&3) && lengths.contains(&32) && lengths.len() > 10);
+    assert!(lengths.contains(&3) && lengths.contains(&35) && lengths.len() > 10);
     for length in lengths {
         assert!((length..=64).all(|room| seen.contains(&(length, room))), "{length}");
     }

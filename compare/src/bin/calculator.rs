@@ -1,8 +1,10 @@
-//! Reads calls from standard input and writes the answers: docs/LINES.md.
+//! Reads calls from standard input and writes the answers: docs/LINES.md. With `--six` it is kept at six fraction
+//! digits.
 
 use std::io::{self, Read, Write};
 
 fn main() -> io::Result<()> {
+    compare::words::heed()?;
     let mut input = Vec::new();
     io::stdin().read_to_end(&mut input)?;
     io::stdout().write_all(compare::programs::calculator(&input).as_bytes())

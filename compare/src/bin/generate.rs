@@ -1,6 +1,7 @@
 //! Writes generated cases; the same seed always gives the same.
 //!
 //!     generate calls SEED COUNT          prints so many calculator lines
+//!     generate judgements SEED COUNT     prints so many lines of judgements
 //!     generate desk SEED DIR             writes one desk case into DIR: timetable.tsv and conditions
 //!     generate desks SEED COUNT DIR      writes desk cases into DIR/1, DIR/2, .. and those at the bounds into DIR/edge-1, ..
 //!     generate hostile SEED COUNT DIR    writes random scripts of hostile_desks into DIR/1, DIR/2, .., each with its
@@ -8,31 +9,39 @@
 //!     generate library SEED COUNT DIR    writes random sessions of library_example into DIR/1, DIR/2, .., each with its
 //!                                        timetable.tsv and calls, and the tables of calls into DIR/NAME
 //!     generate edges DIR                 writes calculator inputs at the bounds of a whole input, and the tables of calls at
-//!                                        the calendar's cycle and with blanks
+//!                                        the calendar's cycle, with blanks and with nanoseconds
 //!
-//! With --histogram after these, what the cases cover is printed to standard error.
+//! With --histogram after these, what the cases cover is printed to standard error. With --six the cases are made for
+//! programs that are kept at six digits, and no fraction in them has more; library and hostile have no such cases.
 
 use compare::generator::desks::{self, Case, Timetable};
-use compare::generator::{blanks, calls, cycle, histogram::Histogram, hostile, inputs, library, random::Random};
+use compare::generator::{blanks, calls, cycle, histogram::Histogram, hostile, inputs, judgements, library, nine};
+use compare::generator::{random::Random, six};
 use compare::lines::lines;
+use compare::values::ticks::{keep_six_digits, kept_at_six};
 use std::fs;
 use std::io::{self, BufWriter, Write};
 use std::path::Path;
 use std::process::ExitCode;
 
-const WORDS: &str = "words: calls SEED COUNT | desk SEED DIR | desks SEED COUNT DIR | hostile SEED COUNT DIR | \
-    library SEED COUNT DIR | edges DIR";
+const WORDS: &str = "words: calls SEED COUNT | judgements SEED COUNT | desk SEED DIR | desks SEED COUNT DIR | \
+    hostile SEED COUNT DIR | library SEED COUNT DIR | edges DIR";
 
 fn main() -> ExitCode {
     let mut words: Vec<String> = std::env::args().skip(1).collect();
     let shown = words.iter().any(|word| word == "--histogram");
-    words.retain(|word| word != "--histogram");
+    if words.iter().any(|word| word == "--six") {
+        keep_six_digits();
+    }
+    words.retain(|word| word != "--histogram" && word != "--six");
     let words: Vec<&str> = words.iter().map(String::as_str).collect();
     let mut histogram = if shown { Histogram::shown() } else { Histogram::default() };
     let done = match words[..] {
         ["calls", seed, count] => generate_calls(number(seed), number(count), &mut histogram),
         ["desk", seed, dir] => write_desk(&desks::case(number(seed)), Path::new(dir), &mut histogram),
         ["desks", seed, count, dir] => generate_desks(number(seed), number(count), Path::new(dir), &mut histogram),
+        ["judgements", seed, count] => generate_judgements(number(seed), number(count), &mut histogram),
+        ["hostile" | "library", ..] if kept_at_six() => Err(io::Error::other("--six is for calls, judgements, desks and edges")),
         ["hostile", seed, count, dir] => generate_hostile(number(seed), number(count), Path::new(dir), &mut histogram),
         ["library", seed, count, dir] => generate_library(number(seed), number(count), Path::new(dir), &mut histogram),
         ["edges", dir] => generate_edges(Path::new(dir), &mut histogram),
@@ -54,7 +63,7 @@ fn generate_calls(seed: u64, count: u64, histogram: &mut Histogram) -> io::Resul
     let mut random = Random::new(seed);
     let mut output = BufWriter::new(io::stdout());
     for _ in 0..count {
-        let line = calls::call(&mut random);
+        let line = kept(calls::call(&mut random));
         histogram.count_call(&line);
         output.write_all(&line)?;
         output.write_all(b"\n")?;
@@ -62,19 +71,39 @@ fn generate_calls(seed: u64, count: u64, histogram: &mut Histogram) -> io::Resul
     output.flush()
 }
 
+fn generate_judgements(seed: u64, count: u64, histogram: &mut Histogram) -> io::Result<()> {
+    let mut output = BufWriter::new(io::stdout());
+    for line in judgements::lines(seed, count as usize).map(kept) {
+        histogram.count_judgement(&line);
+        output.write_all(&line)?;
+        output.write_all(b"\n")?;
+    }
+    output.flush()
+}
+
+/// What is written of a text: all of it, or the fractions cut to six digits.
+fn kept(text: Vec<u8>) -> Vec<u8> {
+    if kept_at_six() {
+        six::cut(&text)
+    } else {
+        text
+    }
+}
+
 fn write_timetable(timetable: &Timetable, dir: &Path) -> io::Result<()> {
     fs::create_dir_all(dir)?;
     match timetable {
         Timetable::Missing => Ok(()),
         Timetable::Folder => fs::create_dir_all(dir.join("timetable.tsv")),
-        Timetable::Bytes(bytes) => fs::write(dir.join("timetable.tsv"), bytes),
+        Timetable::Bytes(bytes) => fs::write(dir.join("timetable.tsv"), kept(bytes.clone())),
     }
 }
 
 fn write_desk(case: &Case, dir: &Path, histogram: &mut Histogram) -> io::Result<()> {
     write_timetable(&case.timetable, dir)?;
-    fs::write(dir.join("conditions"), &case.conditions)?;
-    histogram.count_desk(case.timetable.bytes(), &case.conditions);
+    let conditions = kept(case.conditions.clone());
+    fs::write(dir.join("conditions"), &conditions)?;
+    histogram.count_desk(&kept(case.timetable.bytes().to_vec()), &conditions);
     Ok(())
 }
 
@@ -132,7 +161,9 @@ fn generate_edges(dir: &Path, histogram: &mut Histogram) -> io::Result<()> {
     write_bounds(dir)?;
     let cycle = cycle::calls::parts().into_iter().flat_map(|(name, calls)| inputs::named(name, &calls));
     let blanks = blanks::calls::parts().into_iter().flat_map(|(name, calls)| inputs::of_lines(name, &calls));
-    for (name, input) in cycle.chain(blanks) {
+    let nine = nine::calls::parts().into_iter().flat_map(|(name, calls)| inputs::named(name, &calls));
+    for (name, input) in cycle.chain(blanks).chain(nine) {
+        let input = kept(input);
         for line in lines(&input) {
             histogram.count_call(line);
         }

@@ -8,7 +8,8 @@ use super::texts;
 use crate::conditions::kinds::{difference_kind, sum_kind};
 use crate::values::operations::{add, adjust, casts, subtract};
 use crate::values::writing::write;
-use crate::values::{Kind, Value, KINDS, MICROS_A_DAY, MOST_DURATION_MICROS, MOST_DURATION_MONTHS};
+use crate::values::{most_duration_ticks, ticks_a_day, ticks_a_minute, ticks_a_second};
+use crate::values::{Kind, Value, KINDS, MOST_DURATION_MONTHS};
 
 /// One call without its newline.
 pub fn call(random: &mut Random) -> Vec<u8> {
@@ -108,14 +109,15 @@ fn compare(random: &mut Random) -> Vec<u8> {
 
 /// A text of an equal value, often written in another zone or form, or of one just beside it.
 pub(super) fn near(random: &mut Random, value: &Value) -> String {
-    let step = random.pick(&[0, 0, 0, 0, 1, -1, 1_000_000, 60_000_000, -60_000_000, 86_400_000_000, -86_400_000_000]);
+    let (second, minute, day) = (ticks_a_second(), ticks_a_minute(), ticks_a_day());
+    let step = random.pick(&[0, 0, 0, 0, 0, 1, -1, 1, second / 1_000_000, second, minute, -minute, day, -day]);
     match *value {
-        Value::DayTime(micros) => texts::duration_text(random, Kind::DayTime, micros + step),
+        Value::DayTime(ticks) => texts::duration_text(random, Kind::DayTime, ticks + step),
         Value::YearMonth(months) => texts::duration_text(random, Kind::YearMonth, months + step.signum()),
         _ if random.chance(40) => same_instant(random, value),
         _ => {
             let moved = add(value, &Value::DayTime(step)).unwrap_or(*value);
-            let zone = Value::DayTime(random.between(-840, 840) as i128 * 60_000_000);
+            let zone = Value::DayTime(random.between(-840, 840) as i128 * ticks_a_minute());
             let Ok(at_utc) = adjust(&moved, &Value::DayTime(0)) else {
                 return write(&moved);
             };
@@ -132,15 +134,15 @@ fn same_instant(random: &mut Random, value: &Value) -> String {
     let moved = match value {
         Value::Date { day, zone } if at(zone) <= -600 => Value::Date { day: day + 1, zone: Some(at(zone) + 1440) },
         Value::Date { day, zone } if at(zone) >= 600 => Value::Date { day: day - 1, zone: Some(at(zone) - 1440) },
-        Value::Time { micro, zone } => {
-            let minutes = (micro / 60_000_000) as i64;
+        Value::Time { tick, zone } => {
+            let minutes = (tick / ticks_a_minute()) as i64;
             let least = (-840).max(at(zone) - minutes);
             let most = 840.min(at(zone) + 1439 - minutes);
             let other = random.between(least, most);
-            Value::Time { micro: micro + (other - at(zone)) as i128 * 60_000_000, zone: Some(other) }
+            Value::Time { tick: tick + (other - at(zone)) as i128 * ticks_a_minute(), zone: Some(other) }
         }
         Value::DateTime { .. } => {
-            let zone = Value::DayTime(random.between(-840, 840) as i128 * 60_000_000);
+            let zone = Value::DayTime(random.between(-840, 840) as i128 * ticks_a_minute());
             adjust(&adjust(value, &Value::DayTime(0)).unwrap_or(*value), &zone).unwrap_or(*value)
         }
         _ => *value,
@@ -188,45 +190,46 @@ fn step_text(random: &mut Random, value: &Value, kind: Kind, direction: i128) ->
     if random.chance(55) {
         return texts::good(random, kind);
     }
-    let beside = random.pick(&[0, 0, 1, -1, 2, -2, 1_000_000, -1_000_000]);
+    let second = ticks_a_second();
+    let beside = random.pick(&[0, 0, 1, -1, 1, -1, 2, -2, second / 1_000_000, second, -second]);
     let last = random.chance(50);
     let number = match (value, kind) {
-        (Value::DayTime(micros), Kind::DayTime) => {
-            (if last { MOST_DURATION_MICROS } else { -MOST_DURATION_MICROS }) - micros + beside
+        (Value::DayTime(ticks), Kind::DayTime) => {
+            (if last { most_duration_ticks() } else { -most_duration_ticks() }) - ticks + beside
         }
         (Value::YearMonth(months), Kind::YearMonth) => {
             (if last { MOST_DURATION_MONTHS } else { -MOST_DURATION_MONTHS }) - months + beside.signum()
         }
-        (_, Kind::DayTime) => micros_to_turn(random, value, last) + beside,
+        (_, Kind::DayTime) => ticks_to_turn(random, value, last) + beside,
         (_, _) => months_to_end(value, last) + beside.signum(),
     };
-    let bound = if kind == Kind::DayTime { MOST_DURATION_MICROS } else { MOST_DURATION_MONTHS };
+    let bound = if kind == Kind::DayTime { most_duration_ticks() } else { MOST_DURATION_MONTHS };
     if number.abs() > bound {
         return texts::good(random, kind);
     }
     texts::duration_text(random, kind, direction * number)
 }
 
-/// Local microseconds to a day of the cycle, or to an end; for a time, which has no day, always to an end.
-fn micros_to_turn(random: &mut Random, value: &Value, last: bool) -> i128 {
-    let start = cycle::day(random) as i128 * MICROS_A_DAY;
+/// Local ticks to a day of the cycle, or to an end; for a time, which has no day, always to an end.
+fn ticks_to_turn(random: &mut Random, value: &Value, last: bool) -> i128 {
+    let start = cycle::day(random) as i128 * ticks_a_day();
     match *value {
-        Value::DateTime { micro, .. } if random.chance(50) => start - micro,
-        Value::Date { day, .. } if random.chance(50) => start - day as i128 * MICROS_A_DAY,
-        _ => micros_to_end(value, last),
+        Value::DateTime { tick, .. } if random.chance(50) => start - tick,
+        Value::Date { day, .. } if random.chance(50) => start - day as i128 * ticks_a_day(),
+        _ => ticks_to_end(value, last),
     }
 }
 
-/// Local microseconds to the last or first dateTime; for a time to the end or start of its day.
-fn micros_to_end(value: &Value, last: bool) -> i128 {
-    let day = 86_400_000_000;
+/// Local ticks to the last or first dateTime; for a time to the end or start of its day.
+fn ticks_to_end(value: &Value, last: bool) -> i128 {
+    let day = ticks_a_day();
     match *value {
-        Value::DateTime { micro, .. } if last => (crate::values::last_day() as i128 + 1) * day - 1 - micro,
-        Value::DateTime { micro, .. } => crate::values::first_day() as i128 * day - micro,
+        Value::DateTime { tick, .. } if last => (crate::values::last_day() as i128 + 1) * day - 1 - tick,
+        Value::DateTime { tick, .. } => crate::values::first_day() as i128 * day - tick,
         Value::Date { day: at, .. } if last => (crate::values::last_day() - at + 1) as i128 * day - 1,
         Value::Date { day: at, .. } => (crate::values::first_day() - at) as i128 * day,
-        Value::Time { micro, .. } if last => day - 1 - micro,
-        Value::Time { micro, .. } => -micro,
+        Value::Time { tick, .. } if last => day - 1 - tick,
+        Value::Time { tick, .. } => -tick,
         _ => 0,
     }
 }
@@ -235,7 +238,7 @@ fn micros_to_end(value: &Value, last: bool) -> i128 {
 fn months_to_end(value: &Value, last: bool) -> i128 {
     let days = match *value {
         Value::Date { day, .. } => day,
-        Value::DateTime { micro, .. } => micro.div_euclid(86_400_000_000) as i64,
+        Value::DateTime { tick, .. } => tick.div_euclid(ticks_a_day()) as i64,
         _ => 0,
     };
     let date = crate::values::calendar::civil_from_days(days);
@@ -259,11 +262,13 @@ fn product(random: &mut Random) -> Vec<u8> {
 }
 
 fn factor(random: &mut Random) -> i128 {
-    let magnitude = match random.weighted(&[45, 10, 12, 8, 25]) {
+    let magnitude = match random.weighted(&[38, 10, 12, 8, 8, 24]) {
         0 => random.between(0, 30) as i128,
         1 => random.between(31, 99_999) as i128,
         2 => random.pick(&[999_999, 999_998, 100_000]),
         3 => random.pick(&[1_000_000, 1_000_001, 10_000_000_000_000_000_000_000, 4_294_967_296, 18_446_744_073_709_551_617]),
+        // The bounds can be divided by these.
+        4 => random.pick(&[2, 5, 8, 125, 1_000, 15_625, 62_500, 500_000]),
         _ => random.between(0, 999_999) as i128,
     };
     if random.chance(40) {
@@ -275,7 +280,7 @@ fn factor(random: &mut Random) -> i128 {
 
 /// A duration whose product with the factor stands near the kind's bound.
 fn near_quotient(random: &mut Random, kind: Kind, factor: i128) -> String {
-    let bound = if kind == Kind::DayTime { MOST_DURATION_MICROS } else { MOST_DURATION_MONTHS };
+    let bound = if kind == Kind::DayTime { most_duration_ticks() } else { MOST_DURATION_MONTHS };
     let quotient = bound / factor.abs() + random.pick(&[0, 0, 1, -1, -2]);
     texts::duration_text(random, kind, quotient.clamp(0, bound))
 }
@@ -303,8 +308,8 @@ fn adjustment(random: &mut Random) -> Vec<u8> {
 /// The same value moved to within 28 hours of the first or last dateTime or of a day of the cycle, in some zone.
 fn near_end(random: &mut Random, value: &Value) -> String {
     let last = random.chance(50);
-    let hours = random.between(0, 28 * 60) as i128 * 60_000_000;
-    let step = micros_to_turn(random, value, last) + if last { -hours } else { hours };
+    let hours = random.between(0, 28 * 60) as i128 * ticks_a_minute();
+    let step = ticks_to_turn(random, value, last) + if last { -hours } else { hours };
     let moved = subtract(value, &Value::DayTime(-step)).unwrap_or(*value);
     let bare = crate::values::operations::unzone(&moved).unwrap_or(moved);
     format!("{}{}", write(&bare), if value.kind().is_duration() { String::new() } else { texts::zone(random) })

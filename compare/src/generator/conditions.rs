@@ -9,8 +9,9 @@ use super::texts;
 use crate::conditions::kinds::{difference_kind, sum_kind};
 use crate::conditions::MOST_BYTES;
 use crate::values::operations::casts;
+use crate::values::reading::read;
 use crate::values::writing::write;
-use crate::values::{Kind, KINDS};
+use crate::values::{ticks_a_minute, Kind, KINDS};
 
 /// What the conditions of one case speak about: the kinds of the timetable's columns, and a few texts of each kind,
 /// which the timetable uses too, so that equal values are common.
@@ -67,7 +68,8 @@ fn pool_text(random: &mut Random, kind: Kind) -> String {
     match kind {
         Kind::DayTime => {
             let minutes = random.pick(&[1, 30, 60, 60, 1440, 1440, 100]) * random.between(-20, 40) as i128;
-            texts::duration_text(random, kind, minutes * 60_000_000)
+            let part = if random.chance(20) { texts::part_of_a_second(random) } else { 0 };
+            texts::duration_text(random, kind, minutes * ticks_a_minute() + part)
         }
         Kind::YearMonth => {
             let months = random.between(-20, 40) as i128;
@@ -77,11 +79,11 @@ fn pool_text(random: &mut Random, kind: Kind) -> String {
     }
 }
 
-/// A good text of no more than 32 bytes.
+/// A text of no more than 35 bytes that reads, with few exceptions.
 fn short_text(random: &mut Random, kind: Kind) -> String {
     loop {
         let text = texts::good(random, kind);
-        if text.len() <= 32 {
+        if text.len() <= 35 && (read(kind, text.as_bytes()).is_ok() || random.chance(25)) {
             return text;
         }
     }
@@ -484,7 +486,14 @@ const NOTED: &[&str] = &[
     "xs:time(xs:dateTime(\"2000-01-01T12:00:00Z\")) eq xs:time(\"12:00:00\")",
     "xs:date(\"bad\") eq xs:time(\"00:00:00\")",
     "xs:date(\"bad\") eq xs:date(\"12000-01-01\")",
-    "xs:time(\"00:00:00.0000000\") eq xs:time(\"bad\")",
+    "xs:time(\"00:00:00.0000000000\") eq xs:time(\"bad\")",
+    "xs:time(\"00:00:00.000000000\") eq xs:time(\"24:00:00.0000000\")",
+    "xs:time(\"00:00:00.000000001\") gt xs:time(\"00:00:00\")",
+    "xs:time(\"25:00:00.0000000000\") eq xs:time($1)",
+    "xs:dayTimeDuration(\"-PT0.000000000S\") eq xs:dayTimeDuration(\"PT0S\")",
+    "xs:dayTimeDuration(\"PT1000000000000.000000001S\") eq xs:dayTimeDuration($1)",
+    "xs:dayTimeDuration(\"PT1000000000000S\") + xs:dayTimeDuration(\"PT0.000000001S\") eq xs:dayTimeDuration($1)",
+    "xs:dayTimeDuration(\"PT1000000000000S\") * 999999 * 0 eq xs:dayTimeDuration(\"PT0S\")",
     "xs:date(\"12000-01-01\") eq xs:date(\"bad\")",
     "xs:time(\"00:00:00\") eq xs:time(\"00:00:00\") or xs:date(\"bad\") eq xs:date($1)",
     "xs:time(\"00:00:00\") eq xs:time(\"00:00:00\") or xs:date($16) eq xs:date($1)",

@@ -4,6 +4,7 @@ use super::blanks::{self, IN_A_FIELD};
 use super::conditions::{self, Setting};
 use super::cycle;
 use super::damage::{damaged, noise};
+use super::nine;
 use super::random::Random;
 use super::runs::{self, AT_NOTED, MOST, NOTED};
 use super::texts;
@@ -94,8 +95,8 @@ fn with_runs(random: &mut Random) -> Case {
     }
 }
 
-/// Cases at the bounds of the whole timetable, of the whole input and of runs, at the calendar's cycle and with blanks, which
-/// chance alone would seldom make.
+/// Cases at the bounds of the whole timetable, of the whole input and of runs, at the calendar's cycle, with blanks and with
+/// nanoseconds, which chance alone would seldom make.
 pub fn edges(seed: u64) -> Vec<Case> {
     let random = &mut Random::new(seed);
     let setting = &Setting::new(random);
@@ -121,6 +122,7 @@ pub fn edges(seed: u64) -> Vec<Case> {
     cases.extend(run_edges());
     cases.extend(cycle::desks::cases());
     cases.extend(blanks::desks::cases());
+    cases.extend(nine::desks::cases());
     cases
 }
 
@@ -183,7 +185,7 @@ fn lines(random: &mut Random, setting: &Setting, least: usize, most: usize) -> V
     bytes
 }
 
-fn row(random: &mut Random, setting: &Setting) -> Vec<u8> {
+pub(super) fn row(random: &mut Random, setting: &Setting) -> Vec<u8> {
     if setting.most_occurrences > 0 && random.chance(75) {
         return runs::line(random, setting);
     }

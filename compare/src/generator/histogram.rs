@@ -1,11 +1,12 @@
 //! Counts that show how well the generated cases cover what can be answered.
 
 use super::blanks::counts;
+use super::nine::counts as fractions;
 use crate::conditions::accept;
 use crate::hostile::{Script, MOST_EVENTS_BYTES};
 use crate::library::Session;
 use crate::lines::{fields, lines};
-use crate::programs::{answer_line, desk, MOST_CALLS_BYTES};
+use crate::programs::{answer_line, desk, judgements, MOST_CALLS_BYTES};
 use crate::runs::{is_run_line, Run};
 use std::collections::BTreeMap;
 
@@ -29,7 +30,11 @@ impl Histogram {
         names.into_iter().for_each(|name| self.count(format!("blanks     {name}")));
     }
 
-    /// A call by its word, by its kinds, by its answer, and by the blanks in its texts.
+    fn count_fractions(&mut self, names: Vec<String>) {
+        names.into_iter().for_each(|name| self.count(format!("fraction   {name}")));
+    }
+
+    /// A call by its word, by its kinds, by its answer, and by the blanks and fractions in its texts.
     pub fn count_call(&mut self, line: &[u8]) {
         if !self.counting {
             return;
@@ -46,6 +51,7 @@ impl Histogram {
             return;
         }
         self.count_blanks(counts::of_call(line));
+        self.count_fractions(fractions::of_call(line));
         self.count(format!("call       {} {result}", fields[0]));
         if fields[0] == "compare" && result == "answered" {
             self.count(format!("compare    {}", answer.trim_end()));
@@ -55,7 +61,8 @@ impl Histogram {
     }
 
     /// The desk program's output by the words of its lines and by its numbers, the timetable's lines by what they stand
-    /// for, where it has runs the good conditions by the fields that they read, and fields and literals by their blanks.
+    /// for, where it has runs the good conditions by the fields that they read, and fields and literals by their blanks and
+    /// fractions.
     pub fn count_desk(&mut self, timetable: &[u8], conditions: &[u8]) {
         if !self.counting {
             return;
@@ -69,6 +76,8 @@ impl Histogram {
             good.for_each(|condition| self.count(format!("condition  {}", fields_read(condition))));
         }
         self.count_blanks(counts::of_desk(timetable, conditions));
+        self.count_fractions(fractions::of_lines("timetable", timetable));
+        self.count_fractions(fractions::of_lines("conditions", conditions));
         for line in desk(timetable, conditions).lines() {
             let fields: Vec<&str> = line.split('\t').collect();
             let name = match fields[0] {
@@ -79,6 +88,20 @@ impl Histogram {
             };
             self.count(name);
         }
+    }
+
+    /// A line of `judgements` by its answer, and by its fractions.
+    pub fn count_judgement(&mut self, line: &[u8]) {
+        if !self.counting {
+            return;
+        }
+        let answer = judgements(line);
+        let name = match answer.trim_end().split_once('\t') {
+            Some((word, number)) => format!("{word} {number:>2}"),
+            None => answer.trim_end().to_string(),
+        };
+        self.count(format!("judged     {name}"));
+        self.count_fractions(fractions::of_lines("line", line));
     }
 
     /// Each event by its word and by the words of its answer's first line.
@@ -106,7 +129,7 @@ impl Histogram {
         }
     }
 
-    /// Each call of the library by its word and by its answer, and by the blanks in its texts.
+    /// Each call of the library by its word and by its answer, and by the blanks and fractions in its texts.
     pub fn count_library(&mut self, timetable: &[u8], input: &[u8]) {
         if !self.counting {
             return;
@@ -119,6 +142,7 @@ impl Histogram {
             let name = library_words(line, &session.answer(line));
             self.count(name);
             self.count_blanks(counts::of_library(line));
+            self.count_fractions(fractions::of_lines("line", line));
         }
     }
 

@@ -13,42 +13,58 @@ pub use crate::runs::MOST_OCCURRENCES as MOST;
 use crate::values::calendar::DAYS_IN_400_YEARS;
 use crate::values::operations::{add, cast};
 use crate::values::reading::read;
+use crate::values::ticks::fraction_digits;
 use crate::values::writing::write;
-use crate::values::{first_day, last_day, Kind, Value, Zone, KINDS, MICROS_A_DAY, MICROS_A_MINUTE, MOST_DURATION_MICROS};
+use crate::values::{first_day, last_day, most_duration_ticks, ticks_a_day, ticks_a_minute, ticks_a_second};
+use crate::values::{Kind, Value, Zone, KINDS, MOST_DURATION_SECONDS};
 
-/// Steps in microseconds, from the smallest to the greatest that a text can have.
-const STEPS: &[i128] = &[
-    1,
-    2,
-    1_000,
-    250_000,
-    500_000,
-    1_000_000,
-    60_000_000,
-    60_000_000,
-    70_100_000,
-    600_000_000,
-    600_000_000,
-    600_000_000,
-    900_000_000,
-    3_600_000_000,
-    3_600_000_000,
-    50_400_000_000,
-    86_399_999_999,
-    86_400_000_000,
-    86_400_000_000,
-    86_400_000_001,
-    90_061_000_001,
-    604_800_000_000,
-    365 * MICROS_A_DAY,
-    366 * MICROS_A_DAY,
-    1_461 * MICROS_A_DAY,
-    2_537 * MICROS_A_DAY,
-    36_524 * MICROS_A_DAY,
-    DAYS_IN_400_YEARS as i128 * MICROS_A_DAY,
-    100_000_000_000_000_000,
-    MOST_DURATION_MICROS,
+/// Steps in seconds with ticks more or less, from the smallest to the greatest that a text can have.
+const STEPS: &[(i128, i128)] = &[
+    (0, 1),
+    (0, 1),
+    (0, 2),
+    (0, 999),
+    (0, 1_000),
+    (0, 250_000),
+    (1, -1),
+    (1, 0),
+    (1, 1),
+    (60, 0),
+    (60, 0),
+    (60, 1),
+    (70, 100_000),
+    (600, 0),
+    (600, 0),
+    (600, 0),
+    (900, 0),
+    (3_600, 0),
+    (3_600, 0),
+    (50_400, 0),
+    (86_400, -1),
+    (86_400, 0),
+    (86_400, 0),
+    (86_400, 1),
+    (90_061, 1),
+    (604_800, 0),
+    (365 * 86_400, 0),
+    (366 * 86_400, 0),
+    (1_461 * 86_400, 0),
+    (2_537 * 86_400, 0),
+    (36_524 * 86_400, 0),
+    (DAYS_IN_400_YEARS as i128 * 86_400, 0),
+    (MOST_DURATION_SECONDS / 10, 0),
+    (MOST_DURATION_SECONDS, -1),
+    (MOST_DURATION_SECONDS, 0),
 ];
+
+/// So many seconds and ticks.
+fn span((seconds, ticks): (i128, i128)) -> i128 {
+    seconds * ticks_a_second() + ticks
+}
+
+fn any_step(random: &mut Random) -> i128 {
+    span(random.pick(STEPS))
+}
 
 /// Second fields that are not the word, and so make the line a plain one.
 const OTHER_WORDS: &[&str] = &[
@@ -71,40 +87,40 @@ const OTHER_WORDS: &[&str] = &[
 /// A dateTime that the runs of a case lie about: often near the first or the last of the calendar or a day of its cycle.
 pub(super) fn middle(random: &mut Random) -> Value {
     let (_, value) = texts::good_value(random, Kind::DateTime);
-    let Value::DateTime { micro, zone } = value else {
+    let Value::DateTime { tick, zone } = value else {
         return value;
     };
-    let minutes = random.between(0, 40 * 60) as i128 * MICROS_A_MINUTE;
+    let minutes = random.between(0, 40 * 60) as i128 * ticks_a_minute();
     match random.below(10) {
-        0 => Value::DateTime { micro: calendar_start() + minutes, zone },
-        1 | 2 => Value::DateTime { micro: calendar_end() - MICROS_A_MINUTE - minutes, zone },
+        0 => Value::DateTime { tick: calendar_start() + minutes, zone },
+        1 | 2 => Value::DateTime { tick: calendar_end() - ticks_a_minute() - minutes, zone },
         3 | 4 => {
-            let next_day = (cycle::day(random) + 1) as i128 * MICROS_A_DAY;
-            Value::DateTime { micro: calendar_start().max(next_day - MICROS_A_MINUTE - minutes), zone }
+            let next_day = (cycle::day(random) + 1) as i128 * ticks_a_day();
+            Value::DateTime { tick: calendar_start().max(next_day - ticks_a_minute() - minutes), zone }
         }
-        5..=7 => Value::DateTime { micro: micro - micro.rem_euclid(MICROS_A_MINUTE), zone },
+        5..=7 => Value::DateTime { tick: tick - tick.rem_euclid(ticks_a_minute()), zone },
         _ => value,
     }
 }
 
 pub(super) fn step_text(random: &mut Random) -> String {
     loop {
-        let step = random.pick(STEPS);
+        let step = any_step(random);
         let text = texts::duration_text(random, Kind::DayTime, step);
-        if text.len() <= 32 {
+        if text.len() <= 35 {
             return text;
         }
     }
 }
 
-/// The first microsecond that a local dateTime has.
+/// The first tick that a local dateTime has.
 fn calendar_start() -> i128 {
-    first_day() as i128 * MICROS_A_DAY
+    first_day() as i128 * ticks_a_day()
 }
 
-/// The first microsecond of year 10000.
+/// The first tick of year 10000.
 fn calendar_end() -> i128 {
-    (last_day() as i128 + 1) * MICROS_A_DAY
+    (last_day() as i128 + 1) * ticks_a_day()
 }
 
 /// A line of at most so many occurrences as the setting allows, without its newline.
@@ -169,24 +185,24 @@ fn with_blanks(random: &mut Random, mut texts: Texts) -> Texts {
     texts
 }
 
-/// The first occurrence as local microseconds with its zone, and a step.
+/// The first occurrence as local ticks with its zone, and a step.
 fn beginning(random: &mut Random, setting: &Setting) -> (i128, Zone, i128) {
     let text = if random.chance(75) { setting.pooled(random, Kind::DateTime) } else { texts::good(random, Kind::DateTime) };
-    let (micro, zone) = match read(Kind::DateTime, text.as_bytes()) {
-        Ok(Value::DateTime { micro, zone }) => (micro, zone),
+    let (tick, zone) = match read(Kind::DateTime, text.as_bytes()) {
+        Ok(Value::DateTime { tick, zone }) => (tick, zone),
         _ => (0, None),
     };
     let pooled = setting.pooled(random, Kind::DayTime);
     let step = match read(Kind::DayTime, pooled.as_bytes()) {
         Ok(Value::DayTime(step)) if step > 0 && random.chance(60) => step,
-        _ => random.pick(STEPS),
+        _ => any_step(random),
     };
-    (micro, zone, step)
+    (tick, zone, step)
 }
 
 /// The three texts of a run whose last instant is so far after its first; none where a year has no text.
-fn texts_of(random: &mut Random, micro: i128, zone: Zone, apart: i128, step: i128) -> Option<Texts> {
-    let instant = micro - minutes(zone) + apart;
+fn texts_of(random: &mut Random, tick: i128, zone: Zone, apart: i128, step: i128) -> Option<Texts> {
+    let instant = tick - minutes(zone) + apart;
     let last = (0..8).find_map(|_| {
         let other = match random.below(10) {
             0..=3 => zone,
@@ -196,27 +212,29 @@ fn texts_of(random: &mut Random, micro: i128, zone: Zone, apart: i128, step: i12
         };
         form(random, instant + minutes(other), other)
     })?;
-    let first = form(random, micro, zone)?;
+    let first = form(random, tick, zone)?;
     Some([first, last, texts::duration_text(random, Kind::DayTime, step)].map(String::into_bytes))
 }
 
 fn minutes(zone: Zone) -> i128 {
-    zone.unwrap_or(0) as i128 * MICROS_A_MINUTE
+    zone.unwrap_or(0) as i128 * ticks_a_minute()
 }
 
 /// One of the many texts of a dateTime: midnight as 24:00:00 of the day before, fractions with final zeros, and zone 0
 /// in each of its forms.
-fn form(random: &mut Random, micro: i128, zone: Zone) -> Option<String> {
-    let value = Value::date_time_within_bounds(micro, None)?;
+fn form(random: &mut Random, tick: i128, zone: Zone) -> Option<String> {
+    let value = Value::date_time_within_bounds(tick, None)?;
     let mut text = write(&value);
-    let day = micro.div_euclid(MICROS_A_DAY);
-    if micro.rem_euclid(MICROS_A_DAY) == 0 && random.chance(50) {
+    let day = tick.div_euclid(ticks_a_day());
+    if tick.rem_euclid(ticks_a_day()) == 0 && random.chance(50) {
         if let Some(before) = Value::date_within_bounds(day - 1, None) {
             text = format!("{}T24:00:00", write(&before));
         }
     }
     if random.chance(10) {
-        let missing = if text.contains('.') { 6 - text.rsplit('.').next().map_or(0, str::len) } else { random.below(7) };
+        let most = fraction_digits();
+        let there = if text.contains('.') { text.rsplit('.').next().map_or(0, str::len) } else { 0 };
+        let missing = if random.chance(50) { most - there } else { random.below(most - there + 1) };
         let point = if text.contains('.') || missing == 0 { "" } else { "." };
         text += &format!("{point}{}", "0".repeat(missing));
     }
@@ -252,34 +270,34 @@ fn good(random: &mut Random, setting: &Setting) -> Texts {
         _ => random.pick(&[most, most - 1]),
     };
     tried(random, |random| {
-        let (micro, zone, step) = beginning(random, setting);
+        let (tick, zone, step) = beginning(random, setting);
         let slack = random.pick(&[0, 0, 0, 1, step / 2, step - 1]).min(step - 1);
-        texts_of(random, micro, zone, (count - 1) as i128 * step + slack, step)
+        texts_of(random, tick, zone, (count - 1) as i128 * step + slack, step)
     })
 }
 
 fn empty(random: &mut Random, setting: &Setting) -> Texts {
     tried(random, |random| {
-        let (micro, zone, step) = beginning(random, setting);
-        let before = random.pick(&[1, 1, 1_000_000, 60_000_000, 28 * 3_600_000_000, 365 * MICROS_A_DAY, step]);
-        texts_of(random, micro, zone, -before, step)
+        let (tick, zone, step) = beginning(random, setting);
+        let before = random.pick(&[1, 1, ticks_a_second(), ticks_a_minute(), span((28 * 3_600, 0)), 365 * ticks_a_day(), step]);
+        texts_of(random, tick, zone, -before, step)
     })
 }
 
 /// A step of zero or below, last before first as often as not.
 fn step_not_above_zero(random: &mut Random, setting: &Setting) -> Texts {
     tried(random, |random| {
-        let (micro, zone, step) = beginning(random, setting);
-        let apart = random.pick(&[0, 1, -1, 60_000_000, -60_000_000, 10 * step, -10 * step, -365 * MICROS_A_DAY]);
-        let step = random.pick(&[0, 0, -1, -step, -60_000_000, -MOST_DURATION_MICROS]);
-        texts_of(random, micro, zone, apart, step)
+        let (tick, zone, step) = beginning(random, setting);
+        let apart = random.pick(&[0, 1, -1, ticks_a_minute(), -ticks_a_minute(), 10 * step, -10 * step, -365 * ticks_a_day()]);
+        let step = random.pick(&[0, 0, -1, -1, 1 - ticks_a_second(), -step, -ticks_a_minute(), -most_duration_ticks()]);
+        texts_of(random, tick, zone, apart, step)
     })
 }
 
 /// 1,441 occurrences, the one that is too many just there, or many more; and just not so many.
 fn too_many(random: &mut Random, setting: &Setting) -> Texts {
     tried(random, |random| {
-        let (micro, zone, step) = beginning(random, setting);
+        let (tick, zone, step) = beginning(random, setting);
         let full = MOST as i128 * step;
         let apart = match random.below(8) {
             0..=2 => full,
@@ -289,10 +307,10 @@ fn too_many(random: &mut Random, setting: &Setting) -> Texts {
             6 => full * random.between(2, 1_000) as i128,
             _ => {
                 let small = random.between(1, 1_000) as i128;
-                return texts_of(random, micro, zone, 366 * MICROS_A_DAY, small);
+                return texts_of(random, tick, zone, 366 * ticks_a_day(), small);
             }
         };
-        texts_of(random, micro, zone, apart, step)
+        texts_of(random, tick, zone, apart, step)
     })
 }
 
@@ -309,11 +327,11 @@ fn two_zones(random: &mut Random) -> (Zone, Zone) {
 
 /// First and last just before year 10000, each in its own zone, so that occurrences may pass it or come near.
 fn at_the_end(random: &mut Random) -> Texts {
-    const BEFORE: &[i128] =
-        &[1, 1, 2, 1_000_000, 60_000_000, 600_000_000, 1_800_000_000, 3_600_000_000, 36_000_000_000, 86_400_000_000];
+    const BEFORE: &[(i128, i128)] =
+        &[(0, 1), (0, 1), (0, 2), (0, 1_000), (1, 0), (60, 0), (600, 0), (1_800, 0), (3_600, 0), (36_000, 0), (86_400, 0)];
     tried(random, |random| {
         let (zone, other) = two_zones(random);
-        let (first, last) = (random.pick(BEFORE), random.pick(BEFORE));
+        let (first, last) = (span(random.pick(BEFORE)), span(random.pick(BEFORE)));
         let apart = first - last + minutes(zone) - minutes(other);
         let step = match random.below(10) {
             0 => first,
@@ -325,7 +343,7 @@ fn at_the_end(random: &mut Random) -> Texts {
             6 => apart + 1,
             7 => apart / 2,
             8 => apart / random.between(1_430, 1_450) as i128,
-            _ => random.pick(STEPS),
+            _ => any_step(random),
         };
         let (first, last) = (form(random, calendar_end() - first, zone)?, form(random, calendar_end() - last, other)?);
         Some([first, last, texts::duration_text(random, Kind::DayTime, step)].map(String::into_bytes))
@@ -334,16 +352,16 @@ fn at_the_end(random: &mut Random) -> Texts {
 
 /// First and last just after the start of year 1, whose instants may lie in the year before it.
 fn at_the_start(random: &mut Random) -> Texts {
-    const AFTER: &[i128] = &[0, 0, 0, 1, 1_000_000, 60_000_000, 3_600_000_000, 86_400_000_000];
+    const AFTER: &[(i128, i128)] = &[(0, 0), (0, 0), (0, 0), (0, 1), (1, 0), (60, 0), (3_600, 0), (86_400, 0)];
     tried(random, |random| {
         let (zone, other) = two_zones(random);
-        let (first, last) = (random.pick(AFTER), random.pick(AFTER));
+        let (first, last) = (span(random.pick(AFTER)), span(random.pick(AFTER)));
         let apart = last - first + minutes(zone) - minutes(other);
         let step = match random.below(4) {
             0 => apart,
             1 => apart / random.between(1, 6) as i128,
             2 => apart / random.between(1_438, 1_441) as i128,
-            _ => random.pick(STEPS),
+            _ => any_step(random),
         };
         let (first, last) = (form(random, calendar_start() + first, zone)?, form(random, calendar_start() + last, other)?);
         Some([first, last, texts::duration_text(random, Kind::DayTime, step)].map(String::into_bytes))
@@ -384,8 +402,8 @@ fn look_alike(kind: Kind) -> Kind {
 
 /// A text of a dateTime at or just beside an occurrence of a run as the setting makes them, in some zone.
 fn moment(random: &mut Random, setting: &Setting) -> (String, Value) {
-    let (micro, zone, step) = beginning(random, setting);
-    let first = Value::DateTime { micro, zone };
+    let (tick, zone, step) = beginning(random, setting);
+    let first = Value::DateTime { tick, zone };
     let place = random.between(0, setting.most_occurrences.clamp(1, 12) as i64);
     let value = add(&first, &Value::DayTime(step * place as i128)).unwrap_or(first);
     let text = near(random, &value);
@@ -462,8 +480,8 @@ use Noted::{Occurrences, Plain, Refused};
 pub const NOTED: &[(&str, Noted)] = &[
     // As long as the instant is not past the last.
     ("n|every|2024-03-30T23:50:00+01:00|2024-03-31T00:10:00+01:00|PT10M", Occurrences(3)),
-    ("n|every|2024-03-30T23:50:00+01:00|2024-03-31T00:09:59.999999+01:00|PT10M", Occurrences(2)),
-    ("n|every|2024-03-30T23:50:00+01:00|2024-03-31T00:19:59.999999+01:00|PT10M", Occurrences(3)),
+    ("n|every|2024-03-30T23:50:00+01:00|2024-03-31T00:09:59.999999999+01:00|PT10M", Occurrences(2)),
+    ("n|every|2024-03-30T23:50:00+01:00|2024-03-31T00:19:59.999999999+01:00|PT10M", Occurrences(3)),
     ("|every|2024-03-30T23:50:00|2024-03-30T23:50:00|PT10M", Occurrences(1)),
     ("every|every|2024-03-30T23:50:00|2024-03-30T23:50:00|PT10M", Occurrences(1)),
     ("n|every|2024-03-30T23:50:00|2024-03-31T23:50:00|P1D", Occurrences(2)),
@@ -471,8 +489,8 @@ pub const NOTED: &[(&str, Noted)] = &[
     ("n|every|2024-02-28T12:00:00|2024-03-01T12:00:00|P1D", Occurrences(3)),
     ("n|every|2023-02-28T12:00:00|2023-03-01T12:00:00|P1D", Occurrences(2)),
     // No occurrence at all.
-    ("n|every|2024-03-30T23:50:00|2024-03-30T23:49:59.999999|PT10M", Occurrences(0)),
-    ("n|every|9999-12-31T23:59:59|0001-01-01T00:00:00|PT0.000001S", Occurrences(0)),
+    ("n|every|2024-03-30T23:50:00|2024-03-30T23:49:59.999999999|PT10M", Occurrences(0)),
+    ("n|every|9999-12-31T23:59:59|0001-01-01T00:00:00|PT0.000000001S", Occurrences(0)),
     ("n|every|9999-12-31T23:59:59-14:00|0001-01-01T00:00:00+14:00|PT1000000000000S", Occurrences(0)),
     // Instants, not local fields; no zone counts as UTC.
     ("n|every|2024-03-31T00:00:00+14:00|2024-03-30T10:00:00Z|PT1S", Occurrences(1)),
@@ -486,7 +504,7 @@ pub const NOTED: &[(&str, Noted)] = &[
     // 24:00:00.
     ("n|every|2024-02-28T24:00:00|2024-02-29T00:20:00|PT10M", Occurrences(3)),
     ("n|every|2024-02-29T23:50:00|2024-02-29T24:00:00|PT10M", Occurrences(2)),
-    ("n|every|2023-12-31T24:00:00Z|2023-12-31T24:00:00.000000Z|PT1S", Occurrences(1)),
+    ("n|every|2023-12-31T24:00:00Z|2023-12-31T24:00:00.000000000Z|PT1S", Occurrences(1)),
     ("n|every|2023-12-31T24:00:00|2023-12-31T23:59:59|PT1S", Occurrences(0)),
     ("n|every|9999-12-31T23:50:00|9999-12-31T24:00:00|PT10M", Refused(2)),
     ("n|every|9999-12-31T24:00:00|bad|PT10M", Refused(2)),
@@ -495,16 +513,43 @@ pub const NOTED: &[(&str, Noted)] = &[
     ("n|every|2024-03-30T23:59:59.5|2024-03-31T00:00:00.500000|PT0.25S", Occurrences(5)),
     ("n|every|2024-03-30T00:00:00|2024-03-30T00:00:00.999999|PT0.333333S", Occurrences(4)),
     ("n|every|2024-03-30T00:00:00|2024-03-30T00:00:00.999998|PT0.333333S", Occurrences(3)),
+    ("n|every|2024-03-30T00:00:00|2024-03-30T00:00:00.999999999|PT0.333333333S", Occurrences(4)),
+    ("n|every|2024-03-30T00:00:00|2024-03-30T00:00:00.999999998|PT0.333333333S", Occurrences(3)),
+    // Nanoseconds: over a second, a day, a month and a year, and a last that is one before an occurrence or at it.
+    ("n|every|2024-03-30T00:00:00.000000001|2024-03-30T00:00:00.000000003|PT0.000000001S", Occurrences(3)),
+    ("n|every|2024-03-30T11:59:59.999999998|2024-03-30T12:00:00.000000001|PT0.000000001S", Occurrences(4)),
+    ("n|every|2024-03-30T11:59:59.9999995|2024-03-30T12:00:00.0000005|PT0.00000025S", Occurrences(5)),
+    ("n|every|2024-03-30T23:59:59.999999998Z|2024-03-31T00:00:00.000000001Z|PT0.000000001S", Occurrences(4)),
+    ("n|every|2024-02-29T23:59:59.999999999|2024-03-01T00:00:00.000000001|PT0.000000002S", Occurrences(2)),
+    ("n|every|2023-12-31T23:59:59.999999997|2024-01-01T00:00:00|PT0.000000001S", Occurrences(4)),
+    ("n|every|2023-12-31T23:59:59.999999999+14:00|2023-12-31T10:00:00.000000001Z|PT0.000000001S", Occurrences(3)),
+    ("n|every|2024-03-30T00:00:00|2024-03-30T00:20:00.000000001|PT10M0.000000001S", Occurrences(2)),
+    ("n|every|2024-03-30T00:00:00|2024-03-30T00:20:00.000000002|PT10M0.000000001S", Occurrences(3)),
+    ("n|every|2024-03-30T00:00:00|2024-03-30T00:20:00|PT9M59.999999999S", Occurrences(3)),
+    ("n|every|2024-03-30T00:00:00|2024-03-30T00:00:00.000001438|PT0.000000001S", Occurrences(1_439)),
+    ("n|every|2024-03-30T00:00:00|2024-03-30T00:00:00.000001439|PT0.000000001S", Occurrences(1_440)),
+    ("n|every|2024-03-30T00:00:00|2024-03-30T00:00:00.00000144|PT0.000000001S", Refused(18)),
+    ("n|every|2024-03-30T23:59:59.999999|2024-03-31T00:00:00.000000439|PT0.000000001S", Occurrences(1_440)),
+    ("n|every|2023-12-31T23:59:59.999999|2024-01-01T00:00:00.00000044|PT0.000000001S", Refused(18)),
+    ("n|every|2024-03-30T00:00:00|2024-03-30T23:59:00.000001438|PT1M0.000000001S", Occurrences(1_439)),
+    ("n|every|2024-03-30T00:00:00|2024-03-30T23:59:00.000001439|PT1M0.000000001S", Occurrences(1_440)),
+    ("n|every|2024-03-30T00:00:00|2024-03-31T00:00:00.000001439|PT1M0.000000001S", Occurrences(1_440)),
+    ("n|every|2024-03-30T00:00:00|2024-03-31T00:00:00.00000144|PT1M0.000000001S", Refused(18)),
+    ("n|every|2024-03-30T00:00:00|2024-03-30T23:59:59.999998559|PT59.999999999S", Occurrences(1_440)),
+    ("n|every|2024-03-30T00:00:00|2024-03-30T23:59:59.99999856|PT59.999999999S", Refused(18)),
     // The step.
     ("n|every|2024-03-30T00:00:00|2024-03-31T00:00:00|PT0S", Refused(17)),
     ("n|every|2024-03-30T00:00:00|2024-03-31T00:00:00|-PT0S", Refused(17)),
     ("n|every|2024-03-30T00:00:00|2024-03-31T00:00:00|-PT0.000001S", Refused(17)),
+    ("n|every|2024-03-30T00:00:00|2024-03-31T00:00:00|-PT0.000000001S", Refused(17)),
+    ("n|every|2024-03-30T00:00:00|2024-03-31T00:00:00|-PT0.999999999S", Refused(17)),
+    ("n|every|2024-03-30T00:00:00|2024-03-31T00:00:00|-PT0.000000000S", Refused(17)),
     ("n|every|2024-03-30T00:00:00|2024-03-30T00:00:00|-P1D", Refused(17)),
     ("n|every|2024-03-31T00:00:00|2024-03-30T00:00:00|PT0S", Refused(17)),
     ("n|every|2024-03-31T00:00:00|2024-03-30T00:00:00|-P1D", Refused(17)),
     ("n|every|9999-12-31T23:00:00+14:00|9999-12-31T23:59:59-14:00|PT0S", Refused(17)),
-    ("n|every|2024-03-30T00:00:00|2024-03-31T00:00:00|PT1000000000000.000001S", Refused(2)),
-    ("n|every|2024-03-30T00:00:00|2024-03-31T00:00:00|PT0.1234567S", Refused(3)),
+    ("n|every|2024-03-30T00:00:00|2024-03-31T00:00:00|PT1000000000000.000000001S", Refused(2)),
+    ("n|every|2024-03-30T00:00:00|2024-03-31T00:00:00|PT0.1234567890S", Refused(3)),
     ("n|every|2024-03-30T00:00:00|2024-03-31T00:00:00|P1M", Refused(1)),
     ("n|every|2024-03-30T00:00:00|2024-03-31T00:00:00|P0M", Refused(1)),
     ("n|every|2024-03-30T00:00:00|2024-03-31T00:00:00|P1Y1M", Refused(1)),
@@ -512,23 +557,25 @@ pub const NOTED: &[(&str, Noted)] = &[
     ("n|every|2024-03-30T00:00:00|2024-03-30T01:00:00|PT1H\r", Occurrences(2)),
     ("n|every|2024-03-30T00:00:00|2024-03-30T01:00:00|PT1H|\r", Occurrences(2)),
     // Over 1,440 occurrences.
-    ("n|every|2024-03-30T00:00:00|2024-03-30T23:58:59.999999|PT1M", Occurrences(1_439)),
+    ("n|every|2024-03-30T00:00:00|2024-03-30T23:58:59.999999999|PT1M", Occurrences(1_439)),
     ("n|every|2024-03-30T00:00:00|2024-03-30T23:59:00|PT1M", Occurrences(1_440)),
-    ("n|every|2024-03-30T00:00:00|2024-03-30T23:59:59.999999|PT1M", Occurrences(1_440)),
+    ("n|every|2024-03-30T00:00:00|2024-03-30T23:59:59.999999999|PT1M", Occurrences(1_440)),
     ("n|every|2024-03-30T00:00:00|2024-03-30T24:00:00|PT1M", Refused(18)),
     ("n|every|2024-03-30T00:00:00+14:00|2024-03-30T10:00:00Z|PT1M", Refused(18)),
     ("n|every|2024-03-30T00:00:00+14:00|2024-03-30T09:59:00|PT1M", Occurrences(1_440)),
     ("n|every|2024-03-30T00:00:00|2024-03-31T00:00:01|PT1M", Refused(18)),
-    ("n|every|0001-01-01T00:00:00|9999-12-31T23:59:59.999999|PT0.000001S", Refused(18)),
-    ("n|every|0001-01-01T00:00:00|9999-12-31T23:59:59.999999|P2536D", Refused(18)),
-    ("n|every|0001-01-01T00:00:00|9999-12-31T23:59:59.999999|P2537D", Occurrences(1_440)),
-    ("n|every|0001-01-01T00:00:00+14:00|9999-12-31T23:59:59.999999-14:00|P2538D", Occurrences(1_439)),
+    ("n|every|0001-01-01T00:00:00|9999-12-31T23:59:59.999999999|PT0.000000001S", Refused(18)),
+    ("n|every|0001-01-01T00:00:00|9999-12-31T23:59:59.999999999|P2536D", Refused(18)),
+    ("n|every|0001-01-01T00:00:00|9999-12-31T23:59:59.999999999|P2537D", Occurrences(1_440)),
+    ("n|every|0001-01-01T00:00:00+14:00|9999-12-31T23:59:59.999999999-14:00|P2538D", Occurrences(1_439)),
     // An occurrence whose local year passes 9999.
-    ("n|every|9999-12-31T23:00:00+14:00|9999-12-31T09:59:59.999999Z|PT30M", Occurrences(2)),
+    ("n|every|9999-12-31T23:00:00+14:00|9999-12-31T09:59:59.999999999Z|PT30M", Occurrences(2)),
     ("n|every|9999-12-31T23:00:00+14:00|9999-12-31T10:00:00Z|PT30M", Refused(4)),
     ("n|every|9999-12-31T23:00:00+14:00|9999-12-31T23:59:59Z|PT30M", Refused(4)),
     ("n|every|9999-12-31T23:59:59.999999+14:00|9999-12-31T10:00:00Z|PT0.000001S", Refused(4)),
     ("n|every|9999-12-31T23:59:59.999998+14:00|9999-12-31T09:59:59.999999Z|PT0.000001S", Occurrences(2)),
+    ("n|every|9999-12-31T23:59:59.999999999+14:00|9999-12-31T10:00:00Z|PT0.000000001S", Refused(4)),
+    ("n|every|9999-12-31T23:59:59.999999998+14:00|9999-12-31T09:59:59.999999999Z|PT0.000000001S", Occurrences(2)),
     ("n|every|9999-12-31T23:30:00|9999-12-31T23:30:00-01:00|PT1H", Refused(4)),
     ("n|every|9999-12-31T22:30:00|9999-12-31T22:30:00-01:00|PT1H", Occurrences(2)),
     ("n|every|9999-12-31T23:59:59+14:00|9999-12-31T23:59:59-14:00|PT1M", Refused(18)),
@@ -536,10 +583,10 @@ pub const NOTED: &[(&str, Noted)] = &[
     ("n|every|9999-12-31T23:59:59+14:00|9999-12-31T23:59:59-14:00|PT1M10.1S", Refused(4)),
     // The last is past 9999 in first's zone, or as an instant, and no occurrence is.
     ("n|every|9999-12-31T23:00:00+14:00|9999-12-31T23:59:59-14:00|P2D", Occurrences(1)),
-    ("n|every|9999-12-31T23:00:00Z|9999-12-31T23:00:00-14:00|PT14H0.000001S", Occurrences(1)),
+    ("n|every|9999-12-31T23:00:00Z|9999-12-31T23:00:00-14:00|PT14H0.000000001S", Occurrences(1)),
     ("n|every|9999-12-31T23:00:00Z|9999-12-31T23:00:00-14:00|PT14H", Refused(4)),
     ("n|every|9999-12-31T09:00:00-14:00|9999-12-31T23:00:00-14:00|PT7H", Occurrences(3)),
-    ("n|every|9999-12-31T23:59:59.999999-14:00|9999-12-31T23:59:59.999999-14:00|PT0.000001S", Occurrences(1)),
+    ("n|every|9999-12-31T23:59:59.999999999-14:00|9999-12-31T23:59:59.999999999-14:00|PT0.000000001S", Occurrences(1)),
     // Year 1.
     ("n|every|0001-01-01T00:00:00|0001-01-01T00:00:00|PT1H", Occurrences(1)),
     ("n|every|0001-01-01T00:00:00+14:00|0001-01-01T00:00:00-14:00|PT7H", Occurrences(5)),
@@ -571,10 +618,11 @@ pub const NOTED: &[(&str, Noted)] = &[
     ("n|every|2024-03-30T00:00:00|", Refused(1)),
     ("n|every|bad", Refused(1)),
     ("n|every|10000-01-01T00:00:00", Refused(2)),
-    ("n|every|2024-03-30T00:00:00|2024-03-30T00:00:00.0000000", Refused(3)),
-    ("n|every|bad|10000-01-01T00:00:00|PT0.0000000S", Refused(1)),
+    ("n|every|2024-03-30T00:00:00|2024-03-30T00:00:00.0000000000", Refused(3)),
+    ("n|every|bad|10000-01-01T00:00:00|PT0.0000000000S", Refused(1)),
     ("n|every|10000-01-01T00:00:00|bad|PT0S", Refused(2)),
-    ("n|every|2024-03-30T00:00:00.0000000|10000-01-01T00:00:00|bad", Refused(3)),
+    ("n|every|2024-03-30T00:00:00.0000000000|10000-01-01T00:00:00|bad", Refused(3)),
+    ("n|every|2024-03-30T00:00:00.000000000|10000-01-01T00:00:00|bad", Refused(2)),
     ("n|every|2024-03-30T00:00:00|10000-01-01T00:00:00|bad", Refused(2)),
     ("n|every|2024-03-31T00:00:00|2024-03-30T00:00:00|bad", Refused(1)),
     ("n|every|2024-03-30|2024-03-31T00:00:00|PT1H", Refused(1)),
@@ -592,7 +640,8 @@ pub const NOTED: &[(&str, Noted)] = &[
     ("n|every| 2024-03-31T00:00:00 |\r2024-03-30T00:00:00\r| PT1H ", Occurrences(0)),
     // The numbers and their order are those of what is left.
     ("n|every| 9999-12-31T24:00:00 |bad|PT1H", Refused(2)),
-    ("n|every|2024-03-30T00:00:00|2024-03-30T01:00:00.0000000\r|PT1H", Refused(3)),
+    ("n|every|2024-03-30T00:00:00|2024-03-30T01:00:00.0000000000\r|PT1H", Refused(3)),
+    ("n|every|2024-03-30T00:00:00|2024-03-30T01:00:00.000000000\r|PT1H", Occurrences(2)),
     ("n|every| 2024-03-30T00:00:00 | 2024-03-30T01:00:00 | PT0S ", Refused(17)),
     ("n|every| 2024-03-30T00:00:00 |2024-03-30T24:00:00\r|PT1M\r", Refused(18)),
     ("n|every| 9999-12-31T23:30:00|9999-12-31T23:30:00-01:00 |PT1H\r", Refused(4)),

@@ -4,8 +4,10 @@ use super::cycle;
 use super::random::Random;
 use crate::values::calendar::month_length;
 use crate::values::reading::read;
+use crate::values::ticks::fraction_digits;
 use crate::values::writing::date_text;
-use crate::values::{Kind, Value, MOST_DURATION_MICROS, MOST_DURATION_MONTHS};
+use crate::values::{most_duration_ticks, ticks_a_day, ticks_a_minute, ticks_a_second, ticks_an_hour};
+use crate::values::{Kind, Value, MOST_DURATION_MONTHS, MOST_DURATION_SECONDS};
 
 /// A text that reads as a value of the kind, almost always.
 pub fn good(random: &mut Random, kind: Kind) -> String {
@@ -56,11 +58,23 @@ fn date(random: &mut Random) -> String {
 
 fn clock(random: &mut Random) -> String {
     if random.chance(8) {
-        return format!("24:00:00{}", random.pick(&["", "", ".0", ".000000"]));
+        return format!("24:00:00{}", random.pick(&["", "", ".0", ".000000", ".0000000", ".000000000"]));
     }
     if random.chance(25) {
         return random
-            .pick(&["00:00:00", "23:59:59", "23:59:59.999999", "00:00:00.000001", "12:00:00", "10:00:00", "14:00:00"])
+            .pick(&[
+                "00:00:00",
+                "23:59:59",
+                "23:59:59.999999",
+                "00:00:00.000001",
+                "23:59:59.999999999",
+                "23:59:59.999999999",
+                "00:00:00.000000001",
+                "00:00:00.000000001",
+                "12:00:00",
+                "10:00:00",
+                "14:00:00",
+            ])
             .to_string();
     }
     let hour = if random.chance(30) { random.pick(&[0, 9, 10, 23]) } else { random.between(0, 23) };
@@ -69,16 +83,69 @@ fn clock(random: &mut Random) -> String {
     format!("{hour:02}:{minute:02}:{second:02}{}", fraction(random))
 }
 
-/// Nothing, or a point and one to six digits, among them final zeros.
+/// Nothing, or a point and digits, as many as a fraction has at most or fewer, among them final zeros.
 fn fraction(random: &mut Random) -> String {
-    match random.weighted(&[55, 15, 30]) {
+    match random.weighted(&[44, 15, 36, 5]) {
         0 => String::new(),
-        1 => random.pick(&[".0", ".000000", ".5", ".50", ".000001", ".999999", ".100000", ".000010", ".1"]).to_string(),
-        _ => {
-            let count = random.between(1, 6);
-            let digits: String = (0..count).map(|_| random.pick(&['0', '1', '5', '9', '0', '7'])).collect();
-            format!(".{digits}")
+        1 => random.pick(FRACTIONS).to_string(),
+        2 => {
+            let most = fraction_digits();
+            let least = if random.chance(50) { most - 2 } else { 1 };
+            let count = random.between(least as i64, most as i64) as usize;
+            format!(".{}", fraction_of(random, count))
         }
+        _ => long_fraction(random),
+    }
+}
+
+const FRACTIONS: &[&str] = &[
+    ".0",
+    ".000000",
+    ".0000000",
+    ".000000000",
+    ".5",
+    ".50",
+    ".000001",
+    ".0000001",
+    ".000000001",
+    ".999999",
+    ".9999999",
+    ".999999999",
+    ".100000",
+    ".100000000",
+    ".000010",
+    ".000000010",
+    ".1",
+];
+
+/// So many digits, now and then all nines or all zeros.
+fn fraction_of(random: &mut Random, count: usize) -> String {
+    match random.below(12) {
+        0 => "9".repeat(count),
+        1 => "0".repeat(count),
+        _ => (0..count).map(|_| random.pick(&['0', '1', '5', '9', '0', '7', '3'])).collect(),
+    }
+}
+
+/// A fraction that is too long, most often by one digit.
+fn long_fraction(random: &mut Random) -> String {
+    let many = random.between(4, 30) as usize;
+    let count = fraction_digits() + random.pick(&[1, 1, 1, 1, 2, 2, 3, many]);
+    format!(".{}", fraction_of(random, count))
+}
+
+/// Ticks below a second, often at an end, and often whole microseconds or milliseconds.
+pub fn part_of_a_second(random: &mut Random) -> i128 {
+    let second = ticks_a_second();
+    let any = random.between(0, second as i64 - 1) as i128;
+    let micro = second / 1_000_000;
+    match random.weighted(&[25, 10, 10, 10, 15, 30]) {
+        0 => 0,
+        1 => 1,
+        2 => second - 1,
+        3 => any - any % (micro * 1_000),
+        4 => any - any % micro,
+        _ => any,
     }
 }
 
@@ -134,36 +201,53 @@ fn day_time(random: &mut Random) -> String {
                 "-PT14H",
                 "P1DT12H",
                 "PT1.5S",
+                "PT0.000000000S",
+                "-PT0.000000000S",
+                "PT0.0000000S",
+                "PT0.000000001S",
+                "-PT0.000000001S",
+                "PT0.999999999S",
+                "-PT0.999999999S",
+                "PT1.000000001S",
+                "PT59.999999999S",
+                "-PT0.5S",
             ])
             .to_string();
     }
     if random.chance(12) {
-        let near = MOST_DURATION_MICROS - random.pick(&[0, 0, 1, 2, 999_999, 1_000_000, 86_400_000_000]);
+        let (second, day) = (ticks_a_second(), ticks_a_day());
+        let near = most_duration_ticks() - random.pick(&[0, 0, 1, 2, second / 1_000_000, second - 1, second, day]);
         return format!("{}{}", sign(random), day_time_form(random, near));
     }
     if random.chance(12) {
-        let days = cycle::count(random) as i128 * 86_400_000_000;
-        let clock = random.pick(&[0, 0, 0, 1, 86_399_999_999]);
+        let days = cycle::count(random) as i128 * ticks_a_day();
+        let clock = random.pick(&[0, 0, 0, 1, ticks_a_day() - 1]);
         return format!("{}{}", sign(random), day_time_form(random, days + clock));
     }
+    if random.chance(3) {
+        return format!("{}PT{}{}S", sign(random), random.between(0, 100_000), long_fraction(random));
+    }
     let magnitude = match random.weighted(&[20, 20, 20, 25, 15]) {
-        0 => random.between(0, 100) as i128 * 60_000_000,
-        1 => random.between(0, 200_000) as i128 * 1_000_000,
-        2 => random.between(0, 40_000_000_000_000) as i128,
-        3 => random.between(0, 400) as i128 * 86_400_000_000 + random.pick(&[0, 0, 1, 3_600_000_000, 86_399_999_999]),
-        _ => random.between(0, 1_000_000_000_000_000_000) as i128,
+        0 => random.between(0, 100) as i128 * ticks_a_minute(),
+        1 => random.between(0, 200_000) as i128 * ticks_a_second(),
+        2 => random.between(0, 40_000_000) as i128 * ticks_a_second() + part_of_a_second(random),
+        3 => random.between(0, 400) as i128 * ticks_a_day() + random.pick(&[0, 0, 1, ticks_an_hour(), ticks_a_day() - 1]),
+        _ => {
+            let seconds = random.between(0, MOST_DURATION_SECONDS as i64 - 1) as i128;
+            seconds * ticks_a_second() + part_of_a_second(random)
+        }
     };
     format!("{}{}", sign(random), day_time_form(random, magnitude))
 }
 
-/// One of the many texts of so many microseconds.
+/// One of the many texts of so many ticks.
 pub fn day_time_form(random: &mut Random, magnitude: i128) -> String {
-    let days = if random.chance(60) { magnitude / 86_400_000_000 } else { 0 };
-    let mut rest = magnitude - days * 86_400_000_000;
-    let hours = if random.chance(60) { rest / 3_600_000_000 } else { 0 };
-    rest -= hours * 3_600_000_000;
-    let minutes = if random.chance(60) { rest / 60_000_000 } else { 0 };
-    rest -= minutes * 60_000_000;
+    let days = if random.chance(60) { magnitude / ticks_a_day() } else { 0 };
+    let mut rest = magnitude - days * ticks_a_day();
+    let hours = if random.chance(60) { rest / ticks_an_hour() } else { 0 };
+    rest -= hours * ticks_an_hour();
+    let minutes = if random.chance(60) { rest / ticks_a_minute() } else { 0 };
+    rest -= minutes * ticks_a_minute();
     let mut text = String::from("P");
     if days > 0 || random.chance(10) {
         text += &format!("{}D", digits(random, days));
@@ -176,7 +260,8 @@ pub fn day_time_form(random: &mut Random, magnitude: i128) -> String {
         clock += &format!("{}M", digits(random, minutes));
     }
     if rest > 0 || random.chance(10) || (clock.is_empty() && text == "P") {
-        clock += &format!("{}{}S", digits(random, rest / 1_000_000), duration_fraction(random, rest % 1_000_000));
+        let second = ticks_a_second();
+        clock += &format!("{}{}S", digits(random, rest / second), duration_fraction(random, rest % second));
     }
     if !clock.is_empty() {
         text += &format!("T{clock}");
@@ -184,12 +269,15 @@ pub fn day_time_form(random: &mut Random, magnitude: i128) -> String {
     text
 }
 
-fn duration_fraction(random: &mut Random, micros: i128) -> String {
-    let full = format!(".{micros:06}");
-    if random.chance(20) {
-        return full;
+/// The fraction with all of its final zeros, with some of them, or without.
+fn duration_fraction(random: &mut Random, ticks: i128) -> String {
+    let full = format!(".{ticks:0most$}", most = fraction_digits());
+    let least = full.trim_end_matches('0').len();
+    match random.below(10) {
+        0 => full,
+        1 => full[..random.between(least.max(2) as i64, full.len() as i64) as usize].to_string(),
+        _ => full[..least].trim_end_matches('.').to_string(),
     }
-    full.trim_end_matches('0').trim_end_matches('.').to_string()
 }
 
 fn year_month(random: &mut Random) -> String {
@@ -218,7 +306,7 @@ pub fn year_month_form(random: &mut Random, months: i128) -> String {
     text
 }
 
-/// A text of a signed number of microseconds or months, if it is within the kind's bounds or just beyond.
+/// A text of a signed number of ticks or months, if it is within the kind's bounds or just beyond.
 pub fn duration_text(random: &mut Random, kind: Kind, number: i128) -> String {
     let minus = if number < 0 || (number == 0 && random.chance(10)) { "-" } else { "" };
     match kind {
@@ -236,9 +324,13 @@ pub fn adjustment(random: &mut Random) -> String {
                 "-PT14H1M",
                 "PT14H0.000001S",
                 "-PT14H0.000001S",
+                "PT14H0.000000001S",
+                "-PT14H0.000000001S",
+                "PT13H59M59.999999999S",
                 "PT30S",
                 "PT1M0.5S",
                 "-PT0.000001S",
+                "-PT0.000000001S",
                 "P1D",
                 "-P1D",
                 "PT841M",
@@ -247,6 +339,7 @@ pub fn adjustment(random: &mut Random) -> String {
                 "-PT50401S",
                 "P11574074D",
                 "PT59.999999S",
+                "PT59.999999999S",
                 "PT15H",
             ])
             .to_string();
@@ -256,7 +349,8 @@ pub fn adjustment(random: &mut Random) -> String {
         1 => random.between(-14, 14) * 60,
         _ => random.between(-840, 840),
     };
-    duration_text(random, Kind::DayTime, minutes as i128 * 60_000_000)
+    let beside = if random.chance(4) { random.pick(&[1, -1]) } else { 0 };
+    duration_text(random, Kind::DayTime, minutes as i128 * ticks_a_minute() + beside)
 }
 
 /// A text that is just beyond a bound, or in some other way good in all but one thing.
@@ -282,12 +376,12 @@ pub fn beyond(random: &mut Random, kind: Kind) -> String {
 fn beyond_twice(random: &mut Random) -> String {
     if random.chance(40) {
         let zone = random.pick(&["+14:01", "-15:00", "+00:60", "-14:01", "+14:00", "-14:00", "Z", ""]);
-        let fraction = random.pick(&["", "", ".000000", ".0000000", ".000001"]);
+        let fraction = random.pick(&["", "", ".000000", ".000000000", ".0000000000", ".000000001"]);
         return format!("9999-12-31T24:00:00{fraction}{zone}");
     }
     let day = random.pick(&["9999-12-31", "12000-13-45", "2000-02-30", "-0001-00-01", "10000-01-01", "2000-01-01", "9999-12-30"]);
     let clock =
-        random.pick(&["24:00:00", "24:00:00.0000000", "25:00:00", "24:00:01", "12:00:60", "23:59:59.1234567", "00:00:00"]);
+        random.pick(&["24:00:00", "24:00:00.0000000000", "25:00:00", "24:00:01", "12:00:60", "23:59:59.1234567891", "00:00:00"]);
     let zone = random.pick(&["", "Z", "+14:00", "+14:01", "-15:00", "+00:60", "-14:00"]);
     format!("{day}T{clock}{zone}")
 }
@@ -321,14 +415,24 @@ fn beyond_date(random: &mut Random) -> String {
 fn beyond_clock(random: &mut Random) -> String {
     match random.below(5) {
         0 => random
-            .pick(&["24:00:01", "24:01:00", "24:00:00.000001", "24:00:00.0000000", "25:00:00", "24:59:59", "99:99:99"])
+            .pick(&[
+                "24:00:01",
+                "24:01:00",
+                "24:00:00.000001",
+                "24:00:00.000000001",
+                "24:00:00.0000000000",
+                "25:00:00",
+                "24:59:59",
+                "99:99:99",
+                "25:00:00.0000000000",
+            ])
             .to_string(),
         1 => random.pick(&["23:60:00", "23:59:60", "00:00:61", "00:99:00", "12:60:60", "23:59:60.5"]).to_string(),
         2 => random
             .pick(&["1:00:00", "01:0:00", "01:00:0", "01:00", "010:00:00", "01:00:000", "01:00:00.", "01:00:.5"])
             .to_string(),
-        3 => format!("12:00:00.{}", "0".repeat(7 + random.below(30))),
-        _ => format!("12:00:00.{:07}", random.below(10_000_000)),
+        3 => format!("12:00:00.{}", "0".repeat(fraction_digits() + 1 + random.below(30))),
+        _ => format!("{:02}:59:59{}", random.between(0, 24), long_fraction(random)),
     }
 }
 
@@ -365,8 +469,9 @@ fn beyond_day_time(random: &mut Random) -> String {
     let minus = sign(random);
     let body = match random.below(6) {
         0 => {
-            let over = random.pick(&[1, 2, 1_000_000, 60_000_000]);
-            day_time_form(random, MOST_DURATION_MICROS + over)
+            let over =
+                random.pick(&[1, 1, 2, ticks_a_second() / 1_000_000, ticks_a_second() - 1, ticks_a_second(), ticks_a_minute()]);
+            day_time_form(random, most_duration_ticks() + over)
         }
         1 => {
             let great = random.pick(&["1", "9", "18446744073709551616", "340282366920938463463374607431768211456"]);
@@ -374,14 +479,14 @@ fn beyond_day_time(random: &mut Random) -> String {
             let time = if letter == "D" { "" } else { "T" };
             format!("P{time}{great}{}{letter}", "0".repeat(random.pick(&[0, 12, 19, 38, 40, 700])))
         }
-        2 => format!("PT1.{}S", "0".repeat(7 + random.below(20))),
+        2 => format!("PT{}{}S", random.pick(&["0", "1", "59", "1000000000000", "99999999999999"]), long_fraction(random)),
         3 => random
             .pick(&["P", "PT", "P1DT", "PT1", "P1", "P1H", "PT1D", "P1Y", "P1M", "P1Y2M3DT4H", "P1YT1H", "PT1Y"])
             .to_string(),
         4 => random
             .pick(&["PT1S1M", "PT1M1H", "PT1H1H", "PT1.S", "PT.5S", "PT1.5M", "PT1.5H", "P1.5D", "PT1.5S1S", "PTS", "PD"])
             .to_string(),
-        _ => format!("PT1000000000000.{:07}S", random.below(3)),
+        _ => format!("PT1000000000000.{:0digits$}S", random.below(3), digits = fraction_digits() + random.below(2)),
     };
     format!("{minus}{body}")
 }

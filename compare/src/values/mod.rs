@@ -1,23 +1,20 @@
-//! The five kinds of value. A date is a count of days and a dateTime a count of microseconds, both local and both from
-//! 1970-01-01; year, month and day are worked out when they are asked for.
+//! The five kinds of value. A date is a count of days and a dateTime a count of ticks, both local and both from 1970-01-01;
+//! year, month and day are worked out when they are asked for. A tick is a nanosecond: `ticks.rs`.
 
 pub mod calendar;
 pub mod operations;
 pub mod reading;
 pub mod records;
+pub mod ticks;
 pub mod writing;
 
 use calendar::{days_from_civil, Civil};
-
-pub const MICROS_A_SECOND: i128 = 1_000_000;
-pub const MICROS_A_MINUTE: i128 = 60 * MICROS_A_SECOND;
-pub const MICROS_AN_HOUR: i128 = 60 * MICROS_A_MINUTE;
-pub const MICROS_A_DAY: i128 = 24 * MICROS_AN_HOUR;
+pub use ticks::{most_duration_ticks, ticks_a_day, ticks_a_minute, ticks_a_second, ticks_an_hour};
 
 pub const FIRST_YEAR: i64 = 1;
 pub const LAST_YEAR: i64 = 9999;
 pub const MOST_ZONE_MINUTES: i64 = 840;
-pub const MOST_DURATION_MICROS: i128 = 1_000_000_000_000_000_000;
+pub const MOST_DURATION_SECONDS: i128 = 1_000_000_000_000;
 pub const MOST_DURATION_MONTHS: i128 = 1_000_000;
 pub const MOST_FACTOR: i128 = 999_999;
 
@@ -59,11 +56,11 @@ pub type Zone = Option<i64>;
 pub enum Value {
     /// Local days from 1970-01-01.
     Date { day: i64, zone: Zone },
-    /// Microsecond of the local day.
-    Time { micro: i128, zone: Zone },
-    /// Local microseconds from 1970-01-01T00:00:00.
-    DateTime { micro: i128, zone: Zone },
-    /// Microseconds.
+    /// Tick of the local day.
+    Time { tick: i128, zone: Zone },
+    /// Local ticks from 1970-01-01T00:00:00.
+    DateTime { tick: i128, zone: Zone },
+    /// Ticks.
     DayTime(i128),
     /// Months.
     YearMonth(i128),
@@ -85,14 +82,14 @@ impl Value {
         good.then_some(Value::Date { day: day as i64, zone })
     }
 
-    pub fn date_time_within_bounds(micro: i128, zone: Zone) -> Option<Value> {
-        let day = micro.div_euclid(MICROS_A_DAY);
+    pub fn date_time_within_bounds(tick: i128, zone: Zone) -> Option<Value> {
+        let day = tick.div_euclid(ticks_a_day());
         let good = (first_day() as i128..=last_day() as i128).contains(&day);
-        good.then_some(Value::DateTime { micro, zone })
+        good.then_some(Value::DateTime { tick, zone })
     }
 
-    pub fn day_time_within_bounds(micros: i128) -> Option<Value> {
-        (micros.abs() <= MOST_DURATION_MICROS).then_some(Value::DayTime(micros))
+    pub fn day_time_within_bounds(ticks: i128) -> Option<Value> {
+        (ticks.abs() <= most_duration_ticks()).then_some(Value::DayTime(ticks))
     }
 
     pub fn year_month_within_bounds(months: i128) -> Option<Value> {

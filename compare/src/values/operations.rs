@@ -9,28 +9,28 @@ use std::cmp::Ordering;
 /// The reference day of times, 1972-12-31, as days from 1970-01-01.
 pub const REFERENCE_DAY: i128 = 1095;
 
-/// Local microseconds from 1970-01-01, of a date at its 00:00:00 and of a time on the reference day.
+/// Local ticks from 1970-01-01, of a date at its 00:00:00 and of a time on the reference day.
 fn local(value: &Value) -> Option<(i128, Zone)> {
     match *value {
-        Value::Date { day, zone } => Some((day as i128 * MICROS_A_DAY, zone)),
-        Value::Time { micro, zone } => Some((REFERENCE_DAY * MICROS_A_DAY + micro, zone)),
-        Value::DateTime { micro, zone } => Some((micro, zone)),
+        Value::Date { day, zone } => Some((day as i128 * ticks_a_day(), zone)),
+        Value::Time { tick, zone } => Some((REFERENCE_DAY * ticks_a_day() + tick, zone)),
+        Value::DateTime { tick, zone } => Some((tick, zone)),
         Value::DayTime(_) | Value::YearMonth(_) => None,
     }
 }
 
 /// The same in UTC. No zone counts as UTC.
 fn instant(value: &Value) -> Option<i128> {
-    let (micro, zone) = local(value)?;
-    Some(micro - zone.unwrap_or(0) as i128 * MICROS_A_MINUTE)
+    let (tick, zone) = local(value)?;
+    Some(tick - zone.unwrap_or(0) as i128 * ticks_a_minute())
 }
 
-/// The value of `kind` that local microseconds stand for, cut to what the kind has.
-fn from_local(kind: Kind, micro: i128, zone: Zone) -> Result<Value, Refusal> {
+/// The value of `kind` that local ticks stand for, cut to what the kind has.
+fn from_local(kind: Kind, tick: i128, zone: Zone) -> Result<Value, Refusal> {
     let made = match kind {
-        Kind::Date => Value::date_within_bounds(micro.div_euclid(MICROS_A_DAY), zone),
-        Kind::Time => Some(Value::Time { micro: micro.rem_euclid(MICROS_A_DAY), zone }),
-        Kind::DateTime => Value::date_time_within_bounds(micro, zone),
+        Kind::Date => Value::date_within_bounds(tick.div_euclid(ticks_a_day()), zone),
+        Kind::Time => Some(Value::Time { tick: tick.rem_euclid(ticks_a_day()), zone }),
+        Kind::DateTime => Value::date_time_within_bounds(tick, zone),
         Kind::DayTime | Kind::YearMonth => return Err(KINDS_DO_NOT_FIT),
     };
     made.ok_or(RESULT_BEYOND_BOUNDS)
@@ -54,9 +54,9 @@ pub fn add(left: &Value, right: &Value) -> Result<Value, Refusal> {
     match (*left, *right) {
         (Value::DayTime(a), Value::DayTime(b)) => Value::day_time_within_bounds(a + b).ok_or(RESULT_BEYOND_BOUNDS),
         (Value::YearMonth(a), Value::YearMonth(b)) => Value::year_month_within_bounds(a + b).ok_or(RESULT_BEYOND_BOUNDS),
-        (_, Value::DayTime(micros)) => move_by_micros(left, micros),
+        (_, Value::DayTime(ticks)) => move_by_ticks(left, ticks),
         (_, Value::YearMonth(months)) => move_by_months(left, months),
-        (Value::DayTime(micros), _) => move_by_micros(right, micros),
+        (Value::DayTime(ticks), _) => move_by_ticks(right, ticks),
         (Value::YearMonth(months), _) => move_by_months(right, months),
         _ => Err(KINDS_DO_NOT_FIT),
     }
@@ -64,29 +64,29 @@ pub fn add(left: &Value, right: &Value) -> Result<Value, Refusal> {
 
 pub fn subtract(left: &Value, right: &Value) -> Result<Value, Refusal> {
     match *right {
-        Value::DayTime(micros) => add(left, &Value::DayTime(-micros)),
+        Value::DayTime(ticks) => add(left, &Value::DayTime(-ticks)),
         Value::YearMonth(months) => add(left, &Value::YearMonth(-months)),
         _ if left.kind() != right.kind() => Err(KINDS_DO_NOT_FIT),
         _ => Value::day_time_within_bounds(order_key(left) - order_key(right)).ok_or(RESULT_BEYOND_BOUNDS),
     }
 }
 
-fn move_by_micros(value: &Value, micros: i128) -> Result<Value, Refusal> {
-    let (micro, zone) = local(value).ok_or(KINDS_DO_NOT_FIT)?;
-    from_local(value.kind(), micro + micros, zone)
+fn move_by_ticks(value: &Value, ticks: i128) -> Result<Value, Refusal> {
+    let (tick, zone) = local(value).ok_or(KINDS_DO_NOT_FIT)?;
+    from_local(value.kind(), tick + ticks, zone)
 }
 
 fn move_by_months(value: &Value, months: i128) -> Result<Value, Refusal> {
     if !matches!(value.kind(), Kind::Date | Kind::DateTime) {
         return Err(KINDS_DO_NOT_FIT);
     }
-    let (micro, zone) = local(value).ok_or(KINDS_DO_NOT_FIT)?;
-    let date = civil_from_days(micro.div_euclid(MICROS_A_DAY) as i64);
+    let (tick, zone) = local(value).ok_or(KINDS_DO_NOT_FIT)?;
+    let date = civil_from_days(tick.div_euclid(ticks_a_day()) as i64);
     let total = date.year * 12 + date.month - 1 + months as i64;
     let (year, month) = (total.div_euclid(12), total.rem_euclid(12) + 1);
     let day = date.day.min(month_length(year, month));
     let moved = days_from_civil(Civil { year, month, day }) as i128;
-    from_local(value.kind(), moved * MICROS_A_DAY + micro.rem_euclid(MICROS_A_DAY), zone)
+    from_local(value.kind(), moved * ticks_a_day() + tick.rem_euclid(ticks_a_day()), zone)
 }
 
 pub fn multiply(value: &Value, factor: i128) -> Result<Value, Refusal> {
@@ -94,7 +94,7 @@ pub fn multiply(value: &Value, factor: i128) -> Result<Value, Refusal> {
         return Err(ARGUMENT_BEYOND_BOUNDS);
     }
     let product = match *value {
-        Value::DayTime(micros) => Value::day_time_within_bounds(micros * factor),
+        Value::DayTime(ticks) => Value::day_time_within_bounds(ticks * factor),
         Value::YearMonth(months) => Value::year_month_within_bounds(months * factor),
         _ => return Err(KINDS_DO_NOT_FIT),
     };
@@ -112,44 +112,44 @@ pub fn cast(value: &Value, to: Kind) -> Result<Value, Refusal> {
     }
     match local(value) {
         None => Ok(*value),
-        Some((micro, zone)) => from_local(to, micro, zone),
+        Some((tick, zone)) => from_local(to, tick, zone),
     }
 }
 
 /// Adjustment to a zone given as a value, which has to be a dayTimeDuration.
 pub fn adjust(value: &Value, zone: &Value) -> Result<Value, Refusal> {
-    let (micro, old) = local(value).ok_or(KINDS_DO_NOT_FIT)?;
+    let (tick, old) = local(value).ok_or(KINDS_DO_NOT_FIT)?;
     let Value::DayTime(offset) = *zone else {
         return Err(KINDS_DO_NOT_FIT);
     };
-    if offset % MICROS_A_MINUTE != 0 || offset.abs() > MOST_ZONE_MINUTES as i128 * MICROS_A_MINUTE {
+    if offset % ticks_a_minute() != 0 || offset.abs() > MOST_ZONE_MINUTES as i128 * ticks_a_minute() {
         return Err(BAD_ZONE);
     }
-    let minutes = (offset / MICROS_A_MINUTE) as i64;
+    let minutes = (offset / ticks_a_minute()) as i64;
     let moved = match old {
-        None => micro,
-        Some(old_minutes) => micro + (minutes - old_minutes) as i128 * MICROS_A_MINUTE,
+        None => tick,
+        Some(old_minutes) => tick + (minutes - old_minutes) as i128 * ticks_a_minute(),
     };
     from_local(value.kind(), moved, Some(minutes))
 }
 
 /// Adjustment to no zone: local fields stay.
 pub fn unzone(value: &Value) -> Result<Value, Refusal> {
-    let (micro, _) = local(value).ok_or(KINDS_DO_NOT_FIT)?;
-    from_local(value.kind(), micro, None)
+    let (tick, _) = local(value).ok_or(KINDS_DO_NOT_FIT)?;
+    from_local(value.kind(), tick, None)
 }
 
 /// The components as docs/LINES.md writes them.
 pub fn components(value: &Value) -> String {
     match *value {
         Value::Date { day, zone } => format!("{} {}", date_components(day), zone_component(zone)),
-        Value::Time { micro, zone } => format!("{} {}", clock_components(micro), zone_component(zone)),
-        Value::DateTime { micro, zone } => {
-            let date = date_components(micro.div_euclid(MICROS_A_DAY) as i64);
-            let clock = clock_components(micro.rem_euclid(MICROS_A_DAY));
+        Value::Time { tick, zone } => format!("{} {}", clock_components(tick), zone_component(zone)),
+        Value::DateTime { tick, zone } => {
+            let date = date_components(tick.div_euclid(ticks_a_day()) as i64);
+            let clock = clock_components(tick.rem_euclid(ticks_a_day()));
             format!("{date} {clock} {}", zone_component(zone))
         }
-        Value::DayTime(micros) => duration_components(0, micros),
+        Value::DayTime(ticks) => duration_components(0, ticks),
         Value::YearMonth(months) => duration_components(months, 0),
     }
 }
@@ -159,11 +159,11 @@ fn date_components(days: i64) -> String {
     format!("year={year} month={month} day={day}")
 }
 
-fn clock_components(micro: i128) -> String {
-    let hours = micro / MICROS_AN_HOUR;
-    let minutes = micro / MICROS_A_MINUTE % 60;
-    let seconds = micro / MICROS_A_SECOND % 60;
-    format!("hours={hours} minutes={minutes} seconds={seconds}{}", fraction_text(micro % MICROS_A_SECOND))
+fn clock_components(tick: i128) -> String {
+    let hours = tick / ticks_an_hour();
+    let minutes = tick / ticks_a_minute() % 60;
+    let seconds = tick / ticks_a_second() % 60;
+    format!("hours={hours} minutes={minutes} seconds={seconds}{}", fraction_text(tick % ticks_a_second()))
 }
 
 fn zone_component(zone: Zone) -> String {
@@ -174,14 +174,14 @@ fn zone_component(zone: Zone) -> String {
 }
 
 /// Division in Rust cuts towards zero, so that no part of a negative duration is above zero.
-fn duration_components(months: i128, micros: i128) -> String {
-    let days = micros / MICROS_A_DAY;
-    let hours = micros / MICROS_AN_HOUR % 24;
-    let minutes = micros / MICROS_A_MINUTE % 60;
-    let seconds = micros % MICROS_A_MINUTE;
+fn duration_components(months: i128, ticks: i128) -> String {
+    let days = ticks / ticks_a_day();
+    let hours = ticks / ticks_an_hour() % 24;
+    let minutes = ticks / ticks_a_minute() % 60;
+    let seconds = ticks % ticks_a_minute();
     let sign = if seconds < 0 { "-" } else { "" };
-    let whole = seconds.abs() / MICROS_A_SECOND;
-    let fraction = fraction_text(seconds.abs() % MICROS_A_SECOND);
+    let whole = seconds.abs() / ticks_a_second();
+    let fraction = fraction_text(seconds.abs() % ticks_a_second());
     format!(
         "years={} months={} days={days} hours={hours} minutes={minutes} seconds={sign}{whole}{fraction}",
         months / 12,

@@ -2,10 +2,9 @@
 //! "Reading text", in its order.
 
 use super::calendar::{days_from_civil, month_length, Civil};
+use super::ticks::fraction_digits;
 use super::*;
 use crate::{Refusal, LONG_FRACTION, NO_SHAPE, READ_BEYOND_BOUNDS};
-
-const MOST_FRACTION_DIGITS: usize = 6;
 
 pub fn read(kind: Kind, text: &[u8]) -> Result<Value, Refusal> {
     let text = stripped(text);
@@ -42,8 +41,8 @@ fn read_time(text: &[u8]) -> Result<Value, Refusal> {
     let mut cursor = Cursor { rest: text };
     let (clock, zone) = (|| Some((cursor.clock()?, cursor.zone_to_end()?)))().ok_or(NO_SHAPE)?;
     check_fraction(clock.fraction)?;
-    let micro = clock.micros()? % MICROS_A_DAY;
-    Ok(Value::Time { micro, zone: zone.check()? })
+    let tick = clock.ticks()? % ticks_a_day();
+    Ok(Value::Time { tick, zone: zone.check()? })
 }
 
 fn read_date_time(text: &[u8]) -> Result<Value, Refusal> {
@@ -56,19 +55,19 @@ fn read_date_time(text: &[u8]) -> Result<Value, Refusal> {
     let (date, clock, zone) = shape.ok_or(NO_SHAPE)?;
     check_fraction(clock.fraction)?;
     date.check_year()?;
-    let micro = date.day_number()? as i128 * MICROS_A_DAY + clock.micros()?;
+    let tick = date.day_number()? as i128 * ticks_a_day() + clock.ticks()?;
     let zone = zone.check()?;
-    Value::date_time_within_bounds(micro, zone).ok_or(READ_BEYOND_BOUNDS)
+    Value::date_time_within_bounds(tick, zone).ok_or(READ_BEYOND_BOUNDS)
 }
 
 fn read_day_time(text: &[u8]) -> Result<Value, Refusal> {
     let shape = day_time_shape(text).ok_or(NO_SHAPE)?;
     check_fraction(shape.fraction)?;
-    let magnitude = number(shape.days) * MICROS_A_DAY
-        + number(shape.hours) * MICROS_AN_HOUR
-        + number(shape.minutes) * MICROS_A_MINUTE
-        + number(shape.seconds) * MICROS_A_SECOND
-        + fraction_micros(shape.fraction);
+    let magnitude = number(shape.days) * ticks_a_day()
+        + number(shape.hours) * ticks_an_hour()
+        + number(shape.minutes) * ticks_a_minute()
+        + number(shape.seconds) * ticks_a_second()
+        + fraction_ticks(shape.fraction);
     Value::day_time_within_bounds(signed(shape.negative, magnitude)).ok_or(READ_BEYOND_BOUNDS)
 }
 
@@ -79,7 +78,7 @@ fn read_year_month(text: &[u8]) -> Result<Value, Refusal> {
 }
 
 fn check_fraction(digits: &[u8]) -> Result<(), Refusal> {
-    if digits.len() > MOST_FRACTION_DIGITS {
+    if digits.len() > fraction_digits() {
         return Err(LONG_FRACTION);
     }
     Ok(())
@@ -93,10 +92,10 @@ fn signed(negative: bool, magnitude: i128) -> i128 {
     }
 }
 
-/// The number that a run of digits writes. A run may have any length; a number of more than 25 digits is far beyond
-/// every bound, and 10^25 stands for all of them.
+/// The number that a run of digits writes. A run may have any length; a number of more than 20 digits is far beyond
+/// every bound, and 10^20 stands for all of them: days so many are still no more ticks than an i128 holds.
 pub fn number(digits: &[u8]) -> i128 {
-    const GREAT: usize = 25;
+    const GREAT: usize = 20;
     let zeros = digits.iter().take_while(|&&digit| digit == b'0').count();
     let significant = &digits[zeros..];
     if significant.len() > GREAT {
@@ -105,8 +104,8 @@ pub fn number(digits: &[u8]) -> i128 {
     significant.iter().fold(0, |sum, &digit| sum * 10 + (digit - b'0') as i128)
 }
 
-fn fraction_micros(digits: &[u8]) -> i128 {
-    let missing = MOST_FRACTION_DIGITS - digits.len();
+fn fraction_ticks(digits: &[u8]) -> i128 {
+    let missing = fraction_digits() - digits.len();
     number(digits) * 10_i128.pow(missing as u32)
 }
 
@@ -143,14 +142,14 @@ struct ClockShape<'a> {
 }
 
 impl ClockShape<'_> {
-    /// Microseconds from 00:00:00, a whole day for 24:00:00. After `check_fraction`.
-    fn micros(&self) -> Result<i128, Refusal> {
-        let fraction = fraction_micros(self.fraction);
-        let rest = self.minute as i128 * MICROS_A_MINUTE + self.second as i128 * MICROS_A_SECOND + fraction;
+    /// Ticks from 00:00:00, a whole day for 24:00:00. After `check_fraction`.
+    fn ticks(&self) -> Result<i128, Refusal> {
+        let fraction = fraction_ticks(self.fraction);
+        let rest = self.minute as i128 * ticks_a_minute() + self.second as i128 * ticks_a_second() + fraction;
         if self.minute > 59 || self.second > 59 || self.hour > 24 || (self.hour == 24 && rest > 0) {
             return Err(NO_SHAPE);
         }
-        Ok(self.hour as i128 * MICROS_AN_HOUR + rest)
+        Ok(self.hour as i128 * ticks_an_hour() + rest)
     }
 }
 

@@ -1,18 +1,19 @@
 //! From value to text: document 01, "Writing text".
 
 use super::calendar::{civil_from_days, Civil};
+use super::ticks::fraction_digits;
 use super::*;
 
 pub fn write(value: &Value) -> String {
     match *value {
         Value::Date { day, zone } => format!("{}{}", date_text(day), zone_text(zone)),
-        Value::Time { micro, zone } => format!("{}{}", clock_text(micro), zone_text(zone)),
-        Value::DateTime { micro, zone } => {
-            let day = micro.div_euclid(MICROS_A_DAY) as i64;
-            let clock = micro.rem_euclid(MICROS_A_DAY);
+        Value::Time { tick, zone } => format!("{}{}", clock_text(tick), zone_text(zone)),
+        Value::DateTime { tick, zone } => {
+            let day = tick.div_euclid(ticks_a_day()) as i64;
+            let clock = tick.rem_euclid(ticks_a_day());
             format!("{}T{}{}", date_text(day), clock_text(clock), zone_text(zone))
         }
-        Value::DayTime(micros) => day_time_text(micros),
+        Value::DayTime(ticks) => day_time_text(ticks),
         Value::YearMonth(months) => year_month_text(months),
     }
 }
@@ -22,19 +23,19 @@ pub fn date_text(days: i64) -> String {
     format!("{year:04}-{month:02}-{day:02}")
 }
 
-fn clock_text(micro: i128) -> String {
-    let hour = micro / MICROS_AN_HOUR;
-    let minute = micro / MICROS_A_MINUTE % 60;
-    let second = micro / MICROS_A_SECOND % 60;
-    format!("{hour:02}:{minute:02}:{second:02}{}", fraction_text(micro % MICROS_A_SECOND))
+fn clock_text(tick: i128) -> String {
+    let hour = tick / ticks_an_hour();
+    let minute = tick / ticks_a_minute() % 60;
+    let second = tick / ticks_a_second() % 60;
+    format!("{hour:02}:{minute:02}:{second:02}{}", fraction_text(tick % ticks_a_second()))
 }
 
 /// A point and the digits without final zeros, or nothing for zero.
-pub fn fraction_text(micros: i128) -> String {
-    if micros == 0 {
+pub fn fraction_text(ticks: i128) -> String {
+    if ticks == 0 {
         return String::new();
     }
-    format!(".{micros:06}").trim_end_matches('0').to_string()
+    format!(".{ticks:0digits$}", digits = fraction_digits()).trim_end_matches('0').to_string()
 }
 
 fn zone_text(zone: Zone) -> String {
@@ -48,29 +49,29 @@ fn zone_text(zone: Zone) -> String {
     }
 }
 
-fn day_time_text(micros: i128) -> String {
-    if micros == 0 {
+fn day_time_text(ticks: i128) -> String {
+    if ticks == 0 {
         return "PT0S".to_string();
     }
-    let magnitude = micros.abs();
-    let days = magnitude / MICROS_A_DAY;
-    let clock = magnitude % MICROS_A_DAY;
-    let mut text = String::from(if micros < 0 { "-P" } else { "P" });
+    let magnitude = ticks.abs();
+    let days = magnitude / ticks_a_day();
+    let clock = magnitude % ticks_a_day();
+    let mut text = String::from(if ticks < 0 { "-P" } else { "P" });
     if days > 0 {
         text += &format!("{days}D");
     }
     if clock > 0 {
         text.push('T');
     }
-    if clock >= MICROS_AN_HOUR {
-        text += &format!("{}H", clock / MICROS_AN_HOUR);
+    if clock >= ticks_an_hour() {
+        text += &format!("{}H", clock / ticks_an_hour());
     }
-    if clock / MICROS_A_MINUTE % 60 > 0 {
-        text += &format!("{}M", clock / MICROS_A_MINUTE % 60);
+    if clock / ticks_a_minute() % 60 > 0 {
+        text += &format!("{}M", clock / ticks_a_minute() % 60);
     }
-    if clock % MICROS_A_MINUTE > 0 {
-        let second = clock % MICROS_A_MINUTE / MICROS_A_SECOND;
-        text += &format!("{second}{}S", fraction_text(clock % MICROS_A_SECOND));
+    if clock % ticks_a_minute() > 0 {
+        let second = clock % ticks_a_minute() / ticks_a_second();
+        text += &format!("{second}{}S", fraction_text(clock % ticks_a_second()));
     }
     text
 }

@@ -13,9 +13,11 @@ use value::Refusal;
 use value::Value;
 use value_components::Components;
 ghost use mathlib.Core.Path.{_≡_};
+ghost use mathlib.Core.Bool.{true};
 ghost use Rattle.text.specs.Writing.{textOf};
 ghost use Rattle.value_components.specs.Components as components;
 ghost use Rattle.value.specs.Kinds as kinds;
+ghost use Rattle.value.specs.Carried.{valid};
 ghost use Rattle.operation_ordering.specs.Order as order;
 ghost use Rattle.calls_replies.specs.Replies.{replyOf};
 ghost use Rattle.calls_replies.specs.ReplyParts.{partsText};
@@ -29,12 +31,14 @@ pub fn refused(r: Refusal) -> Reply
 
 // The text of a value.
 pub fn written(v: Value) -> Reply
+    requires { ⌜ kinds.okValue v ≡ true ⌝ }
     ensures { λ r. ⌜ r ≡ replyOf (textOf v) ⌝ }
 {
     with_text(nothing(), text::text_of(v))
 }
 
 pub fn value_said(a: Outcome) -> Reply
+    requires { ⌜ valid (kinds.meaning a) ≡ true ⌝ }
     ensures { λ r. ⌜ r ≡ replyOf (the.said textOf (kinds.meaning a)) ⌝ }
 {
     match a {
@@ -67,6 +71,7 @@ fn components_said(a: Components) -> Reply
 }
 
 pub fn one_said(o: One, a: Value) -> Reply
+    requires { ⌜ kinds.okValue a ≡ true ⌝ }
     ensures { λ r. ⌜ r ≡ replyOf (the.oneText o a) ⌝ }
 {
     match o {

@@ -12,9 +12,9 @@ pub record ReplyGrown (t r : Reply) (s : List ℕ) : Type 0 where
   pub more : r .len ≡ t .len + length s
   pub text : (w : List ℕ) → t ≡ replyOf w → r ≡ replyOf (w ++ s)
 
--- as many bytes are enough for a number's text: a sign, ten digits, a point and six digits
+-- as many bytes are enough for a number's text: a sign, ten digits, a point and nine digits
 abbrev pub numberWidth : ℕ
-numberWidth = 18
+numberWidth = 21
 
 -- no text of a date, a clock or a zone is longer than this: its names, and its numbers with their width
 abbrev pub dateRoom : ℕ

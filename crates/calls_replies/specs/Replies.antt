@@ -10,7 +10,7 @@ use Rattle.numerals.specs.Writing.{decimal, fractionText}
 use Rattle.calls_replies.specs.declared.Reply.{Reply}
 
 abbrev pub replySize : ℕ
-replySize = 192
+replySize = 200
 
 unfoldable pub replyOf : List ℕ → Reply
 replyOf w = record { bytes = w ++ replicate (replySize - length w) 0; len = length w }

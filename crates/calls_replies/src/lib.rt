@@ -5,7 +5,7 @@ pub mod numbers; // numbers.rt: numbers with a sign
 pub mod parts; // parts.rt: the text of a value's components
 
 // No answer's text is longer.
-pub const REPLY: usize = 192;
+pub const REPLY: usize = 200;
 
 // The text of an answer, and zeros after it.
 pub struct Reply {

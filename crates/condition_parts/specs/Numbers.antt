@@ -6,7 +6,7 @@ use lib.Dec.{eqb}
 use Rattle.basis.specs.Choice.{pick}
 use Rattle.value.specs.Refusals.{badText, beyondBounds, longFraction, beyondResult, noField}
 
--- 1 no shape, or bad calendar or clock; 2 beyond bounds; 3 over six fraction digits
+-- 1 no shape, or bad calendar or clock; 2 beyond bounds; 3 over nine fraction digits
 abbrev pub ofText : ℕ → Bool
 ofText n = pick (eqb n badText) true (pick (eqb n beyondBounds) true (eqb n longFraction))
 

@@ -16,7 +16,6 @@ use Rattle.condition_symbols.specs.Symbols.{named}
 use Rattle.condition_symbols.specs.declared.Named.{Named}
 use Rattle.line_fields.specs.Numbers.{greatest, numberOf}
 use Rattle.line_fields.specs.declared.numbers.FieldNumber.{FieldNumber}
-use Rattle.value.specs.Clocks.{durationOf}
 use Rattle.value.specs.declared.Offset.{Offset}
 use Rattle.value.specs.declared.Offset.the-variants.{East, West}
 use Rattle.value.specs.declared.Zone.{Zone}
@@ -25,10 +24,12 @@ use Rattle.value.specs.declared.DateTime.{DateTime}
 use Rattle.value.specs.declared.Kind.{Kind}
 use Rattle.value.specs.declared.Kind.the-variants as KV
 use Rattle.value.specs.declared.Value.the-variants as VV
-use Rattle.library_lines.specs.Given.{twoBytes, oneByte, fourBytes, withSign, noSigned, afterSign, signedOf, offsetOf, zoneBy, zoneGiven, dayGiven, dayAt, recordParts, momentGiven, momentAt, recordOfKind, givenMoment, givenDayTime, givenYearMonth, unlessMore, recordBy, recordNamed, recordAt}
+use Rattle.library_lines.specs.Given.{twoBytes, oneByte, fourBytes, withSign, noSigned, afterSign, signedOf, offsetOf, zoneBy, zoneGiven, dayGiven, dayAt, timeGiven, timeAt, lastingGiven, lastingAt, recordParts, momentGiven, momentAt, recordOfKind, givenMoment, dayTimeIn, givenDayTime, givenYearMonth, unlessMore, recordBy, recordNamed, recordAt}
 use Rattle.library_lines.specs.declared.given.Signed.{Signed}
 use Rattle.library_lines.specs.declared.given.Zoned.{Zoned}
 use Rattle.library_lines.specs.declared.given.Day.{Day}
+use Rattle.library_lines.specs.declared.given.TimeGiven.{TimeGiven}
+use Rattle.library_lines.specs.declared.given.LastingGiven.{LastingGiven}
 use Rattle.library_lines.specs.declared.given.Moment.{Moment}
 use Rattle.library_lines.specs.declared.given.GivenRecord.{GivenRecord}
 use Rattle.library_lines.specs.declared.given.GivenRecord.the-variants as G
@@ -98,14 +99,34 @@ day-read line i {g} {y} {m} {d} eg efy ey efm em efd ed =
     ap (λ (b : Bool). dayWith b y m d) eg
     ∙ (λ j. dayGiven ((ey ∙ ap (numberOf twoBytes) efy) j) ((em ∙ ap (numberOf oneByte) efm) j) ((ed ∙ ap (numberOf oneByte) efd) j))
 
+abbrev timeWith : Bool → FieldNumber → FieldNumber → TimeGiven
+timeWith g s n = record { good = g; second = s .value; nanosecond = n .value }
+
+pub time-read : (line : List ℕ) (i : ℕ) {g : Bool} {s n : FieldNumber} {fs fn : List ℕ} → g ≡ every (s .good ∷ n .good ∷ [])
+    → fs ≡ fieldAt line i → s ≡ numberOf fourBytes fs → fn ≡ fieldAt line (i + 1) → n ≡ numberOf fourBytes fn → timeWith g s n ≡ timeAt line i
+unfolding timeAt
+time-read line i {g} {s} {n} eg efs es efn en =
+    ap (λ (b : Bool). timeWith b s n) eg
+    ∙ (λ j. timeGiven ((es ∙ ap (numberOf fourBytes) efs) j) ((en ∙ ap (numberOf fourBytes) efn) j))
+
+abbrev lastingWith : Bool → Signed → FieldNumber → LastingGiven
+lastingWith g s n = record { good = g; negative = s .negative; seconds = s .value; nanoseconds = n .value }
+
+pub lasting-read : (line : List ℕ) (i : ℕ) {g : Bool} {s : Signed} {n : FieldNumber} {fs fn : List ℕ} → g ≡ every (s .good ∷ n .good ∷ [])
+    → fs ≡ fieldAt line i → s ≡ signedOf greatest fs → fn ≡ fieldAt line (i + 1) → n ≡ numberOf fourBytes fn → lastingWith g s n ≡ lastingAt line i
+unfolding lastingAt
+lasting-read line i {g} {s} {n} eg efs es efn en =
+    ap (λ (b : Bool). lastingWith b s n) eg
+    ∙ (λ j. lastingGiven ((es ∙ ap (signedOf greatest) efs) j) ((en ∙ ap (numberOf fourBytes) efn) j))
+
 abbrev momentWith : Bool → DateTime → Moment
 momentWith g p = record { good = g; parts = p }
 
-pub moment-read : (line : List ℕ) (i : ℕ) {g : Bool} {p : DateTime} {d : Day} {n : FieldNumber} {z : Zoned} {fn fz : List ℕ} → g ≡ every (d .good ∷ n .good ∷ z .good ∷ []) → p ≡ recordParts d (n .value) (z .zone)
-    → d ≡ dayAt line i → fn ≡ fieldAt line (i + 3) → n ≡ numberOf greatest fn → fz ≡ fieldAt line (i + 4) → z ≡ zoneGiven fz → momentWith g p ≡ momentAt line i
+pub moment-read : (line : List ℕ) (i : ℕ) {g : Bool} {p : DateTime} {d : Day} {t : TimeGiven} {z : Zoned} {fz : List ℕ} → g ≡ every (d .good ∷ t .good ∷ z .good ∷ []) → p ≡ recordParts d t (z .zone)
+    → d ≡ dayAt line i → t ≡ timeAt line (i + 3) → fz ≡ fieldAt line (i + 5) → z ≡ zoneGiven fz → momentWith g p ≡ momentAt line i
 unfolding momentAt
-moment-read line i eg ep ed efn en efz ez =
-    (λ j. momentWith (eg j) (ep j)) ∙ (λ j. momentGiven (ed j) ((en ∙ ap (numberOf greatest) efn) j) ((ez ∙ ap zoneGiven efz) j))
+moment-read line i eg ep ed et efz ez =
+    (λ j. momentWith (eg j) (ep j)) ∙ (λ j. momentGiven (ed j) (et j) ((ez ∙ ap zoneGiven efz) j))
 
 -- ---- records
 pub no-moment : (k : Kind) (m : Moment) → not (m .good) ≡ true → G.No ≡ givenMoment k m
@@ -114,11 +135,11 @@ no-moment k m q = second-of {b = m .good} (recordOfKind k (m .parts)) G.No (no r
 pub is-moment : (k′ : Kind) (m : Moment) {k : Kind} → k ≡ k′ → not (m .good) ≡ false → recordOfKind k′ (m .parts) ≡ givenMoment k m
 is-moment k′ m {k} e q = ap (λ (x : Kind). recordOfKind x (m .parts)) (sym e) ∙ first-of {b = m .good} (recordOfKind k (m .parts)) G.No (yes refl q)
 
-pub no-day-time : (n : Signed) → not (n .good) ≡ true → G.No ≡ givenDayTime n
-no-day-time n q = second-of {b = n .good} (G.Is (VV.DayTime (durationOf (n .negative) (n .value)))) G.No (no refl q)
+pub no-day-time : (n : LastingGiven) → not (n .good) ≡ true → G.No ≡ givenDayTime n
+no-day-time n q = second-of {b = n .good} (G.Is (VV.DayTime (dayTimeIn n))) G.No (no refl q)
 
-pub is-day-time : (n : Signed) → not (n .good) ≡ false → G.Is (VV.DayTime (durationOf (n .negative) (n .value))) ≡ givenDayTime n
-is-day-time n q = first-of {b = n .good} (G.Is (VV.DayTime (durationOf (n .negative) (n .value)))) G.No (yes refl q)
+pub is-day-time : (n : LastingGiven) → not (n .good) ≡ false → G.Is (VV.DayTime (dayTimeIn n)) ≡ givenDayTime n
+is-day-time n q = first-of {b = n .good} (G.Is (VV.DayTime (dayTimeIn n))) G.No (yes refl q)
 
 pub no-year-month : (n : Signed) → not (n .good) ≡ true → G.No ≡ givenYearMonth n
 no-year-month n q = second-of {b = n .good} (G.Is (VV.YearMonth (record { negative = n .negative; months = n .value }))) G.No (no refl q)
@@ -127,16 +148,16 @@ pub is-year-month : (n : Signed) → not (n .good) ≡ false → G.Is (VV.YearMo
 is-year-month n q = first-of {b = n .good} (G.Is (VV.YearMonth (record { negative = n .negative; months = n .value }))) G.No (yes refl q)
 
 module _ (line : List ℕ) (i : ℕ) {k : Kind} {r g : GivenRecord} {h : Bool} (er : r ≡ unlessMore h g) where
-  module _ {n : Signed} {f : List ℕ} (eh : h ≡ hasField line (i + 1)) (ef : f ≡ fieldAt line i) where
-    pub by-day-time : k ≡ KV.DayTimeDuration → n ≡ signedOf greatest f → g ≡ givenDayTime n → r ≡ recordBy k line i
-    unfolding recordBy
-    by-day-time ek en eg = er ∙ (λ j. unlessMore (eh j) ((eg ∙ ap givenDayTime (en ∙ ap (signedOf greatest) ef)) j)) ∙ ap (λ (x : Kind). recordBy x line i) (sym ek)
+  pub by-day-time : {n : LastingGiven} → h ≡ hasField line (i + 2) → n ≡ lastingAt line i → k ≡ KV.DayTimeDuration → g ≡ givenDayTime n → r ≡ recordBy k line i
+  unfolding recordBy
+  by-day-time eh en ek eg = er ∙ (λ j. unlessMore (eh j) ((eg ∙ ap givenDayTime en) j)) ∙ ap (λ (x : Kind). recordBy x line i) (sym ek)
 
+  module _ {n : Signed} {f : List ℕ} (eh : h ≡ hasField line (i + 1)) (ef : f ≡ fieldAt line i) where
     pub by-year-month : k ≡ KV.YearMonthDuration → n ≡ signedOf fourBytes f → g ≡ givenYearMonth n → r ≡ recordBy k line i
     unfolding recordBy
     by-year-month ek en eg = er ∙ (λ j. unlessMore (eh j) ((eg ∙ ap givenYearMonth (en ∙ ap (signedOf fourBytes) ef)) j)) ∙ ap (λ (x : Kind). recordBy x line i) (sym ek)
 
-  module _ {m : Moment} (eh : h ≡ hasField line (i + 5)) (em : m ≡ momentAt line i) where
+  module _ {m : Moment} (eh : h ≡ hasField line (i + 6)) (em : m ≡ momentAt line i) where
     pub by-date : k ≡ KV.Date → g ≡ givenMoment KV.Date m → r ≡ recordBy k line i
     unfolding recordBy
     by-date ek eg = er ∙ (λ j. unlessMore (eh j) ((eg ∙ ap (givenMoment KV.Date) em) j)) ∙ ap (λ (x : Kind). recordBy x line i) (sym ek)

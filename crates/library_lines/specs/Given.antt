@@ -15,18 +15,21 @@ use Rattle.condition_symbols.specs.declared.Named.{Named}
 use Rattle.condition_symbols.specs.declared.Named.the-variants as N
 use Rattle.line_fields.specs.Numbers.{greatest, numberOf}
 use Rattle.line_fields.specs.declared.numbers.FieldNumber.{FieldNumber}
-use Rattle.value.specs.Clocks.{atClock, durationOf}
+use Rattle.value.specs.Clocks.{withTime, withSize}
 use Rattle.value.specs.declared.Offset.{Offset}
 use Rattle.value.specs.declared.Offset.the-variants.{East, West}
 use Rattle.value.specs.declared.Zone.{Zone}
 use Rattle.value.specs.declared.Zone.the-variants.{Absent, At}
 use Rattle.value.specs.declared.DateTime.{DateTime}
+use Rattle.value.specs.declared.DayTime.{DayTime}
 use Rattle.value.specs.declared.Kind.{Kind}
 use Rattle.value.specs.declared.Kind.the-variants as KV
 use Rattle.value.specs.declared.Value.the-variants as VV
 use Rattle.library_lines.specs.declared.given.Signed.{Signed}
 use Rattle.library_lines.specs.declared.given.Zoned.{Zoned}
 use Rattle.library_lines.specs.declared.given.Day.{Day}
+use Rattle.library_lines.specs.declared.given.TimeGiven.{TimeGiven}
+use Rattle.library_lines.specs.declared.given.LastingGiven.{LastingGiven}
 use Rattle.library_lines.specs.declared.given.Moment.{Moment}
 use Rattle.library_lines.specs.declared.given.GivenRecord.{GivenRecord}
 use Rattle.library_lines.specs.declared.given.GivenRecord.the-variants as G
@@ -75,15 +78,30 @@ dayGiven y m d =
 unfoldable pub dayAt : List ℕ → ℕ → Day
 dayAt line i = dayGiven (numberOf twoBytes (fieldAt line i)) (numberOf oneByte (fieldAt line (i + 1))) (numberOf oneByte (fieldAt line (i + 2)))
 
-abbrev pub recordParts : Day → ℕ → Zone → DateTime
-recordParts d ticks zone = atClock (record { year = d .year; month = d .month; day = d .day }) ticks zone
+-- SECOND and NANO in two fields
+abbrev pub timeGiven : FieldNumber → FieldNumber → TimeGiven
+timeGiven s n = record { good = every (s .good ∷ n .good ∷ []); second = s .value; nanosecond = n .value }
 
--- Y, M, D, MICROS and Z in five fields
-abbrev pub momentGiven : Day → FieldNumber → Zoned → Moment
-momentGiven d n z = record { good = every (d .good ∷ n .good ∷ z .good ∷ []); parts = recordParts d (n .value) (z .zone) }
+unfoldable pub timeAt : List ℕ → ℕ → TimeGiven
+timeAt line i = timeGiven (numberOf fourBytes (fieldAt line i)) (numberOf fourBytes (fieldAt line (i + 1)))
+
+-- S in seconds and NANO in two fields: one sign for both
+abbrev pub lastingGiven : Signed → FieldNumber → LastingGiven
+lastingGiven s n =
+    record { good = every (s .good ∷ n .good ∷ []); negative = s .negative; seconds = s .value; nanoseconds = n .value }
+
+unfoldable pub lastingAt : List ℕ → ℕ → LastingGiven
+lastingAt line i = lastingGiven (signedOf greatest (fieldAt line i)) (numberOf fourBytes (fieldAt line (i + 1)))
+
+abbrev pub recordParts : Day → TimeGiven → Zone → DateTime
+recordParts d t zone = withTime (record { year = d .year; month = d .month; day = d .day }) (t .second) (t .nanosecond) zone
+
+-- Y, M, D, SECOND, NANO and Z in six fields
+abbrev pub momentGiven : Day → TimeGiven → Zoned → Moment
+momentGiven d t z = record { good = every (d .good ∷ t .good ∷ z .good ∷ []); parts = recordParts d t (z .zone) }
 
 unfoldable pub momentAt : List ℕ → ℕ → Moment
-momentAt line i = momentGiven (dayAt line i) (numberOf greatest (fieldAt line (i + 3))) (zoneGiven (fieldAt line (i + 4)))
+momentAt line i = momentGiven (dayAt line i) (timeAt line (i + 3)) (zoneGiven (fieldAt line (i + 5)))
 
 -- the record of a kind that such fields are
 abbrev pub recordOfKind : Kind → DateTime → GivenRecord
@@ -96,8 +114,11 @@ recordOfKind KV.YearMonthDuration d = G.No
 abbrev pub givenMoment : Kind → Moment → GivenRecord
 givenMoment k m = pick (m .good) (recordOfKind k (m .parts)) G.No
 
-abbrev pub givenDayTime : Signed → GivenRecord
-givenDayTime n = pick (n .good) (G.Is (VV.DayTime (durationOf (n .negative) (n .value)))) G.No
+abbrev pub dayTimeIn : LastingGiven → DayTime
+dayTimeIn n = withSize (n .negative) (n .seconds) (n .nanoseconds)
+
+abbrev pub givenDayTime : LastingGiven → GivenRecord
+givenDayTime n = pick (n .good) (G.Is (VV.DayTime (dayTimeIn n))) G.No
 
 abbrev pub givenYearMonth : Signed → GivenRecord
 givenYearMonth n = pick (n .good) (G.Is (VV.YearMonth (record { negative = n .negative; months = n .value }))) G.No
@@ -107,10 +128,10 @@ abbrev pub unlessMore : Bool → GivenRecord → GivenRecord
 unlessMore more g = pick more G.No g
 
 unfoldable pub recordBy : Kind → List ℕ → ℕ → GivenRecord
-recordBy KV.Date line i = unlessMore (hasField line (i + 5)) (givenMoment KV.Date (momentAt line i))
-recordBy KV.Time line i = unlessMore (hasField line (i + 5)) (givenMoment KV.Time (momentAt line i))
-recordBy KV.DateTime line i = unlessMore (hasField line (i + 5)) (givenMoment KV.DateTime (momentAt line i))
-recordBy KV.DayTimeDuration line i = unlessMore (hasField line (i + 1)) (givenDayTime (signedOf greatest (fieldAt line i)))
+recordBy KV.Date line i = unlessMore (hasField line (i + 6)) (givenMoment KV.Date (momentAt line i))
+recordBy KV.Time line i = unlessMore (hasField line (i + 6)) (givenMoment KV.Time (momentAt line i))
+recordBy KV.DateTime line i = unlessMore (hasField line (i + 6)) (givenMoment KV.DateTime (momentAt line i))
+recordBy KV.DayTimeDuration line i = unlessMore (hasField line (i + 2)) (givenDayTime (lastingAt line i))
 recordBy KV.YearMonthDuration line i = unlessMore (hasField line (i + 1)) (givenYearMonth (signedOf fourBytes (fieldAt line i)))
 
 abbrev pub recordNamed : Named → List ℕ → ℕ → GivenRecord

@@ -52,6 +52,21 @@ pub struct Day {
     pub day: u8,
 }
 
+// The numbers of a time of day, whether there is such a time or not.
+pub struct TimeGiven {
+    pub good: bool,
+    pub second: u32,
+    pub nanosecond: u32,
+}
+
+// The numbers of a dayTimeDuration, whether there is such a one or not.
+pub struct LastingGiven {
+    pub good: bool,
+    pub negative: bool,
+    pub seconds: u64,
+    pub nanoseconds: u32,
+}
+
 // The record of a date, a time or a dateTime.
 pub struct Moment {
     pub good: bool,
@@ -119,6 +134,15 @@ pub fn zone(s: &[u8]) -> Zoned
     Zoned { good: n.good, zone }
 }
 
+fn both_good(a: bool, b: bool) -> bool
+    ensures { λ r. ⌜ r ≡ every (a ∷ b ∷ []) ⌝ }
+{
+    if !a {
+        return false;
+    }
+    b
+}
+
 fn all_three(a: bool, b: bool, c: bool) -> bool
     ensures { λ r. ⌜ r ≡ every (a ∷ b ∷ c ∷ []) ⌝ }
 {
@@ -148,28 +172,59 @@ pub fn day_at(line: &[u8], at: usize) -> Day
     }
 }
 
-fn parts_of(d: Day, ticks: u64, zone: Zone) -> DateTime
-    ensures { λ r. ⌜ r ≡ the.recordParts d ticks zone ⌝ }
+// Second and nanosecond in two fields.
+pub fn time_at(line: &[u8], at: usize) -> TimeGiven
+    requires { ⌜ at ≤ 8 ⌝ }
+    ensures { λ r. ⌜ r ≡ the.timeAt (now (line .entry)) at ⌝ }
+{
+    let s = read(field(line, at), FOUR_BYTES);
+    let n = read(field(line, at + 1), FOUR_BYTES);
+    let good = both_good(s.good, n.good);
+    TimeGiven {
+        good,
+        second: s.value as u32,
+        nanosecond: n.value as u32,
+    }
+}
+
+// Seconds with a sign, and nanoseconds, in two fields.
+pub fn lasting_at(line: &[u8], at: usize) -> LastingGiven
+    requires { ⌜ at ≤ 5 ⌝ }
+    ensures { λ r. ⌜ r ≡ the.lastingAt (now (line .entry)) at ⌝ }
+{
+    let s = signed_number(field(line, at), GREATEST);
+    let n = read(field(line, at + 1), FOUR_BYTES);
+    let good = both_good(s.good, n.good);
+    LastingGiven {
+        good,
+        negative: s.negative,
+        seconds: s.value as u64,
+        nanoseconds: n.value as u32,
+    }
+}
+
+fn parts_of(d: Day, t: TimeGiven, zone: Zone) -> DateTime
+    ensures { λ r. ⌜ r ≡ the.recordParts d t zone ⌝ }
 {
     let e = Date {
         year: d.year,
         month: d.month,
         day: d.day,
     };
-    clocks::of_ticks(e, ticks, zone)
+    clocks::with_time(e, t.second, t.nanosecond, zone)
 }
 
-// Year, month, day, microseconds and zone in five fields.
+// Year, month, day, second, nanosecond and zone in six fields.
 pub fn moment_at(line: &[u8], at: usize) -> Moment
     requires { ⌜ at ≤ 5 ⌝ }
     ensures { λ r. ⌜ r ≡ the.momentAt (now (line .entry)) at ⌝ }
 {
     let d = day_at(line, at);
-    let n = read(field(line, at + 3), GREATEST);
-    let z = zone(field(line, at + 4));
-    let good = all_three(d.good, n.good, z.good);
+    let t = time_at(line, at + 3);
+    let z = zone(field(line, at + 5));
+    let good = all_three(d.good, t.good, z.good);
     let zone = z.zone;
-    let parts = parts_of(d, n.value as u64, zone);
+    let parts = parts_of(d, t, zone);
     Moment { good, parts }
 }
 
@@ -189,13 +244,13 @@ fn given_moment(kind: Kind, m: Moment) -> GivenRecord
     }
 }
 
-fn given_day_time(n: Signed) -> GivenRecord
+fn given_day_time(n: LastingGiven) -> GivenRecord
     ensures { λ r. ⌜ r ≡ the.givenDayTime n ⌝ }
 {
     if !n.good {
         return GivenRecord::No;
     }
-    GivenRecord::Is(Value::DayTime(clocks::duration(n.negative, n.value as u64)))
+    GivenRecord::Is(Value::DayTime(clocks::with_size(n.negative, n.seconds, n.nanoseconds)))
 }
 
 fn given_year_month(n: Signed) -> GivenRecord
@@ -227,23 +282,23 @@ fn record_by(kind: Kind, line: &[u8], at: usize) -> GivenRecord
 {
     match kind {
         Kind::DayTimeDuration => {
-            let n = signed_number(field(line, at), GREATEST);
-            unless_more(has_field(line, at + 1), given_day_time(n))
+            let n = lasting_at(line, at);
+            unless_more(has_field(line, at + 2), given_day_time(n))
         }
         Kind::YearMonthDuration => {
             let n = signed_number(field(line, at), FOUR_BYTES);
             unless_more(has_field(line, at + 1), given_year_month(n))
         }
         Kind::Date => unless_more(
-            has_field(line, at + 5),
+            has_field(line, at + 6),
             given_moment(Kind::Date, moment_at(line, at)),
         ),
         Kind::Time => unless_more(
-            has_field(line, at + 5),
+            has_field(line, at + 6),
             given_moment(Kind::Time, moment_at(line, at)),
         ),
         Kind::DateTime => unless_more(
-            has_field(line, at + 5),
+            has_field(line, at + 6),
             given_moment(Kind::DateTime, moment_at(line, at)),
         ),
     }

@@ -2,15 +2,15 @@
 use condition_words::cut;
 use library_lines::given::FOUR_BYTES;
 use library_lines::given::day_at;
+use library_lines::given::lasting_at;
 use library_lines::given::moment_at;
 use library_lines::given::signed_number;
+use library_lines::given::time_at;
 use library_lines::given::zone;
 use library_told::tell;
 use library_told::tell_end;
 use library_told::tell_no_call;
 use library_told::tell_refused;
-use line_fields::numbers::GREATEST;
-use line_fields::numbers::read;
 use text::Written;
 use timetable::fields::field;
 use timetable::fields::has_field;
@@ -56,42 +56,41 @@ pub fn make_date(line: &[u8]) {
     tell_made(DateTime::date(d.year, d.month, d.day, zone));
 }
 
-// `time→MICROS→Z`
+// `time→SECOND→NANO→Z`
 pub fn make_time(line: &[u8]) {
-    let n = read(field(line, 2), GREATEST);
-    let z = zone(field(line, 3));
-    let good = n.good & z.good & !has_field(line, 4);
+    let t = time_at(line, 2);
+    let z = zone(field(line, 4));
+    let good = t.good & z.good & !has_field(line, 5);
     if !good {
         tell_no_call();
         return;
     }
     let zone = z.zone;
-    tell_made(DateTime::time(n.value as u64, zone));
+    tell_made(DateTime::time(t.second, t.nanosecond, zone));
 }
 
-// `dateTime→Y→M→D→MICROS→Z`
+// `dateTime→Y→M→D→SECOND→NANO→Z`
 pub fn make_date_time(line: &[u8]) {
     let m = moment_at(line, 2);
-    let n = read(field(line, 5), GREATEST);
-    let good = m.good & !has_field(line, 7);
+    let good = m.good & !has_field(line, 8);
     if !good {
         tell_no_call();
         return;
     }
     let d = m.parts;
     let zone = d.zone;
-    tell_made(DateTime::new(d.year, d.month, d.day, n.value as u64, zone));
+    tell_made(DateTime::new(d.year, d.month, d.day, d.second, d.nanosecond, zone));
 }
 
-// `dayTime→S`
+// `dayTime→S→NANO`
 pub fn make_day_time(line: &[u8]) {
-    let n = signed_number(field(line, 2), GREATEST);
-    let good = n.good & !has_field(line, 3);
+    let n = lasting_at(line, 2);
+    let good = n.good & !has_field(line, 4);
     if !good {
         tell_no_call();
         return;
     }
-    tell_made(DayTime::new(n.negative, n.value as u64));
+    tell_made(DayTime::new(n.negative, n.seconds, n.nanoseconds));
 }
 
 // `yearMonth→S`

@@ -72,7 +72,7 @@ pub fn write_record(line: &[u8]) {
 fn write_read(kind: Kind, s: &[u8], long: usize) {
     match text::read(kind, s) {
         Outcome::Is(v) => write_within(v, long),
-        // 1: no shape, or no such day or time; 2: beyond the bounds; 3: over six fraction digits
+        // 1: no shape, or no such day or time; 2: beyond the bounds; 3: over nine fraction digits
         Outcome::Refused(refusal) => tell_refused(refusal.number),
     }
 }

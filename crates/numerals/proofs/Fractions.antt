@@ -4,6 +4,7 @@ use mathlib.Core.Bool.{Bool, true, false}
 use mathlib.Core.List.{List, [], _∷_, _++_}
 use Prim.Native.Nat.{ℕ, _+_, _-_, _*_, _^_, _≤_, _<_}
 use Prim.Native.Char.{code}
+use native.Mathlib.Nat.{mul-assoc, mul-comm}
 use native.Mathlib.Omega.{arith}
 use lib.Dec.{eqb, leb, lit≤}
 use lib.ListN.{length, getD, drop}
@@ -16,7 +17,7 @@ use Rattle.numerals.specs.declared.Text.{Text}
 use Rattle.numerals.specs.Reading.{isDigit, number, numeralAt, at, fractionDigits, fractionOf, fractionAt}
 use Rattle.numerals.specs.Carried.{Found, Added}
 use Rattle.numerals.specs.Writing.{digits, keptDigits, fractionText}
-use Rattle.numerals.proofs.Powers.{widened, filled}
+use Rattle.numerals.proofs.Powers.{widened, filled, zeros-join}
 use Rattle.numerals.proofs.Stretches.{stretch-le, stretch-lt, stretch-digit}
 use Rattle.numerals.proofs.Decimals.{length-digits, digits-stretch}
 use Rattle.numerals.proofs.Stripping.{strip-le, strip-lt, given-back}
@@ -73,6 +74,18 @@ fraction-lt s i = go (leb (numeralAt s i .count) fractionDigits) refl
     go : (b : Bool) → leb (numeralAt s i .count) fractionDigits ≡ b → fractionOf i (numeralAt s i) .ticks < 10 ^ fractionDigits
     go true e = rw e (filled (numeralAt s i .value) (numeralAt s i .count) fractionDigits (leb-true _ _ e) (stretch-lt s i))
     go false e = rw e (omega arith)
+
+-- a fraction of at most six digits has a thousand times the ticks of its digits padded to six
+pub thousandfold : (s : List ℕ) (i : ℕ) → numeralAt s i .count ≤ 6
+    → fractionAt s i ≡ record { ticks = 1000 * (numeralAt s i .value * 10 ^ (6 - numeralAt s i .count)); long = false; end = i + numeralAt s i .count }
+unfolding fractionAt
+thousandfold s i h =
+    let c : ℕ = numeralAt s i .count in
+    let v : ℕ = numeralAt s i .value in
+    let z : fractionDigits - c ≡ (6 - c) + 3 = omega arith in
+    let e : 10 ^ (6 - c) * 1000 ≡ 10 ^ (fractionDigits - c) = zeros-join (6 - c) 3 ∙ ap (λ (x : ℕ). 10 ^ x) (sym z) in
+    let m : v * 10 ^ (fractionDigits - c) ≡ 1000 * (v * 10 ^ (6 - c)) = ap (λ (x : ℕ). v * x) (sym e) ∙ sym (mul-assoc v (10 ^ (6 - c)) 1000) ∙ mul-comm (v * 10 ^ (6 - c)) 1000 in
+    rw (le-leb c fractionDigits (omega arith)) (λ j. record { ticks = m j; long = false; end = i + c })
 
 -- the digits of a fraction's text
 abbrev pub kept : ℕ → List ℕ

@@ -30,6 +30,15 @@ widened v k j h l =
     let p : 10 ^ k ≤ 10 ^ j = pow-le-pow-right (omega arith) h in
     omega arith
 
+-- k zeros and d more
+pub zeros-join : (k d : ℕ) → 10 ^ k * 10 ^ d ≡ 10 ^ (k + d)
+zeros-join k zero =
+    let z : k + 0 ≡ k = omega arith in
+    rw z (omega arith)
+zeros-join k (suc d) =
+    let z : k + suc d ≡ suc (k + d) = omega arith in
+    rw (z, pow-suc 10 d, pow-suc 10 (k + d), ← mul-assoc (10 ^ k) (10 ^ d) 10, zeros-join k d)
+
 -- with the zeros that it lacks it has j digits
 pub filled : (v k j : ℕ) → k ≤ j → v < 10 ^ k → v * 10 ^ (j - k) < 10 ^ j
 filled v k j h l =
@@ -37,18 +46,10 @@ filled v k j h l =
     let q : v * 10 ^ (j - k) < 10 ^ k * 10 ^ (j - k) = mul-lt-mul-of-pos-right l p in
     rw (joined k j h) at q
   where
-    by : (k d : ℕ) → 10 ^ k * 10 ^ d ≡ 10 ^ (k + d)
-    by k zero =
-        let z : k + 0 ≡ k = omega arith in
-        rw z (omega arith)
-    by k (suc d) =
-        let z : k + suc d ≡ suc (k + d) = omega arith in
-        rw (z, pow-suc 10 d, pow-suc 10 (k + d), ← mul-assoc (10 ^ k) (10 ^ d) 10, by k d)
-
     joined : (k j : ℕ) → k ≤ j → 10 ^ k * 10 ^ (j - k) ≡ 10 ^ j
     joined k j h =
         let z : k + (j - k) ≡ j = omega arith in
-        by k (j - k) ∙ ap (λ (x : ℕ). 10 ^ x) z
+        zeros-join k (j - k) ∙ ap (λ (x : ℕ). 10 ^ x) z
 
 -- every number has fewer digits than itself and one
 pub few-digits : (n : ℕ) → n < 10 ^ suc n

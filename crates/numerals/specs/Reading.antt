@@ -31,9 +31,10 @@ number v k (x ∷ xs) = pick (isDigit x) (number (v * 10 + (x - code "0")) (suc 
 abbrev pub numeralAt : List ℕ → ℕ → Number
 numeralAt s i = number 0 0 (drop i s)
 
--- a fraction has at most so many digits, each a tenth of the one before; the last counts ticks
+-- Document 02, e: "3 starts at the tenth digit". A fraction has at most so many digits, each a tenth of the one before;
+-- the last counts ticks
 abbrev pub fractionDigits : ℕ
-fractionDigits = 6
+fractionDigits = 9
 
 -- the digits after a point: their ticks, or that they are too many, and where they end
 abbrev pub fractionOf : ℕ → Number → Fraction

@@ -9,10 +9,10 @@ ghost use Rattle.numerals.specs.Carried.{Holds, Added, Found};
 ghost use Rattle.numerals.specs.Writing as its;
 
 // A fraction has at most so many digits.
-pub const FRACTION_DIGITS: usize = 6;
+pub const FRACTION_DIGITS: usize = 9;
 
 // The longest text has so many bytes.
-pub const LONGEST: usize = 32;
+pub const LONGEST: usize = 35;
 
 // A stretch of digits: where it ends, and its number as far as a cap.
 pub struct DigitsRead {

@@ -1,23 +1,25 @@
--- Worked cases by computation, beside those of document 01's table (crate `calls_cases`): the order of the refusals, 16, 9, 5, 4.
+-- Worked cases by computation, beside those of document 01's table (crate `calls_cases`): the order of the refusals, 16, 9, 5, 4, and
+-- either side of a nanosecond.
 use mathlib.Core.Path.{_≡_, refl}
-use mathlib.Core.Bool.{Bool, false}
-use Prim.Native.Nat.{ℕ, _+_, _*_}
+use mathlib.Core.Bool.{Bool, true, false}
+use Prim.Native.Nat.{ℕ, _+_, _-_, _*_}
 use Rattle.basis.specs.Choice.{both, every}
 use Rattle.basis.specs.Answer.{gives, refuses}
 use Rattle.calendar.specs.Calendar.{total, periodOf, dateOf}
-use Rattle.value.specs.Bounds.{minuteTicks, hourTicks}
+use Rattle.value.specs.Bounds.{minuteTicks, hourTicks, maxClock, maxDayTime}
 use Rattle.value.specs.Clocks.{clockOf, atClock, sameClock, ticksIn, durationOf}
 use Rattle.value.specs.Values.{okDate, okOffset, okZone, okTimePart, okDateTime, okSigned, okDayTime}
 use Rattle.value.specs.Kinds.{ofKind, okValue}
-use Rattle.value_instants.specs.Ticks.{utc, localOf, inYears, placedAt}
+use Rattle.value_instants.specs.Ticks.{utc, localOf, instantOf, inYears, placedAt}
 use Rattle.value.specs.declared.Offset.the-variants.{East, West}
 use Rattle.value.specs.declared.Zone.{Zone}
 use Rattle.value.specs.declared.Zone.the-variants.{Absent, At}
 use Rattle.value.specs.declared.Value.{Value}
 use Rattle.value.specs.declared.Value.the-variants.{Date, Time, DateTime, DayTime}
-use Rattle.operation_quantities.specs.Results.{atTicks}
+use Rattle.operation_quantities.specs.Results.{inTicks, atTicks}
+use Rattle.operation_shifting.specs.Shifts.{shifted}
 use Rattle.operation_ordering.specs.Order.{orderIn, orderFor}
-use Rattle.operation_arithmetic.specs.Sums.{minusFor}
+use Rattle.operation_arithmetic.specs.Sums.{sumOf, plusOf, lessMoment, differenceIn, minusIn, minusFor}
 use Rattle.operation_arithmetic.specs.Products.{productOf, timesOf}
 use Rattle.operation_adjusting.specs.Adjustment.{isZone, adjustedFrom, momentTo, operandTo, adjustOf}
 
@@ -71,3 +73,39 @@ factor-first = refl
 no-product : timesOf (date 2000 1 31) false 999_999 ≡ refuses 9
 unfolding timesOf productOf okValue okDateTime okTimePart clockOf sameClock okDate okZone ofKind both every
 no-product = refl
+
+-- a nanosecond leads over the end of a year, forth and back, and round the day
+abbrev moment : ℕ → ℕ → ℕ → ℕ → Value
+moment y m d t = DateTime (atClock (record { year = y; month = m; day = d }) t Absent)
+
+over-the-year :
+    (plusOf (moment 1999 12 31 maxClock) (lasts false 1) ≡ gives (moment 2000 1 1 0))
+    × (minusIn utc (moment 2000 1 1 0) (lasts false 1) ≡ gives (moment 1999 12 31 maxClock))
+    × (minusIn utc (moment 2000 1 1 0) (moment 1999 12 31 maxClock) ≡ gives (lasts false 1))
+    × (plusOf (moment 9999 12 31 maxClock) (lasts false 1) ≡ refuses 4)
+unfolding plusOf minusIn sumOf differenceIn lessMoment shifted inTicks atTicks placedAt inYears localOf instantOf okValue okDateTime okTimePart clockOf okDate okZone okDayTime ticksIn okSigned both every total periodOf dateOf
+over-the-year = (refl, refl, refl, refl)
+
+-- exactly the bound is good, a nanosecond more is not: of sums, and of products, of which 7 times 142857142857142857143 is one more
+-- than 10^21
+at-the-bound :
+    (plusOf (lasts false (maxDayTime - 1)) (lasts false 1) ≡ gives (lasts false maxDayTime))
+    × (plusOf (lasts false maxDayTime) (lasts false 1) ≡ refuses 4)
+    × (minusIn utc (lasts true maxDayTime) (lasts false 1) ≡ refuses 4)
+    × (plusOf (lasts true 1) (lasts false 1) ≡ gives (lasts false 0))
+    × (timesOf (lasts false 1_000_000_000_000_000) false 999_999 ≡ gives (lasts false 999_999_000_000_000_000_000))
+    × (timesOf (lasts false 8_000_000_000_000_000_000) true 125 ≡ gives (lasts true maxDayTime))
+    × (timesOf (lasts false 142_857_142_857_142_857_143) false 7 ≡ refuses 4)
+    × (timesOf (lasts true 142_857_142_857_142_857_142) false 7 ≡ gives (lasts true 999_999_999_999_999_999_994))
+    × (timesOf (lasts true maxDayTime) true 999_999 ≡ refuses 4)
+unfolding plusOf minusIn sumOf differenceIn timesOf productOf inTicks okValue okDayTime ticksIn okSigned both every
+at-the-bound = (refl, refl, refl, refl, refl, refl, refl, refl, refl)
+
+-- a zone of whole minutes and a nanosecond is none
+zone-and-a-nanosecond :
+    (adjustOf (dateTime 2000 1 1 12 0 (At (East 0))) (lasts false (hourTicks + 1)) ≡ refuses 5)
+    × (adjustOf (dateTime 2000 1 1 12 0 (At (East 0))) (lasts true 1) ≡ refuses 5)
+    × (adjustOf (dateTime 2000 1 1 12 0 (At (East 0))) (lasts false (14 * hourTicks + 1)) ≡ refuses 5)
+    × (adjustOf (dateTime 2000 1 1 12 0 (At (East 0))) (lasts false (14 * hourTicks)) ≡ gives (dateTime 2000 1 2 2 0 (At (East 840))))
+unfolding adjustOf operandTo momentTo adjustedFrom isZone atTicks placedAt inYears localOf okValue okDateTime okTimePart clockOf okDate okZone okOffset okDayTime ticksIn okSigned both every total periodOf dateOf
+zone-and-a-nanosecond = (refl, refl, refl, refl)

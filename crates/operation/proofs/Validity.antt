@@ -7,6 +7,7 @@ use Rattle.basis.proofs.Tests.{both-left, both-right, both-true}
 use Rattle.value.specs.Refusals.{outside, wrongKind, badZone}
 use Rattle.value.specs.Values.{dateIn, okDateTime, okOffset, okZone}
 use Rattle.value.specs.Kinds.{kindOf, ofKind, okValue}
+use Rattle.value.specs.Carried.{valid}
 use Rattle.value_instants.specs.Ticks.{localOf, instantAt}
 use Rattle.value.specs.declared.Offset.{Offset}
 use Rattle.value.specs.declared.Zone.{Zone}
@@ -22,7 +23,7 @@ use Rattle.operation_quantities.specs.Operands.{operandOf, valueOf}
 use Rattle.operation_quantities.specs.declared.Operand.{Operand}
 use Rattle.operation_quantities.specs.declared.Operand.the-variants.{Moment, DayTime, YearMonth}
 use Rattle.operation_quantities.proofs.Shapes.{valueBack, moment-ok}
-use Rattle.operation_quantities.proofs.Given.{valid, valid-given, valid-pick, valid-test}
+use Rattle.operation_quantities.proofs.Given.{valid-given, valid-pick, valid-test}
 use Rattle.operation_shifting.proofs.Valid.{kept-valid, placed-valid}
 use Rattle.operation_casting.specs.Casts.{castsTo, castTo, castOf}
 use Rattle.operation_adjusting.specs.Adjustment.{isZone, zoneOf, localAt, withZone, adjustedFrom, momentTo, operandTo, adjustOf, withoutZone, unzoneOf}

@@ -25,6 +25,7 @@ ghost use Rattle.operation_quantities.specs.Operands.{operandOf};
 ghost use Rattle.operation_adjusting.specs.Adjustment as the;
 
 fn is_zone(z: DayTime) -> bool
+    requires { ⌜ okDayTime z ≡ true ⌝ }
     ensures { λ r. ⌜ r ≡ the.isZone z ⌝ }
 {
     let size = clocks::size(z);
@@ -38,7 +39,7 @@ fn is_zone(z: DayTime) -> bool
 }
 
 fn zone_of(z: DayTime) -> Offset
-    requires { ⌜ the.isZone z ≡ true ⌝ }
+    requires { ⌜ (okDayTime z ≡ true) × (the.isZone z ≡ true) ⌝ }
     ensures { λ r. ⌜ r ≡ the.zoneOf z ⌝ }
 {
     let size = clocks::size(z);

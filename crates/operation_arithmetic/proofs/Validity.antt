@@ -10,6 +10,7 @@ use Rattle.value.specs.Refusals.{outside, wrongKind}
 use Rattle.value.specs.Durations.{plusHalf, minusHalf, plusTicks, minusTicks}
 use Rattle.value.specs.Values.{okOffset}
 use Rattle.value.specs.Kinds.{okValue}
+use Rattle.value.specs.Carried.{valid}
 use Rattle.value_instants.specs.Ticks.{instantOf}
 use Rattle.value.specs.declared.Offset.{Offset}
 use Rattle.value.specs.declared.DateTime.{DateTime}
@@ -20,7 +21,7 @@ use Rattle.operation_quantities.specs.Results.{inTicks}
 use Rattle.operation_quantities.specs.declared.Operand.{Operand}
 use Rattle.operation_quantities.specs.declared.Operand.the-variants.{Moment, DayTime, YearMonth}
 use Rattle.operation_quantities.proofs.Shapes.{valueBack, operand-back}
-use Rattle.operation_quantities.proofs.Given.{valid, valid-given, valid-pick}
+use Rattle.operation_quantities.proofs.Given.{valid-given, valid-pick}
 use Rattle.operation_shifting.proofs.Valid.{ticks-valid, months-valid, moved-valid, shifted-valid}
 use Rattle.operation_arithmetic.specs.Sums.{sumOf, plusOf, opposite, oppositeMonths, lessMoment, differenceIn, minusIn, minusFor}
 use Rattle.operation_arithmetic.specs.Products.{maxFactor, productOf, timesOf}

@@ -11,8 +11,7 @@ use value_instants::spans;
 ghost use mathlib.Core.Path.{_≡_};
 ghost use mathlib.Core.Bool.{true};
 ghost use Prim.Native.Nat.{_≤_};
-ghost use Rattle.value.specs.Bounds.{maxDayTime};
-ghost use Rattle.value.specs.Clocks.{ticksIn};
+ghost use Rattle.value.specs.Values.{okDayTime};
 ghost use Rattle.value.specs.Kinds.{okValue, meaning};
 ghost use Rattle.operation_quantities.specs.Operands.{operandOf};
 ghost use Rattle.operation_arithmetic.specs.Products as the;
@@ -27,7 +26,7 @@ pub fn max_factor() -> u32
 }
 
 fn day_time_times(t: DayTime, negative: bool, n: u32) -> Outcome
-    requires { ⌜ (ticksIn t ≤ maxDayTime) × (n ≤ the.maxFactor) ⌝ }
+    requires { ⌜ (okDayTime t ≡ true) × (n ≤ the.maxFactor) ⌝ }
     ensures { λ r. ⌜ meaning r ≡ the.productOf (X.DayTime t) negative n ⌝ }
 {
     let p = spans::times(operands::plus_ticks(t), n);

@@ -21,10 +21,9 @@ ghost use mathlib.Core.Path.{_≡_};
 ghost use mathlib.Core.Bool.{true};
 ghost use Prim.Native.Nat.{_+_, _≤_};
 ghost use lib.Dec.{ltb};
-ghost use Rattle.value.specs.Bounds.{maxDayTime, maxYearMonth};
-ghost use Rattle.value.specs.Clocks.{ticksIn};
+ghost use Rattle.value.specs.Bounds.{maxYearMonth};
 ghost use Rattle.value.specs.Durations as halves;
-ghost use Rattle.value.specs.Values.{okOffset, okDateTime};
+ghost use Rattle.value.specs.Values.{okOffset, okDateTime, okDayTime};
 ghost use Rattle.value.specs.Kinds.{okValue, meaning};
 ghost use Rattle.value.specs.Carried.{spanOf};
 ghost use Rattle.operation_quantities.specs.Operands.{operandOf};
@@ -44,21 +43,21 @@ fn moment_plus(kind: Kind, d: DateTime, b: Value) -> Outcome
 }
 
 fn plus_halves(a: DayTime, b: DayTime) -> Span
-    requires { ⌜ (ticksIn a ≤ maxDayTime) × (ticksIn b ≤ maxDayTime) ⌝ }
+    requires { ⌜ (okDayTime a ≡ true) × (okDayTime b ≡ true) ⌝ }
     ensures { λ r. ⌜ r ≡ spanOf (halves.plusTicks a + halves.plusTicks b) ⌝ }
 {
     spans::plus(operands::plus_ticks(a), operands::plus_ticks(b))
 }
 
 fn minus_halves(a: DayTime, b: DayTime) -> Span
-    requires { ⌜ (ticksIn a ≤ maxDayTime) × (ticksIn b ≤ maxDayTime) ⌝ }
+    requires { ⌜ (okDayTime a ≡ true) × (okDayTime b ≡ true) ⌝ }
     ensures { λ r. ⌜ r ≡ spanOf (halves.minusTicks a + halves.minusTicks b) ⌝ }
 {
     spans::plus(operands::minus_ticks(a), operands::minus_ticks(b))
 }
 
 fn day_time_plus(t: DayTime, b: Value) -> Outcome
-    requires { ⌜ (ticksIn t ≤ maxDayTime) × (okValue b ≡ true) ⌝ }
+    requires { ⌜ (okDayTime t ≡ true) × (okValue b ≡ true) ⌝ }
     ensures { λ r. ⌜ meaning r ≡ the.sumOf (X.DayTime t) (operandOf b) ⌝ }
 {
     let y = operands::operand(b);
@@ -105,7 +104,7 @@ pub fn sum(a: Value, b: Value) -> Outcome
 
 // The sign is set only where the size is not zero.
 fn opposite(t: DayTime) -> DayTime
-    requires { ⌜ ticksIn t ≤ maxDayTime ⌝ }
+    requires { ⌜ okDayTime t ≡ true ⌝ }
     ensures { λ r. ⌜ r ≡ the.opposite t ⌝ }
 {
     let p = operands::plus_ticks(t);

@@ -41,6 +41,7 @@ fn up(v: Value, given: Offset) -> Span
 }
 
 fn down(v: Value, given: Offset) -> Span
+    requires { ⌜ okValue v ≡ true ⌝ }
     ensures { λ r. ⌜ r ≡ spanOf (the.down given (operandOf v)) ⌝ }
 {
     let x = operands::operand(v);

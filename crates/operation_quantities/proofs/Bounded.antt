@@ -3,7 +3,7 @@ use mathlib.Core.Path.{_≡_, refl, sym, _∙_}
 use mathlib.Core.Bool.{Bool, true, false}
 use Prim.Native.Nat.{ℕ, _-_, _≤_, _<_}
 use lib.Dec.{leb, ltb}
-use borrow.Author.Tests.{ltb-true, ltb-false, leb-true, le-leb, lt-leb}
+use borrow.Author.Tests.{ltb-true, ltb-false, leb-true}
 use Rattle.basis.specs.Choice.{pick}
 use Rattle.basis.specs.Answer.{Answer, gives, refuses}
 use Rattle.basis.proofs.Tests.{every-fails}
@@ -67,17 +67,10 @@ module _ (p q s : Span) where
       let h = apart-above (ticksOf p) (ticksOf q) (ltb-false _ _ e) in
       ticks-made (ticksOf p) (ticksOf q) false (ticksOf s) e (h .1 ∙ sym (ticks-of s (ticksOf p - ticksOf q) f))
 
--- a span beside the longest duration, as the code tests it
-module _ (n : Bool) (s : Span) (b : Bool) (f : b ≡ ltb maxDayTime (ticksOf s)) where
-  pub not-longer : b ≡ false → ticksOf s ≤ maxDayTime
-  not-longer h = ltb-false maxDayTime (ticksOf s) (sym f ∙ h)
+-- a size beyond the bound, and one within it
+pub beyond-refused : (n : Bool) (a : ℕ) → leb a maxDayTime ≡ false → refuses beyondResult ≡ madeTicks n a
+beyond-refused n a t = sym (λ i. pick (t i) (gives (VV.DayTime (durationOf n a))) (refuses beyondResult))
 
-  pub longer-refused : b ≡ true → refuses beyondResult ≡ madeTicks n (ticksOf s)
-  longer-refused h =
-      let t : leb (ticksOf s) maxDayTime ≡ false = lt-leb (ticksOf s) maxDayTime (ltb-true maxDayTime (ticksOf s) (sym f ∙ h)) in
-      sym (λ i. pick (t i) (gives (VV.DayTime (durationOf n (ticksOf s)))) (refuses beyondResult))
-
-  pub not-longer-made : (d : DayTime) → b ≡ false → d ≡ durationOf n (ticksOf s) → gives (VV.DayTime d) ≡ madeTicks n (ticksOf s)
-  not-longer-made d h g =
-      let t : leb (ticksOf s) maxDayTime ≡ true = le-leb (ticksOf s) maxDayTime (not-longer h) in
-      (λ i. gives (VV.DayTime (g i))) ∙ sym (λ i. pick (t i) (gives (VV.DayTime (durationOf n (ticksOf s)))) (refuses beyondResult))
+pub within-made : (n : Bool) (a : ℕ) (d : DayTime) → leb a maxDayTime ≡ true → d ≡ durationOf n a → gives (VV.DayTime d) ≡ madeTicks n a
+within-made n a d t g =
+    (λ i. gives (VV.DayTime (g i))) ∙ sym (λ i. pick (t i) (gives (VV.DayTime (durationOf n a))) (refuses beyondResult))

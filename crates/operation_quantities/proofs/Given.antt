@@ -3,14 +3,10 @@ use mathlib.Core.Path.{_≡_, refl, ap, sym, _∙_}
 use mathlib.Core.Bool.{Bool, true, false}
 use Prim.Native.Nat.{ℕ}
 use Rattle.basis.specs.Choice.{pick}
-use Rattle.basis.specs.Answer.{Answer, gives, refusesFor, refuses}
+use Rattle.basis.specs.Answer.{Answer, gives, refuses}
 use Rattle.value.specs.Kinds.{okValue}
+use Rattle.value.specs.Carried.{valid}
 use Rattle.value.specs.declared.Value.{Value}
-
--- an answer whose value, if it gives one, is within its kind's bounds
-abbrev pub valid : Answer Value → Bool
-valid (gives v) = okValue v
-valid (refusesFor r) = true
 
 pub valid-given : (r : Answer Value) (v : Value) → valid r ≡ true → r ≡ gives v → okValue v ≡ true
 valid-given r v h e = ap valid (sym e) ∙ h

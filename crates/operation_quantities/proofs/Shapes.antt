@@ -3,8 +3,7 @@ use mathlib.Core.Path.{_≡_, refl, ap, sym, _∙_}
 use mathlib.Core.Bool.{true}
 use Prim.Native.Nat.{_≤_}
 use Rattle.basis.proofs.Tests.{both-left}
-use Rattle.value.specs.Bounds.{maxDayTime, maxYearMonth}
-use Rattle.value.specs.Clocks.{ticksIn}
+use Rattle.value.specs.Bounds.{maxYearMonth}
 use Rattle.value.specs.Values.{okDateTime, okDayTime, okYearMonth}
 use Rattle.value.specs.Kinds.{okValue}
 use Rattle.value.specs.declared.DateTime.{DateTime}
@@ -14,7 +13,6 @@ use Rattle.value.specs.declared.Kind.{Kind}
 use Rattle.value.specs.declared.Kind.the-variants as KV
 use Rattle.value.specs.declared.Value.{Value}
 use Rattle.value.specs.declared.Value.the-variants as VV
-use Rattle.value.proofs.ClockLaws.{ticks-to}
 use Rattle.value.proofs.Signs.{signed-within}
 use Rattle.operation_quantities.specs.Operands.{operandOf, valueOf}
 use Rattle.operation_quantities.specs.declared.Operand.{Operand}
@@ -52,9 +50,6 @@ module _ (v : Value) (x : Operand) (g : okValue v ≡ true) (h : x ≡ operandOf
   pub day-time-ok : (t : D.DayTime) → x ≡ DayTime t → okDayTime t ≡ true
   unfolding okValue
   day-time-ok t e = back-ok (DayTime t) e
-
-  pub day-time-within : (t : D.DayTime) → x ≡ DayTime t → ticksIn t ≤ maxDayTime
-  day-time-within t e = ticks-to t (day-time-ok t e)
 
   pub year-month-ok : (m : Y.YearMonth) → x ≡ YearMonth m → okYearMonth m ≡ true
   unfolding okValue

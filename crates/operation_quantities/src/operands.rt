@@ -8,6 +8,8 @@ use value::Value;
 use value::clocks;
 use value::kinds;
 ghost use mathlib.Core.Path.{_≡_};
+ghost use mathlib.Core.Bool.{true};
+ghost use Rattle.value.specs.Values.{okDayTime};
 ghost use Rattle.value.specs.Carried.{spanOf};
 ghost use Rattle.value.specs.Durations as halves;
 ghost use Rattle.operation_quantities.specs.Operands as the;
@@ -70,6 +72,7 @@ pub fn minus_half(negative: bool, n: u64) -> u64
 
 // The same of a dayTimeDuration, as spans.
 pub fn plus_ticks(t: DayTime) -> Span
+    requires { ⌜ okDayTime t ≡ true ⌝ }
     ensures { λ r. ⌜ r ≡ spanOf (halves.plusTicks t) ⌝ }
 {
     if t.negative {
@@ -79,6 +82,7 @@ pub fn plus_ticks(t: DayTime) -> Span
 }
 
 pub fn minus_ticks(t: DayTime) -> Span
+    requires { ⌜ okDayTime t ≡ true ⌝ }
     ensures { λ r. ⌜ r ≡ spanOf (halves.minusTicks t) ⌝ }
 {
     if t.negative {

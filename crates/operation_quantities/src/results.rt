@@ -1,6 +1,5 @@
 // Results: a value, or that it is beyond its kind's bounds.
 use crate::operands;
-use value::DayTime;
 use value::Kind;
 use value::Outcome;
 use value::Refusal;
@@ -10,6 +9,7 @@ use value::YearMonth;
 use value::Zone;
 use value::clocks;
 use value::kinds;
+use value::valid;
 use value_instants::Placed;
 use value_instants::spans;
 use value_instants::ticks;
@@ -36,11 +36,7 @@ fn day_time(negative: bool, s: Span) -> Outcome
     requires { ⌜ s .part < secondTicks ⌝ }
     ensures { λ r. ⌜ meaning r ≡ pick (leb (ticksOf s) maxDayTime) (gives (VV.DayTime (durationOf negative (ticksOf s)))) (refuses beyondResult) ⌝ }
 {
-    let longest = Span {
-        seconds: DayTime::MAX_SECONDS,
-        part: 0,
-    };
-    if spans::is_less(longest, s) {
+    if !valid::size_ok(s) {
         return refused(Refusal::BEYOND_RESULT);
     }
     Outcome::Is(Value::DayTime(clocks::lasting(negative, s)))

@@ -15,6 +15,7 @@ use Rattle.value.specs.Values.{okDate, okZone, okTimePart, okDateTime, okDayTim
 use Rattle.value.specs.Durations.{lessTicks, lessMonths}
 use Rattle.value.specs.Values.{dateIn}
 use Rattle.value.specs.Kinds.{template, kept, ofKind, okValue}
+use Rattle.value.specs.Carried.{valid}
 use Rattle.value_instants.specs.Ticks.{localOf, atLocal, inYears, placedAt}
 use Rattle.value.specs.declared.Zone.{Zone}
 use Rattle.value.specs.declared.DateTime.{DateTime}
@@ -30,7 +31,7 @@ use Rattle.operation_quantities.specs.Operands.{valueOf}
 use Rattle.operation_quantities.specs.Results.{inTicks, inMonths, atTicks, ofPlaced}
 use Rattle.operation_shifting.specs.Shifts.{monthOf, inMonth, movedTo, moved, wrappedClock, wrapped, shifted}
 use Rattle.operation_shifting.proofs.Lengths.{month-has-day}
-use Rattle.operation_quantities.proofs.Given.{valid, valid-test}
+use Rattle.operation_quantities.proofs.Given.{valid-test}
 use Rattle.operation_quantities.proofs.Shapes.{moment-ok}
 
 pub ticks-valid : (p q : ℕ) → valid (inTicks p q) ≡ true

@@ -14,12 +14,12 @@ use value_instants::spans;
 use value_instants::ticks;
 ghost use mathlib.Core.Path.{_≡_};
 ghost use mathlib.Core.Bool.{true};
-ghost use Prim.Native.Nat.{_+_, _-_, _%_, _<_, _≤_};
-ghost use Rattle.value.specs.Bounds.{secondTicks, maxDayTime, dayTicks};
+ghost use Prim.Native.Nat.{_+_, _-_, _%_, _<_};
+ghost use Rattle.value.specs.Bounds.{secondTicks, dayTicks};
 ghost use Rattle.value.specs.Carried.{ticksOf, spanOf};
-ghost use Rattle.value.specs.Clocks.{clockOf, ticksIn};
+ghost use Rattle.value.specs.Clocks.{clockOf};
 ghost use Rattle.value.specs.Durations as halves;
-ghost use Rattle.value.specs.Values.{okDateTime};
+ghost use Rattle.value.specs.Values.{okDateTime, okDayTime};
 ghost use Rattle.value.specs.Kinds.{meaning};
 ghost use Rattle.value_instants.specs.Ticks.{localOf};
 ghost use Rattle.operation_quantities.specs.Results.{atTicks};
@@ -39,7 +39,7 @@ fn round_day(s: Span) -> Span
 // The time of day after a duration, round the day. The duration's whole days are dropped first: it may be longer than
 // all the years.
 fn wrapped_clock(d: DateTime, t: DayTime) -> Span
-    requires { ⌜ okDateTime d ≡ true ⌝ }
+    requires { ⌜ (okDateTime d ≡ true) × (okDayTime t ≡ true) ⌝ }
     ensures { λ r. ⌜ r ≡ spanOf (the.wrappedClock (clockOf d) (halves.plusTicks t) (halves.minusTicks t)) ⌝ }
 {
     let clock = clocks::clock(d);
@@ -55,7 +55,7 @@ fn wrapped_clock(d: DateTime, t: DayTime) -> Span
 }
 
 fn wrapped(d: DateTime, t: DayTime) -> DateTime
-    requires { ⌜ okDateTime d ≡ true ⌝ }
+    requires { ⌜ (okDateTime d ≡ true) × (okDayTime t ≡ true) ⌝ }
     ensures { λ r. ⌜ r ≡ the.wrapped d (halves.plusTicks t) (halves.minusTicks t) ⌝ }
 {
     let zone = d.zone;
@@ -69,7 +69,7 @@ fn wrapped(d: DateTime, t: DayTime) -> DateTime
 
 // The local time after a duration, of a kind that has a date.
 fn local_shifted(kind: Kind, d: DateTime, t: DayTime) -> Outcome
-    requires { ⌜ (okDateTime d ≡ true) × (ticksIn t ≤ maxDayTime) ⌝ }
+    requires { ⌜ (okDateTime d ≡ true) × (okDayTime t ≡ true) ⌝ }
     ensures { λ r. ⌜ meaning r ≡ atTicks kind (localOf d + halves.plusTicks t - halves.minusTicks t) (d .zone) ⌝ }
 {
     let zone = d.zone;
@@ -85,7 +85,7 @@ fn local_shifted(kind: Kind, d: DateTime, t: DayTime) -> Outcome
 }
 
 pub fn shifted(kind: Kind, d: DateTime, t: DayTime) -> Outcome
-    requires { ⌜ (okDateTime d ≡ true) × (ticksIn t ≤ maxDayTime) ⌝ }
+    requires { ⌜ (okDateTime d ≡ true) × (okDayTime t ≡ true) ⌝ }
     ensures { λ r. ⌜ meaning r ≡ the.shiftedBy kind d t ⌝ }
 {
     if kinds::has_date(kind) {

@@ -98,3 +98,16 @@ refusals :
     × (cases "N6\tevery\t9999-12-31T23:50:00+14:00\t9999-12-31T10:00:00Z\tPT10M" ≡ refusalCase (onlyNumber beyondResult) ∷ [])
 unfolding standsFor isRun runOf fieldsRead occurrences caseAt andThen readField rowOf rowFrom withSecond hasCell cellText fieldsOf hasField fieldAt onto parted same both every runChecked countOf somePasses someBelow pastYears localOf instantOf total periodOf dateOf datedOf okDate clockOf ticksIn isDigit number fractionAt digits shortest decimal keptDigits fractionText pairAt isPair withPair fractionPart zoneSigned zonePart fourZeros yearAt yearPart partAt scanned nextDay okClock isDayEnd clockTicks goodClock clocked okParts zoneIs onCalendar bounded judge readLayout pairOf partText layoutText weight component components shapeFrom shape counted readBy isBlank leadingBlanks untrailed stripped bare readBare readAs textOf
 refusals = (refl, refl, refl, refl, refl, refl, refl)
+
+-- a step of a nanosecond, over the end of a year; the last is the last instant itself
+abbrev nanoseconds : String
+nanoseconds = "N9\tevery\t2023-12-31T23:59:59.999999998Z\t2024-01-01T00:00:00.000000001Z\tPT0.000000001S"
+
+by-nanoseconds : cases nanoseconds
+    ≡ with nanoseconds "2023-12-31T23:59:59.999999998Z"
+    ∷ with nanoseconds "2023-12-31T23:59:59.999999999Z"
+    ∷ with nanoseconds "2024-01-01T00:00:00Z"
+    ∷ with nanoseconds "2024-01-01T00:00:00.000000001Z"
+    ∷ []
+unfolding standsFor isRun runOf fieldsRead occurrences caseAt andThen readField rowOf rowFrom withSecond hasCell cellText fieldsOf hasField fieldAt onto parted same both every runChecked countOf somePasses someBelow pastYears localOf instantOf total periodOf dateOf datedOf okDate clockOf ticksIn isDigit number fractionAt digits shortest decimal keptDigits fractionText pairAt isPair withPair fractionPart zoneSigned zonePart fourZeros yearAt yearPart partAt scanned nextDay okClock isDayEnd clockTicks goodClock clocked okParts zoneIs onCalendar bounded judge readLayout pairOf partText layoutText weight component components shapeFrom shape counted readBy isBlank leadingBlanks untrailed stripped bare readBare readAs textOf
+by-nanoseconds = refl

@@ -1,5 +1,6 @@
--- Document 01, "Writing text" and refusal 15, by computation: the longest text has 32 bytes. A room of one byte less keeps
--- every byte; one that just fits is filled; of a longer one the bytes after the text stay.
+-- Document 01, "Writing text" and refusal 15, with document 02's nine digits, by computation: the longest text has 35
+-- bytes. A room of one byte less keeps every byte; one that just fits is filled; of a longer one the bytes after the
+-- text stay.
 use mathlib.Core.Path.{_≡_, refl}
 use mathlib.Core.List.{List, [], _∷_, _++_}
 use Prim.Native.Nat.{ℕ}
@@ -24,20 +25,20 @@ abbrev last : Value
 last = DateTime (atClock (record { year = maxYear; month = 12; day = 31 }) maxClock (At (East maxZone)))
 
 abbrev text : List ℕ
-text = bytes "9999-12-31T23:59:59.999999+14:00"
+text = bytes "9999-12-31T23:59:59.999999999+14:00"
 
 -- a room in which other bytes stand
 abbrev room : ℕ → List ℕ
 room n = replicate n 7
 
-one-byte-less : (written last 31 ≡ refuses 15) × (afterWrite last (room 31) ≡ room 31)
+one-byte-less : (written last 34 ≡ refuses 15) × (afterWrite last (room 34) ≡ room 34)
 unfolding written afterWrite textOf layoutText partText pairOf isPair digits keptDigits fractionText okValue okDateTime okDate okTimePart okZone okOffset clockOf both every
 one-byte-less = (refl, refl)
 
-just-fits : (written last 32 ≡ gives 32) × (afterWrite last (room 32) ≡ text)
+just-fits : (written last 35 ≡ gives 35) × (afterWrite last (room 35) ≡ text)
 unfolding written afterWrite textOf layoutText partText pairOf isPair digits keptDigits fractionText okValue okDateTime okDate okTimePart okZone okOffset clockOf both every
 just-fits = (refl, refl)
 
-bytes-after-stay : (written last 34 ≡ gives 32) × (afterWrite last (room 34) ≡ text ++ room 2)
+bytes-after-stay : (written last 37 ≡ gives 35) × (afterWrite last (room 37) ≡ text ++ room 2)
 unfolding written afterWrite textOf layoutText partText pairOf isPair digits keptDigits fractionText okValue okDateTime okDate okTimePart okZone okOffset clockOf both every
 bytes-after-stay = (refl, refl)

@@ -5,6 +5,7 @@ use value::Outcome;
 use value::Refusal;
 use value::Value;
 ghost use mathlib.Core.Path.{_≡_};
+ghost use mathlib.Core.Bool.{true};
 ghost use lib.ListN.{length};
 ghost use Rattle.basis.specs.Answer.{refuses};
 ghost use Rattle.value.specs.Kinds as kinds;
@@ -50,6 +51,7 @@ pub fn read(kind: Kind, s: &[u8]) -> Outcome
 }
 
 pub fn text_of(v: Value) -> Text
+    requires { ⌜ kinds.okValue v ≡ true ⌝ }
     ensures { λ r. ⌜ Holds (r .bytes) (r .len) (its.textOf v) ⌝ }
 {
     match v {

@@ -98,7 +98,7 @@ onCalendar k d c z =
     (pick (goodClock c) (pick (okParts z) (clocked k (dayFound d) c (zoneIs z)) (refuses badText)) (refuses badText))
     (refuses badText)
 
--- 2. More than six fraction digits: 3. 3. Year negative or above the greatest: 2.
+-- 2. More than nine fraction digits (document 02, e): 3. 3. Year negative or above the greatest: 2.
 unfoldable pub bounded : FoundDate → FoundClock → Answer Value → Answer Value
 bounded d c rest =
     pick (c .long) (refuses longFraction) (pick (d .negative) (refuses beyondBounds) (pick (leb (d .year) maxYear) rest (refuses beyondBounds)))

@@ -27,8 +27,8 @@ pub writes-no-months : yearMonthText (record { negative = false; months = 0 }) �
 unfolding durationText
 writes-no-months = refl
 
--- a fraction: of six digits it reads, of seven it is 3, also where the total is beyond the bound; of none it has no shape
-pub reads-fraction : readDayTime (bytes "-P1DT0.000001S") ≡ gives (VV.DayTime (durationOf true (dayTicks + 1)))
+-- a fraction: of nine digits it reads, of ten it is 3, also where the total is beyond the bound; of none it has no shape
+pub reads-fraction : readDayTime (bytes "-P1DT0.000000001S") ≡ gives (VV.DayTime (durationOf true (dayTicks + 1)))
 unfolding isDigit number fractionAt both weight component components shapeFrom shape counted readBy
 reads-fraction = refl
 
@@ -36,9 +36,26 @@ pub writes-fraction : dayTimeText (durationOf true (dayTicks + secondTicks / 2))
 unfolding ticksIn digits shortest decimal keptDigits fractionText both weight shown shownAll left body durationText
 writes-fraction = refl
 
-pub seven-digits : readDayTime (bytes "PT99999999999999999999.0000000S") ≡ refuses 3
+pub six-digits : readDayTime (bytes "-P1DT0.000001S") ≡ gives (VV.DayTime (durationOf true (dayTicks + 1_000)))
 unfolding isDigit number fractionAt both weight component components shapeFrom shape counted readBy
-seven-digits = refl
+six-digits = refl
+
+pub ten-digits : readDayTime (bytes "PT99999999999999999999.0000000000S") ≡ refuses 3
+unfolding isDigit number fractionAt both weight component components shapeFrom shape counted readBy
+ten-digits = refl
+
+-- a nanosecond below zero, and nothing below it
+pub one-below : readDayTime (bytes "-PT0.000000001S") ≡ gives (VV.DayTime (durationOf true 1))
+unfolding isDigit number fractionAt both weight component components shapeFrom shape counted readBy
+one-below = refl
+
+pub writes-one-below : dayTimeText (durationOf true 1) ≡ bytes "-PT0.000000001S"
+unfolding ticksIn digits shortest decimal keptDigits fractionText both weight shown shownAll left body durationText
+writes-one-below = refl
+
+pub no-negative-zero : readDayTime (bytes "-PT0.000000000S") ≡ gives (VV.DayTime (durationOf false 0))
+unfolding isDigit number fractionAt both weight component components shapeFrom shape counted readBy
+no-negative-zero = refl
 
 pub no-fraction-digit : readDayTime (bytes "PT1.S") ≡ refuses 1
 unfolding isDigit number fractionAt both weight component components shapeFrom shape counted readBy
@@ -49,7 +66,7 @@ pub most-seconds : readDayTime (bytes "PT1000000000000S") ≡ gives (VV.DayTime 
 unfolding isDigit number fractionAt both weight component components shapeFrom shape counted readBy
 most-seconds = refl
 
-pub one-tick-more : readDayTime (bytes "-PT1000000000000.000001S") ≡ refuses 2
+pub one-tick-more : readDayTime (bytes "-PT1000000000000.000000001S") ≡ refuses 2
 unfolding isDigit number fractionAt both weight component components shapeFrom shape counted readBy
 one-tick-more = refl
 

@@ -2,12 +2,11 @@
 use mathlib.Core.Path.{_≡_, refl, ap, sym, _∙_}
 use mathlib.Core.Bool.{Bool, true, false}
 use Prim.Native.Nat.{ℕ, _+_, _*_, _≤_, _<_}
-use native.Mathlib.Omega.{arith}
-use lib.Dec.{eqb, leb}
-use borrow.Author.Tests.{le-leb, lt-leb, eqb-true, eqb-false}
+use lib.Dec.{leb}
+use borrow.Author.Tests.{le-leb, lt-leb}
 use Rattle.basis.specs.Choice.{pick, both}
 use Rattle.basis.specs.Answer.{Answer, gives, refusesFor, refuses}
-use Rattle.value.specs.Bounds.{secondTicks, maxDayTimeSeconds, maxDayTime, maxYearMonth}
+use Rattle.value.specs.Bounds.{secondTicks, maxDayTime, maxYearMonth}
 use Rattle.value.specs.Reasons.{refusalOf}
 use Rattle.value.proofs.Answers.{refusal-back}
 use Rattle.value.specs.Refusals.{badText, beyondBounds, longFraction}
@@ -26,25 +25,9 @@ module _ (a : Sums) (ticks : ℕ) where
   unfolding both
   more-months h = sym (λ i. both (lt-leb (a .months) maxYearMonth h i) (leb (a .seconds * secondTicks + ticks) maxDayTime))
 
-  pub more-seconds : maxDayTimeSeconds < a .seconds → false ≡ withinBounds a ticks
+  pub few-months : a .months ≤ maxYearMonth → {b : Bool} → b ≡ leb (a .seconds * secondTicks + ticks) maxDayTime → b ≡ withinBounds a ticks
   unfolding both
-  more-seconds h = sym ((λ i. both (leb (a .months) maxYearMonth) (lt-leb (a .seconds * secondTicks + ticks) maxDayTime (omega arith) i)) ∙ go (leb (a .months) maxYearMonth))
-    where
-      go : (b : Bool) → both b false ≡ false
-      go true = refl
-      go false = refl
-
-  pub fewer-seconds : ticks < secondTicks → a .months ≤ maxYearMonth → a .seconds < maxDayTimeSeconds → true ≡ withinBounds a ticks
-  unfolding both
-  fewer-seconds k h l = sym (λ i. both (le-leb (a .months) maxYearMonth h i) (le-leb (a .seconds * secondTicks + ticks) maxDayTime (omega arith) i))
-
-  pub just-seconds : a .months ≤ maxYearMonth → maxDayTimeSeconds ≤ a .seconds → a .seconds ≤ maxDayTimeSeconds → eqb ticks 0 ≡ withinBounds a ticks
-  unfolding both
-  just-seconds h l m = go (eqb ticks 0) refl ∙ sym (λ i. both (le-leb (a .months) maxYearMonth h i) (leb (a .seconds * secondTicks + ticks) maxDayTime))
-    where
-      go : (b : Bool) → eqb ticks 0 ≡ b → eqb ticks 0 ≡ leb (a .seconds * secondTicks + ticks) maxDayTime
-      go true e = let z : ticks ≡ 0 = eqb-true ticks 0 e in e ∙ sym (le-leb (a .seconds * secondTicks + ticks) maxDayTime (omega arith))
-      go false e = let z : (ticks ≡ 0 → ⊥) = eqb-false ticks 0 e in e ∙ sym (lt-leb (a .seconds * secondTicks + ticks) maxDayTime (omega arith))
+  few-months h e = e ∙ sym (λ i. both (le-leb (a .months) maxYearMonth h i) (leb (a .seconds * secondTicks + ticks) maxDayTime))
 
 -- the checks in their order
 module _ (t : Shape) where

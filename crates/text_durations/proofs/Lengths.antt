@@ -61,7 +61,7 @@ abbrev monthsOf : ℕ → Sums
 monthsOf n = record { months = n; seconds = 0 }
 
 -- hours, minutes and seconds of less than a day
-time-short : (n ticks : ℕ) → n < 86400 → length (shownAll true (dayTime .after) (secondsOf n) ticks) ≤ 16
+time-short : (n ticks : ℕ) → n < 86400 → length (shownAll true (dayTime .after) (secondsOf n) ticks) ≤ 19
 unfolding shownAll weight both
 time-short n ticks h =
     let a = plain-short 2 hours (n / 3600) ticks (omega arith) (omega arith) (λ e. omega arith) in
@@ -76,7 +76,7 @@ pub day-time-short : (n ticks : ℕ) → n / 86400 < 10 ^ 9 → 1 + length (body
 unfolding shownAll left weight
 day-time-short n u h =
     let a = plain-short 9 days (n / 86400) u (omega arith) h (λ e. omega arith) in
-    let b = after-short (dayTime .after) (secondsOf (n % 86400)) u 16 (time-short (n % 86400) u (omega arith)) in
+    let b = after-short (dayTime .after) (secondsOf (n % 86400)) u 19 (time-short (n % 86400) u (omega arith)) in
     let e : shownAll false (dayTime .before) (secondsOf n) u ≡ shown days (n / 86400) u ++ [] = refl in
     let f : left false (dayTime .before) (secondsOf n) ≡ secondsOf (n % 86400) = refl in
     omega (arith, ap length e, body-length (dayTime .before) (dayTime .after) (secondsOf n) u, length-append (shown days (n / 86400) u) [])
@@ -119,7 +119,7 @@ module _ (d : DayTime) {z : Span} (e : z ≡ spanOf (ticksIn d)) where
   pub sized : {b : Bool} → isNothing (secondsOf (z .seconds)) (z .part) ≡ b → isNothing (dayTimeAmount d .sums) (dayTimeAmount d .ticks) ≡ b
   sized q = sym (ap (λ (x : Span). isNothing (secondsOf (x .seconds)) (x .part)) e) ∙ q
 
-  pub sized-short : ticksIn d < 2 ^ 64 → 1 + length (body (dayTime .before) (dayTime .after) (secondsOf (z .seconds)) (z .part)) ≤ longest
+  pub sized-short : ticksIn d ≤ maxDayTime → 1 + length (body (dayTime .before) (dayTime .after) (secondsOf (z .seconds)) (z .part)) ≤ longest
   sized-short h = let s : z .seconds ≡ ticksIn d / secondTicks = ap (λ (x : Span). x .seconds) e in day-time-short (z .seconds) (z .part) (omega arith)
 
   pub holds-sized : {r : Text} → isNothing (secondsOf (z .seconds)) (z .part) ≡ false

@@ -110,7 +110,7 @@ signedAmount negative a ticks = record { negative = pick (isNothing a ticks) fal
 abbrev pub withinBounds : Sums → ℕ → Bool
 withinBounds a ticks = both (leb (a .months) maxYearMonth) (leb (a .seconds * secondTicks + ticks) maxDayTime)
 
--- The checks in their order: the shape; more than six fraction digits; the bounds.
+-- The checks in their order: the shape; more than nine fraction digits; the bounds.
 unfoldable pub counted : Shape → Answer Amount
 counted t =
     pick (t .good)

@@ -7,10 +7,13 @@ use value::Span;
 use value::Value;
 use value::YearMonth;
 use value::clocks;
+use value::valid;
 ghost use mathlib.Core.Path.{_≡_};
+ghost use mathlib.Core.Bool.{true};
 ghost use Prim.Native.Nat.{_<_};
 ghost use Rattle.basis.specs.Answer.{refuses};
 ghost use Rattle.value.specs.Bounds.{secondTicks};
+ghost use Rattle.value.specs.Values.{okDayTime};
 ghost use Rattle.numerals.specs.Carried.{Holds};
 ghost use Rattle.text_durations.specs.Forms.{dayTime, yearMonth};
 ghost use Rattle.text_durations.specs.Walks as the;
@@ -80,13 +83,10 @@ fn within_bounds(sums: Sums, ticks: u32) -> bool
     if most < sums.months {
         return false;
     }
-    if sums.seconds < DayTime::MAX_SECONDS {
-        return true;
-    }
-    if DayTime::MAX_SECONDS < sums.seconds {
-        return false;
-    }
-    ticks == 0
+    valid::size_ok(Span {
+        seconds: sums.seconds,
+        part: ticks,
+    })
 }
 
 fn refused(number: u8) -> Count
@@ -171,6 +171,7 @@ pub fn read_year_month(s: &[u8]) -> Reading
 }
 
 pub fn day_time_text(d: DayTime) -> Text
+    requires { ⌜ okDayTime d ≡ true ⌝ }
     ensures { λ r. ⌜ Holds (r .bytes) (r .len) (its.dayTimeText d) ⌝ }
 {
     let size = clocks::size(d);

@@ -7,7 +7,7 @@ use Rattle.basis.specs.Answer.{gives, refuses}
 use Rattle.basis.specs.Letters.{bytes}
 use Rattle.calendar.specs.Calendar.{datedOf, dateOf, total, periodOf}
 use Rattle.calendar.specs.declared.Date.{Date}
-use Rattle.value.specs.Bounds.{maxZone, secondTicks, hourTicks}
+use Rattle.value.specs.Bounds.{maxClock, maxZone, secondTicks, hourTicks}
 use Rattle.value.specs.Clocks.{clockOf, atClock}
 use Rattle.value.specs.Values.{okDate, dateIn}
 use Rattle.value.specs.Kinds.{template}
@@ -52,24 +52,36 @@ too-far-zone : readLayout KV.Date (bytes "2000-01-01+14:01") ≡ refuses 1
 unfolding isDigit number fractionAt pairAt fourZeros yearAt yearPart fractionPart zonePart zoneSigned isPair withPair partAt scanned readLayout judge bounded onCalendar okParts zoneIs clocked okClock isDayEnd goodClock clockTicks nextDay clockOf okDate every both datedOf dateOf total periodOf
 too-far-zone = refl
 
-seven-zeros : readLayout KV.Time (bytes "12:00:00.0000000") ≡ refuses 3
+seven-zeros : readLayout KV.Time (bytes "12:00:00.0000000") ≡ gives (VV.Time (atClock reference (12 * hourTicks) Absent))
 unfolding isDigit number fractionAt pairAt fourZeros yearAt yearPart fractionPart zonePart zoneSigned isPair withPair partAt scanned readLayout judge bounded onCalendar okParts zoneIs clocked okClock isDayEnd goodClock clockTicks nextDay clockOf okDate every both datedOf dateOf total periodOf
 seven-zeros = refl
 
-six-digits : readLayout KV.Time (bytes "12:00:00.000001") ≡ gives (VV.Time (atClock reference (12 * hourTicks + 1) Absent))
+six-digits : readLayout KV.Time (bytes "12:00:00.000001") ≡ gives (VV.Time (atClock reference (12 * hourTicks + 1_000) Absent))
 unfolding isDigit number fractionAt pairAt fourZeros yearAt yearPart fractionPart zonePart zoneSigned isPair withPair partAt scanned readLayout judge bounded onCalendar okParts zoneIs clocked okClock isDayEnd goodClock clockTicks nextDay clockOf okDate every both datedOf dateOf total periodOf
 six-digits = refl
+
+nine-digits : readLayout KV.Time (bytes "12:00:00.000000001") ≡ gives (VV.Time (atClock reference (12 * hourTicks + 1) Absent))
+unfolding isDigit number fractionAt pairAt fourZeros yearAt yearPart fractionPart zonePart zoneSigned isPair withPair partAt scanned readLayout judge bounded onCalendar okParts zoneIs clocked okClock isDayEnd goodClock clockTicks nextDay clockOf okDate every both datedOf dateOf total periodOf
+nine-digits = refl
+
+last-nanosecond : readLayout KV.Time (bytes "23:59:59.999999999") ≡ gives (VV.Time (atClock reference maxClock Absent))
+unfolding isDigit number fractionAt pairAt fourZeros yearAt yearPart fractionPart zonePart zoneSigned isPair withPair partAt scanned readLayout judge bounded onCalendar okParts zoneIs clocked okClock isDayEnd goodClock clockTicks nextDay clockOf okDate every both datedOf dateOf total periodOf
+last-nanosecond = refl
+
+ten-zeros : readLayout KV.Time (bytes "12:00:00.0000000000") ≡ refuses 3
+unfolding isDigit number fractionAt pairAt fourZeros yearAt yearPart fractionPart zonePart zoneSigned isPair withPair partAt scanned readLayout judge bounded onCalendar okParts zoneIs clocked okClock isDayEnd goodClock clockTicks nextDay clockOf okDate every both datedOf dateOf total periodOf
+ten-zeros = refl
 
 no-digit-after-point : readLayout KV.Time (bytes "12:00:00.") ≡ refuses 1
 unfolding isDigit number fractionAt pairAt fourZeros yearAt yearPart fractionPart zonePart zoneSigned isPair withPair partAt scanned readLayout judge bounded onCalendar okParts zoneIs clocked okClock isDayEnd goodClock clockTicks nextDay clockOf okDate every both datedOf dateOf total periodOf
 no-digit-after-point = refl
 
 -- The order holds across the whole text.
-long-and-bad-hour : readLayout KV.Time (bytes "25:00:00.0000000") ≡ refuses 3
+long-and-bad-hour : readLayout KV.Time (bytes "25:00:00.0000000000") ≡ refuses 3
 unfolding isDigit number fractionAt pairAt fourZeros yearAt yearPart fractionPart zonePart zoneSigned isPair withPair partAt scanned readLayout judge bounded onCalendar okParts zoneIs clocked okClock isDayEnd goodClock clockTicks nextDay clockOf okDate every both datedOf dateOf total periodOf
 long-and-bad-hour = refl
 
-long-and-great-year : readLayout KV.DateTime (bytes "12000-01-01T00:00:00.0000000") ≡ refuses 3
+long-and-great-year : readLayout KV.DateTime (bytes "12000-01-01T00:00:00.0000000000") ≡ refuses 3
 unfolding isDigit number fractionAt pairAt fourZeros yearAt yearPart fractionPart zonePart zoneSigned isPair withPair partAt scanned readLayout judge bounded onCalendar okParts zoneIs clocked okClock isDayEnd goodClock clockTicks nextDay clockOf okDate every both datedOf dateOf total periodOf
 long-and-great-year = refl
 

@@ -4,9 +4,12 @@ use mathlib.Core.List.{List, [], _∷_}
 use Prim.Native.Nat.{ℕ, _≤_}
 use native.Mathlib.Omega.{arith}
 use lib.ListN.{length, length-append}
+use mathlib.Core.Bool.{true}
+use Rattle.basis.specs.Choice.{both, every}
 use Rattle.basis.specs.Letters.{bytes}
 use Rattle.value.specs.Bounds.{maxYear, maxClock, maxZone}
 use Rattle.value.specs.Clocks.{clockOf, atClock}
+use Rattle.value.specs.Values.{okDate, okOffset, okZone, okTimePart, okDateTime}
 use Rattle.value.specs.declared.Offset.the-variants.{East}
 use Rattle.value.specs.declared.Zone.the-variants.{At}
 use Rattle.value.specs.declared.DateTime.{DateTime}
@@ -26,14 +29,15 @@ by-widths (p ∷ ps) d = omega (arith, length-append (partText p d) (layoutText 
 pub text-fits : (k : Kind) (d : DateTime) → length (kindText k d) ≤ longest
 text-fits k d = omega (arith, by-widths (layout k) d, wide k)
 
--- 9999-12-31T23:59:59.999999+14:00
+-- 9999-12-31T23:59:59.999999999+14:00
 abbrev last : DateTime
 last = atClock (record { year = maxYear; month = 12; day = 31 }) maxClock (At (East maxZone))
 
-pub last-text : kindText KV.DateTime last ≡ bytes "9999-12-31T23:59:59.999999+14:00"
+pub last-text : kindText KV.DateTime last ≡ bytes "9999-12-31T23:59:59.999999999+14:00"
 unfolding layoutText partText pairOf isPair digits keptDigits fractionText clockOf
 last-text = refl
 
-pub longest-reached : length (kindText KV.DateTime last) ≡ longest
-unfolding layoutText partText pairOf isPair digits keptDigits fractionText clockOf
-longest-reached = refl
+-- it is within the bounds, and as long as the longest
+pub longest-reached : (okDateTime last ≡ true) × (length (kindText KV.DateTime last) ≡ longest)
+unfolding okDateTime okDate okTimePart okZone okOffset every both layoutText partText pairOf isPair digits keptDigits fractionText clockOf
+longest-reached = (refl, refl)

@@ -4,6 +4,8 @@ use value::DateTime;
 use value::Kind;
 use value::Outcome;
 ghost use mathlib.Core.Path.{_≡_};
+ghost use mathlib.Core.Bool.{true};
+ghost use Rattle.value.specs.Values.{okTimePart};
 ghost use Rattle.value.specs.Kinds.{meaning};
 ghost use Rattle.numerals.specs.Carried.{Holds};
 ghost use Rattle.text_layouts.specs.Reading.{readLayout};
@@ -21,6 +23,7 @@ pub fn read_layout(kind: Kind, s: &[u8]) -> Outcome
 
 // The text of a record as a value of a kind: what the parts of its layout say of the record. The durations have none.
 pub fn layout_text(kind: Kind, d: DateTime) -> Text
+    requires { ⌜ okTimePart d ≡ true ⌝ }
     ensures { λ r. ⌜ Holds (r .bytes) (r .len) (kindText kind d) ⌝ }
 {
     match kind {

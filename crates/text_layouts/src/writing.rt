@@ -7,8 +7,10 @@ use value::Offset;
 use value::Span;
 use value::Zone;
 ghost use mathlib.Core.Path.{_≡_};
+ghost use mathlib.Core.Bool.{true};
 ghost use Prim.Native.Nat.{_+_, _≤_};
 ghost use lib.ListN.{length};
+ghost use Rattle.value.specs.Values.{okTimePart};
 ghost use Rattle.numerals.specs.Writing.{longest};
 ghost use Rattle.numerals.specs.Carried.{Holds, Added};
 ghost use Rattle.text_scan.specs.Carried.{signedWidth, width, widths};
@@ -46,6 +48,7 @@ fn with_zone(t: Text, z: Zone) -> Text
 }
 
 fn pair_of(p: u8, d: DateTime) -> u64
+    requires { ⌜ okTimePart d ≡ true ⌝ }
     ensures { λ r. ⌜ r ≡ pairOf p d ⌝ }
 {
     if p == b'M' {
@@ -66,7 +69,7 @@ fn pair_of(p: u8, d: DateTime) -> u64
 }
 
 fn part(t: Text, p: u8, d: DateTime) -> Text
-    requires { ⌜ t .len + width p ≤ longest ⌝ }
+    requires { ⌜ (t .len + width p ≤ longest) × (okTimePart d ≡ true) ⌝ }
     ensures { λ r. ⌜ Added t r (partText p d) (length (partText p d)) ⌝ }
 {
     if p == b'Y' {
@@ -88,7 +91,7 @@ fn part(t: Text, p: u8, d: DateTime) -> Text
 
 // The text of a record by a layout that leaves room for every part.
 pub fn parts(layout: &[u8], d: DateTime) -> Text
-    requires { ⌜ widths (now layout) ≤ longest ⌝ }
+    requires { ⌜ (widths (now layout) ≤ longest) × (okTimePart d ≡ true) ⌝ }
     ensures { λ r. ⌜ Holds (r .bytes) (r .len) (layoutText (now (layout .entry)) d) ⌝ }
 {
     let mut t = Text::new();

@@ -6,7 +6,7 @@ use Prim.Native.Nat.{ℕ, _+_}
 use Rattle.basis.specs.Choice.{both, every}
 use Rattle.basis.specs.Answer.{gives, refuses}
 use Rattle.value.specs.Bounds.{maxClock, dayTicks}
-use Rattle.value.specs.Clocks.{clockOf, atClock, sameClock, ticksIn, durationOf}
+use Rattle.value.specs.Clocks.{withTime, sameClock, ticksIn, withSize}
 use Rattle.value.specs.Values.{okDate, okOffset, okZone, okTimePart, okDateTime, okSigned, okDayTime}
 use Rattle.value.specs.Kinds.{ofKind, okValue, made}
 use Rattle.value.specs.declared.Offset.the-variants.{East, West}
@@ -26,56 +26,76 @@ Taken v = made v ≡ gives v
 abbrev Refused : Value → Type 0
 Refused v = made v ≡ refuses 16
 
-abbrev on : ℕ → ℕ → ℕ → ℕ → Zone → D.DateTime
-on y m d u z = atClock (record { year = y; month = m; day = d }) u z
+abbrev at : ℕ → ℕ → ℕ → ℕ → ℕ → Zone → D.DateTime
+at y m d s n z = withTime (record { year = y; month = m; day = d }) s n z
 
-abbrev lasts : Bool → ℕ → Value
-lasts n t = DayTime (durationOf n t)
+abbrev on : ℕ → ℕ → ℕ → Zone → D.DateTime
+on y m d z = at y m d 0 0 z
+
+abbrev lasts : Bool → ℕ → ℕ → Value
+lasts b s n = DayTime (withSize b s n)
 
 abbrev months : Bool → ℕ → Value
 months n t = YearMonth (record { negative = n; months = t })
 
--- zero has no sign
-negative-zero : Refused (lasts true 0) × Taken (lasts false 0) × Taken (lasts true 1) × Refused (months true 0) × Taken (months false 0) × Taken (months true 1)
+-- zero has no sign, and it is zero only where both numbers are
+negative-zero :
+    Refused (lasts true 0 0)
+    × Taken (lasts false 0 0)
+    × Taken (lasts true 0 1)
+    × Taken (lasts true 1 0)
+    × Refused (months true 0)
+    × Taken (months false 0)
+    × Taken (months true 1)
 unfolding made okValue okDayTime ticksIn okSigned both every
-negative-zero = (refl, refl, refl, refl, refl, refl)
+negative-zero = (refl, refl, refl, refl, refl, refl, refl)
 
--- the durations' bounds, either sign
-longest-durations : Taken (lasts true 1_000_000_000_000_000_000) × Refused (lasts true 1_000_000_000_000_000_001) × Taken (months false 1_000_000) × Refused (months false 1_000_001)
+-- the durations' bounds, either sign: not a nanosecond more, and no second's worth of nanoseconds
+longest-durations :
+    Taken (lasts true 1_000_000_000_000 0)
+    × Refused (lasts true 1_000_000_000_000 1)
+    × Refused (lasts false 1_000_000_000_000 1)
+    × Taken (lasts false 999_999_999_999 999_999_999)
+    × Refused (lasts false 999_999_999_999 1_000_000_000)
+    × Refused (lasts false 0 1_000_000_000)
+    × Taken (months false 1_000_000)
+    × Refused (months false 1_000_001)
 unfolding made okValue okDayTime ticksIn okSigned both every
-longest-durations = (refl, refl, refl, refl)
+longest-durations = (refl, refl, refl, refl, refl, refl, refl, refl)
 
 -- a zone of zero minutes is east, and none is beyond 14 hours
 zones :
-    Refused (Date (on 2000 1 1 0 (At (West 0))))
-    × Taken (Date (on 2000 1 1 0 (At (East 0))))
-    × Taken (Date (on 2000 1 1 0 (At (West 1))))
-    × Refused (Date (on 2000 1 1 0 (At (East 841))))
-    × Taken (Date (on 2000 1 1 0 (At (East 840))))
-    × Refused (Date (on 2000 1 1 0 (At (West 841))))
-    × Taken (Date (on 2000 1 1 0 (At (West 840))))
-unfolding made okValue okDateTime okTimePart clockOf sameClock okDate okZone okOffset ofKind both every
+    Refused (Date (on 2000 1 1 (At (West 0))))
+    × Taken (Date (on 2000 1 1 (At (East 0))))
+    × Taken (Date (on 2000 1 1 (At (West 1))))
+    × Refused (Date (on 2000 1 1 (At (East 841))))
+    × Taken (Date (on 2000 1 1 (At (East 840))))
+    × Refused (Date (on 2000 1 1 (At (West 841))))
+    × Taken (Date (on 2000 1 1 (At (West 840))))
+unfolding made okValue okDateTime okTimePart sameClock okDate okZone okOffset ofKind both every
 zones = (refl, refl, refl, refl, refl, refl, refl)
 
 -- the calendar and its years
 days :
-    Refused (Date (on 1900 2 29 0 Absent))
-    × Taken (Date (on 1900 2 28 0 Absent))
-    × Taken (Date (on 2000 2 29 0 Absent))
-    × Refused (Date (on 0 12 31 0 Absent))
-    × Taken (Date (on 1 1 1 0 Absent))
-    × Taken (Date (on 9999 12 31 0 Absent))
-    × Refused (Date (on 10000 1 1 0 Absent))
-unfolding made okValue okDateTime okTimePart clockOf sameClock okDate okZone ofKind both every
+    Refused (Date (on 1900 2 29 Absent))
+    × Taken (Date (on 1900 2 28 Absent))
+    × Taken (Date (on 2000 2 29 Absent))
+    × Refused (Date (on 0 12 31 Absent))
+    × Taken (Date (on 1 1 1 Absent))
+    × Taken (Date (on 9999 12 31 Absent))
+    × Refused (Date (on 10000 1 1 Absent))
+unfolding made okValue okDateTime okTimePart sameClock okDate okZone ofKind both every
 days = (refl, refl, refl, refl, refl, refl, refl)
 
--- a date has no time of day, a time no day but the reference day, and neither reaches the end of the day
+-- a date has no time of day, a time no day but the reference day; neither reaches the end of the day, or of a second
 parts-of-kinds :
-    Refused (Date (on 2000 1 1 1 Absent))
-    × Taken (DateTime (on 2000 1 1 1 Absent))
-    × Refused (Time (on 2000 1 1 1 Absent))
-    × Taken (Time (on 1972 12 31 1 Absent))
-    × Taken (Time (on 1972 12 31 86_399_999_999 Absent))
-    × Refused (Time (on 1972 12 31 86_400_000_000 Absent))
-unfolding made okValue okDateTime okTimePart clockOf sameClock okDate okZone ofKind both every
-parts-of-kinds = (refl, refl, refl, refl, refl, refl)
+    Refused (Date (at 2000 1 1 1 0 Absent))
+    × Refused (Date (at 2000 1 1 0 1 Absent))
+    × Taken (DateTime (at 2000 1 1 0 1 Absent))
+    × Refused (Time (at 2000 1 1 0 1 Absent))
+    × Taken (Time (at 1972 12 31 0 1 Absent))
+    × Taken (Time (at 1972 12 31 86_399 999_999_999 Absent))
+    × Refused (Time (at 1972 12 31 86_400 0 Absent))
+    × Refused (Time (at 1972 12 31 0 1_000_000_000 Absent))
+unfolding made okValue okDateTime okTimePart sameClock okDate okZone ofKind both every
+parts-of-kinds = (refl, refl, refl, refl, refl, refl, refl, refl)

@@ -7,9 +7,9 @@ use lib.Dec.{eqb}
 use borrow.Author.Tests.{eq-eqb, eqb-true}
 use Rattle.basis.specs.Choice.{pick, both, every}
 use Rattle.basis.proofs.Tests.{both-left, both-right, both-true}
-use Rattle.value.specs.Bounds.{maxDayTime, maxYearMonth}
-use Rattle.value.specs.Clocks.{atClockOf, sameClock, ticksIn}
-use Rattle.value.specs.Values.{okDateTime, dateIn}
+use Rattle.value.specs.Bounds.{maxYearMonth}
+use Rattle.value.specs.Clocks.{atClockOf, sameClock}
+use Rattle.value.specs.Values.{okDateTime, okDayTime, dateIn}
 use Rattle.value.specs.Kinds.{hasDate, hasTime, template, kept, ofKind, okValue}
 use Rattle.value.specs.declared.DateTime.{DateTime}
 use Rattle.value.specs.declared.DayTime.{DayTime}
@@ -20,7 +20,7 @@ use Rattle.value.specs.declared.Value.{Value}
 use Rattle.value.specs.declared.Value.the-variants as VV
 use Rattle.value.proofs.Good.{good}
 use Rattle.value.proofs.Signs.{signed-within}
-use Rattle.value.proofs.ClockLaws.{same-clock-self, same-clock-one, ticks-to}
+use Rattle.value.proofs.ClockLaws.{same-clock-self, same-clock-one}
 
 pub kept-by : (k : Kind) (d t : DateTime) (a b : Bool) → hasDate k ≡ a → hasTime k ≡ b → t ≡ template k
     → atClockOf (dateIn (pick a d t)) (pick b d t) (d .zone) ≡ kept k d
@@ -74,9 +74,9 @@ module _ (v : Value) (g : okValue v ≡ true) where
   unfolding okValue
   date-time-good d e = ap okValue (sym e) ∙ g
 
-  pub day-time-within : (d : DayTime) → v ≡ VV.DayTime d → ticksIn d ≤ maxDayTime
+  pub day-time-good : (d : DayTime) → v ≡ VV.DayTime d → okDayTime d ≡ true
   unfolding okValue
-  day-time-within d e = ticks-to d (ap okValue (sym e) ∙ g)
+  day-time-good d e = ap okValue (sym e) ∙ g
 
   pub year-month-within : (d : YearMonth) → v ≡ VV.YearMonth d → d .months ≤ maxYearMonth
   unfolding okValue

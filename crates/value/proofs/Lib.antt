@@ -1,7 +1,8 @@
 pub mod Answers
 pub mod Signs
-pub mod ClockLaws
 pub mod Spans
+pub mod ClockLaws
+pub mod Sizes
 pub mod Good
 pub mod KindParts
 pub mod Numbers

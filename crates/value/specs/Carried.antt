@@ -1,8 +1,12 @@
--- Carried: time as whole seconds and a part of a second, where a machine number has no room for the ticks. No promise to a
--- caller rests on it: the definitions speak of ticks.
+-- Carried: time as whole seconds and a part of a second, where a machine number has no room for the ticks, and answers that
+-- hold only valid values. No promise to a caller rests on it: the definitions speak of ticks, and of values.
+use mathlib.Core.Bool.{Bool, true}
 use Prim.Native.Nat.{ℕ, _+_, _*_, _/_, _%_}
+use Rattle.basis.specs.Answer.{Answer, gives, refusesFor}
 use Rattle.value.specs.Bounds.{secondTicks}
+use Rattle.value.specs.Kinds.{okValue}
 use Rattle.value.specs.declared.Span.{Span}
+use Rattle.value.specs.declared.Value.{Value}
 
 -- a span of time in code is whole seconds and a part of a second; here it is its ticks
 abbrev pub ticksOf : Span → ℕ
@@ -10,3 +14,8 @@ ticksOf s = s .seconds * secondTicks + s .part
 
 abbrev pub spanOf : ℕ → Span
 spanOf t = record { seconds = t / secondTicks; part = t % secondTicks }
+
+-- an answer whose value, if it gives one, is within its kind's bounds
+abbrev pub valid : Answer Value → Bool
+valid (gives v) = okValue v
+valid (refusesFor r) = true

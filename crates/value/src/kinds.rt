@@ -40,7 +40,7 @@ pub fn template(kind: Kind) -> DateTime
         month: 12,
         day: 31,
     };
-    clocks::of_ticks(day, 0, Zone::Absent)
+    clocks::with_time(day, 0, 0, Zone::Absent)
 }
 
 pub fn kept(kind: Kind, d: DateTime) -> DateTime

@@ -3,7 +3,7 @@ use calendar::Date;
 ghost use mathlib.Core.Path.{_≡_};
 ghost use Rattle.basis.specs.Answer.{onlyNumber};
 ghost use Rattle.value.specs.Reasons.{reasonOf};
-ghost use Rattle.value.specs.Clocks.{atClock, durationOf};
+ghost use Rattle.value.specs.Clocks.{withTime, withSize};
 ghost use Rattle.value.specs.Values.{dateIn};
 ghost use Rattle.value.specs.Kinds.{made, meaning, kindOf, template};
 ghost use Rattle.value.specs.declared.Kind.the-variants as KV;
@@ -25,19 +25,21 @@ pub enum Zone {
     At(Offset),
 }
 
-// A date, a time and a dateTime: a date is at 00:00:00, a time is on 1972-12-31.
+// A date, a time and a dateTime: a date is at 00:00:00, a time is on 1972-12-31. The second is that of the day.
 pub struct DateTime {
     pub year: u16,
     pub month: u8,
     pub day: u8,
-    pub micros: u64,
+    pub second: u32,
+    pub nanosecond: u32,
     pub zone: Zone,
 }
 
-// A signed number of microseconds. Zero is not negative.
+// Seconds and nanoseconds under one sign. Zero, where both are, is not negative.
 pub struct DayTime {
     pub negative: bool,
-    pub micros: u64,
+    pub seconds: u64,
+    pub nanoseconds: u32,
 }
 
 // A signed number of months. Zero is not negative.
@@ -125,8 +127,8 @@ impl Refusal {
 }
 
 impl Span {
-    // The ticks of a second: a part is below this.
-    pub const TICKS: u32 = 1_000_000;
+    // The ticks of a second, which are nanoseconds: a part is below this.
+    pub const TICKS: u32 = 1_000_000_000;
 
     // The seconds of a minute, the minutes of an hour, the hours of a day.
     pub const MINUTE: u64 = 60;
@@ -146,27 +148,29 @@ impl DateTime {
 
     pub const MAX_YEAR: u16 = 9999;
 
-    // The last tick of a day.
-    pub const MAX_CLOCK: u64 = Span::DAY * Span::TICKS as u64 - 1;
+    // The last second of a day, and the last nanosecond of a second.
+    pub const MAX_SECOND: u32 = Span::DAY as u32 - 1;
+
+    pub const MAX_NANOSECOND: u32 = Span::TICKS - 1;
 
     pub const MAX_ZONE: u16 = 840;
 
-    pub fn new(year: u16, month: u8, day: u8, ticks: u64, zone: Zone) -> Outcome
-        ensures { λ r. ⌜ meaning r ≡ made (VV.DateTime (atClock (record { year = year; month = month; day = day }) ticks zone)) ⌝ }
+    pub fn new(year: u16, month: u8, day: u8, second: u32, nanosecond: u32, zone: Zone) -> Outcome
+        ensures { λ r. ⌜ meaning r ≡ made (VV.DateTime (withTime (record { year = year; month = month; day = day }) second nanosecond zone)) ⌝ }
     {
         let e = Date { year, month, day };
-        valid::checked(Value::DateTime(clocks::of_ticks(e, ticks, zone)))
+        valid::checked(Value::DateTime(clocks::with_time(e, second, nanosecond, zone)))
     }
 
     pub fn date(year: u16, month: u8, day: u8, zone: Zone) -> Outcome
-        ensures { λ r. ⌜ meaning r ≡ made (VV.Date (atClock (record { year = year; month = month; day = day }) 0 zone)) ⌝ }
+        ensures { λ r. ⌜ meaning r ≡ made (VV.Date (withTime (record { year = year; month = month; day = day }) 0 0 zone)) ⌝ }
     {
         let e = Date { year, month, day };
-        valid::checked(Value::Date(clocks::of_ticks(e, 0, zone)))
+        valid::checked(Value::Date(clocks::with_time(e, 0, 0, zone)))
     }
 
-    pub fn time(ticks: u64, zone: Zone) -> Outcome
-        ensures { λ r. ⌜ meaning r ≡ made (VV.Time (atClock (dateIn (template KV.Time)) ticks zone)) ⌝ }
+    pub fn time(second: u32, nanosecond: u32, zone: Zone) -> Outcome
+        ensures { λ r. ⌜ meaning r ≡ made (VV.Time (withTime (dateIn (template KV.Time)) second nanosecond zone)) ⌝ }
     {
         let t = kinds::template(Kind::Time);
         let e = Date {
@@ -174,17 +178,20 @@ impl DateTime {
             month: t.month,
             day: t.day,
         };
-        valid::checked(Value::Time(clocks::of_ticks(e, ticks, zone)))
+        valid::checked(Value::Time(clocks::with_time(e, second, nanosecond, zone)))
     }
 }
 
 impl DayTime {
+    // A duration of so many seconds has no nanoseconds beside them.
     pub const MAX_SECONDS: u64 = 1_000_000_000_000;
 
-    pub fn new(negative: bool, ticks: u64) -> Outcome
-        ensures { λ r. ⌜ meaning r ≡ made (VV.DayTime (durationOf negative ticks)) ⌝ }
+    pub const MAX_NANOSECONDS: u32 = Span::TICKS - 1;
+
+    pub fn new(negative: bool, seconds: u64, nanoseconds: u32) -> Outcome
+        ensures { λ r. ⌜ meaning r ≡ made (VV.DayTime (withSize negative seconds nanoseconds)) ⌝ }
     {
-        valid::checked(Value::DayTime(clocks::duration(negative, ticks)))
+        valid::checked(Value::DayTime(clocks::with_size(negative, seconds, nanoseconds)))
     }
 }
 

@@ -1,4 +1,4 @@
-// Which records are within the bounds of document 01.
+// Which records are within the bounds of documents 01 and 02.
 use crate::DateTime;
 use crate::DayTime;
 use crate::Kind;
@@ -11,12 +11,14 @@ use crate::YearMonth;
 use crate::Zone;
 use crate::kinds;
 ghost use mathlib.Core.Path.{_≡_};
+ghost use Prim.Native.Nat.{_<_};
+ghost use lib.Dec.{leb};
+ghost use Rattle.value.specs.Bounds.{secondTicks, maxDayTime};
+ghost use Rattle.value.specs.Carried.{ticksOf};
 ghost use Rattle.value.specs.Values.{okDate, okOffset, okZone, okTimePart, okDateTime, okSigned, okDayTime};
 ghost use Rattle.value.specs.Kinds.{okValue, made, meaning};
 
 const MONTHS: u8 = calendar::MONTH_COUNT as u8;
-
-const MAX_DAY_TIME: u64 = DayTime::MAX_SECONDS * Span::TICKS as u64;
 
 pub fn date_ok(year: u16, month: u8, day: u8) -> bool
     ensures { λ r. ⌜ r ≡ okDate year month day ⌝ }
@@ -65,7 +67,10 @@ pub fn zone_ok(z: Zone) -> bool
 fn time_part_ok(d: DateTime) -> bool
     ensures { λ r. ⌜ r ≡ okTimePart d ⌝ }
 {
-    d.micros <= DateTime::MAX_CLOCK
+    if DateTime::MAX_SECOND < d.second {
+        return false;
+    }
+    d.nanosecond <= DateTime::MAX_NANOSECOND
 }
 
 pub fn date_time_ok(d: DateTime) -> bool
@@ -91,10 +96,41 @@ pub fn signed_ok(bound: u64, negative: bool, n: u64) -> bool
     if negative { 0 < n } else { true }
 }
 
+// Whether a size is within the bound of a dayTimeDuration: with the most seconds there is no part of one more.
+pub fn size_ok(s: Span) -> bool
+    requires { ⌜ s .part < secondTicks ⌝ }
+    ensures { λ r. ⌜ r ≡ leb (ticksOf s) maxDayTime ⌝ }
+{
+    if s.seconds < DayTime::MAX_SECONDS {
+        return true;
+    }
+    if DayTime::MAX_SECONDS < s.seconds {
+        return false;
+    }
+    s.part == 0
+}
+
+// Nanoseconds below a second, a size within the bound, and a sign only where it is not zero.
 fn day_time_ok(d: DayTime) -> bool
     ensures { λ r. ⌜ r ≡ okDayTime d ⌝ }
 {
-    signed_ok(MAX_DAY_TIME, d.negative, d.micros)
+    if DayTime::MAX_NANOSECONDS < d.nanoseconds {
+        return false;
+    }
+    let size = Span {
+        seconds: d.seconds,
+        part: d.nanoseconds,
+    };
+    if !size_ok(size) {
+        return false;
+    }
+    if !d.negative {
+        return true;
+    }
+    if 0 < d.seconds {
+        return true;
+    }
+    0 < d.nanoseconds
 }
 
 pub fn value_ok(v: Value) -> bool

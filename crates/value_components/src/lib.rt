@@ -14,7 +14,7 @@ ghost use Rattle.value.specs.Carried.{ticksOf};
 ghost use Rattle.value.specs.Values.{dateIn};
 ghost use Rattle.value_components.specs.Components as the;
 
-// The time of day by its fields, the last a part of a second in ticks.
+// The time of day by its fields, the last the part of a second in nanoseconds.
 pub struct Clock {
     pub hours: u8,
     pub minutes: u8,
@@ -22,8 +22,8 @@ pub struct Clock {
     pub part: u32,
 }
 
-// The six parts of a duration, the seconds with their fraction beside them. None is above zero if the duration is negative,
-// none below if it is not.
+// The six parts of a duration, and beside the seconds their fraction in nanoseconds. None is above zero if the duration is
+// negative, none below if it is not.
 pub struct Lasting {
     pub years: i32,
     pub months: i32,

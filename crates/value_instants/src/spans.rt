@@ -1,5 +1,5 @@
-// Spans of time: whole seconds and a part of a second, since the ticks of the greatest duration times the greatest whole
-// number have no room in one machine number.
+// Spans of time: whole seconds and a part of a second, since the ticks of the greatest duration have no room in one
+// machine number.
 use value::Span;
 ghost use mathlib.Core.Path.{_≡_};
 ghost use Prim.Native.Nat.{_+_, _-_, _*_, _≤_, _<_, _^_};

@@ -13,6 +13,7 @@ ghost use mathlib.Core.Bool.{true};
 ghost use Prim.Native.Nat.{_*_, _≤_, _<_, _^_};
 ghost use Rattle.value.specs.Bounds.{secondTicks, minuteSeconds, maxZone};
 ghost use Rattle.value.specs.Values.{okOffset, okDateTime};
+ghost use Rattle.value.specs.Kinds.{okValue};
 ghost use Rattle.value_instants.specs.Ticks.{localOf, offsetIn, instantAt, instantOf, placedAt, pastYears, forwardOf};
 ghost use Rattle.value.specs.Carried.{ticksOf, spanOf};
 ghost use Rattle.value_instants.specs.Ticks as the;
@@ -116,6 +117,7 @@ pub fn past_years(t: Span) -> bool
 
 // A dayTimeDuration as the span by which it leads forward, none where it is not above zero; a value of another kind leads nowhere.
 pub fn forward(v: Value) -> Span
+    requires { ⌜ okValue v ≡ true ⌝ }
     ensures { λ r. ⌜ r ≡ spanOf (forwardOf v) ⌝ }
 {
     match v {

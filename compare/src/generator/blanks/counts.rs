@@ -19,12 +19,17 @@ pub fn standing(text: &[u8]) -> Option<&'static str> {
     }
 }
 
-/// A name for each text of a calculator's call that has blanks.
-pub fn of_call(line: &[u8]) -> Vec<String> {
+/// The texts of a calculator's call, each with its kind.
+pub fn texts_of_call(line: &[u8]) -> Vec<(Kind, &[u8])> {
     let fields = fields(line);
     let places: &[usize] = if [b"cast".as_slice(), b"multiply"].contains(&fields[0]) { &[2] } else { &[2, 4] };
-    let texts = places.iter().filter_map(|&place| Some((Kind::named(fields.get(place - 1)?)?, *fields.get(place)?)));
-    texts.filter_map(|(kind, text)| of_text(kind, text)).collect()
+    let text = |&place: &usize| Some((Kind::named(fields.get(place - 1)?)?, *fields.get(place)?));
+    places.iter().filter_map(text).collect()
+}
+
+/// A name for each text of a calculator's call that has blanks.
+pub fn of_call(line: &[u8]) -> Vec<String> {
+    texts_of_call(line).into_iter().filter_map(|(kind, text)| of_text(kind, text)).collect()
 }
 
 /// A name for each text of a library's call that has blanks.
@@ -48,11 +53,15 @@ pub fn of_library(line: &[u8]) -> Vec<String> {
 }
 
 fn of_text(kind: Kind, text: &[u8]) -> Option<String> {
-    let result = match read(kind, text) {
+    standing(text).map(|place| format!("text {place}, {}", result_of(kind, text)))
+}
+
+/// What comes of a text.
+pub fn result_of(kind: Kind, text: &[u8]) -> String {
+    match read(kind, text) {
         Ok(_) => "read".to_string(),
         Err(number) => format!("refused {number:>2}"),
-    };
-    standing(text).map(|place| format!("text {place}, {result}"))
+    }
 }
 
 /// A name for each field of a timetable, and for each literal of conditions, that has blanks.

@@ -149,7 +149,7 @@ fn rooms() -> Vec<Vec<u8>> {
 
 /// The text of `write` with tabs, returns and spaces round it and inside it, and thousands of them.
 fn writes() -> Vec<Vec<u8>> {
-    let write = |kind: Kind, text: &[&[u8]]| [format!("write\t{}\t32\t", kind.name()).as_bytes(), &text.concat()].concat();
+    let write = |kind: Kind, text: &[&[u8]]| [format!("write\t{}\t35\t", kind.name()).as_bytes(), &text.concat()].concat();
     let sides = SIDES.iter().filter(|side| !side.contains('\n')).chain(&["\t\r \t"]);
     let sides: Vec<&[u8]> = sides.map(|side| side.as_bytes()).collect();
     let mut calls = Vec::new();
@@ -175,18 +175,18 @@ fn writes() -> Vec<Vec<u8>> {
 
 /// Good calls whose texts stand in the places that are named.
 const CALLS: &[(&str, &[usize])] = &[
-    ("compare|xs:date|2024-03-31|xs:date|2024|3|31|0|+0", &[2]),
-    ("compare|xs:dayTimeDuration|PT24H|xs:dayTimeDuration|+86400000000", &[2]),
-    ("compare|xs:time|08:15:00|xs:date|2024|3|31|0|none", &[2]),
-    ("compare|xs:time|24:00:01|xs:time|1972|12|31|0|-0", &[2]),
+    ("compare|xs:date|2024-03-31|xs:date|2024|3|31|0|0|+0", &[2]),
+    ("compare|xs:dayTimeDuration|PT24H|xs:dayTimeDuration|+86400|0", &[2]),
+    ("compare|xs:time|08:15:00|xs:date|2024|3|31|0|0|none", &[2]),
+    ("compare|xs:time|24:00:01|xs:time|1972|12|31|0|0|-0", &[2]),
     ("late|xs:time|08:00:00|08:04:00|PT3M", &[2, 3, 4]),
     ("late|xs:dateTime|2024-03-31T00:00:00|2024-03-31T00:00:00Z|-PT0S", &[2, 3, 4]),
     ("late|xs:yearMonthDuration|P1M|P2M|PT0S", &[2, 3, 4]),
-    ("late|xs:date|12000-13-45|bad|PT0.0000000S", &[2, 3, 4]),
+    ("late|xs:date|12000-13-45|bad|PT0.0000000000S", &[2, 3, 4]),
     ("date|2024|2|29|+120", &[]),
-    ("time|28800000000|none", &[]),
-    ("dayTime|-129600000000", &[]),
-    ("record|12|xs:date|2024|3|31|0|none", &[]),
+    ("time|28800|0|none", &[]),
+    ("dayTime|-129600|0", &[]),
+    ("record|12|xs:date|2024|3|31|0|0|none", &[]),
     ("close|1", &[]),
     ("turn", &[]),
 ];

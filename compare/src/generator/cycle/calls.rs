@@ -3,10 +3,12 @@
 
 use super::{counts, days, days_of, YEARS};
 use crate::values::writing::{date_text, write};
-use crate::values::{first_day, last_day, Value, Zone, FIRST_YEAR, LAST_YEAR, MICROS_A_DAY, MICROS_A_MINUTE};
+use crate::values::{first_day, last_day, ticks_a_day, ticks_a_minute, Value, Zone, FIRST_YEAR, LAST_YEAR};
 
-/// The last microsecond of a day.
-const LAST: i128 = MICROS_A_DAY - 1;
+/// The last tick of a day.
+fn last_tick() -> i128 {
+    ticks_a_day() - 1
+}
 
 /// The parts of the table, written with `|` for a tab.
 pub fn parts() -> Vec<(&'static str, Vec<String>)> {
@@ -29,12 +31,12 @@ fn date(day: i64) -> Value {
     Value::Date { day, zone: None }
 }
 
-fn date_time(day: i64, micro: i128, zone: Zone) -> Value {
-    Value::DateTime { micro: day as i128 * MICROS_A_DAY + micro, zone }
+fn date_time(day: i64, tick: i128, zone: Zone) -> Value {
+    Value::DateTime { tick: day as i128 * ticks_a_day() + tick, zone }
 }
 
-fn span(days: i64, micros: i128) -> Value {
-    Value::DayTime(days as i128 * MICROS_A_DAY + micros)
+fn span(days: i64, ticks: i128) -> Value {
+    Value::DayTime(days as i128 * ticks_a_day() + ticks)
 }
 
 /// How far a year's first day lies from the calendar's first day and its last day from the last, and sums that go so far
@@ -50,7 +52,7 @@ fn of_year(year: i64) -> [String; 4] {
     ]
 }
 
-/// Each count of days forth and back, of dates; of dateTimes a microsecond more, into the next day or the one before.
+/// Each count of days forth and back, of dates; of dateTimes a tick more, into the next day or the one before.
 fn sums(day: i64) -> Vec<String> {
     let both_ways = |days: i64| {
         let beyond = span(days, 1);
@@ -59,7 +61,7 @@ fn sums(day: i64) -> Vec<String> {
             call("add", &date(day), &span(-days, 0)),
             call("subtract", &date(day), &span(days, 0)),
             call("subtract", &date(day), &span(-days, 0)),
-            call("add", &date_time(day, LAST, None), &beyond),
+            call("add", &date_time(day, last_tick(), None), &beyond),
             call("subtract", &date_time(day, 0, None), &beyond),
         ]
     };
@@ -83,17 +85,17 @@ fn differences() -> Vec<String> {
     for &year in YEARS {
         calls.extend(YEARS.iter().map(|&other| call("subtract", &date(days_of(year)[0]), &date(last_of(other)))));
     }
-    let (start, end) = (date_time(first_day(), 0, Some(840)), date_time(last_day(), LAST, Some(-840)));
+    let (start, end) = (date_time(first_day(), 0, Some(840)), date_time(last_day(), last_tick(), Some(-840)));
     for day in days() {
-        calls.push(call("subtract", &date_time(day, LAST, Some(-840)), &start));
+        calls.push(call("subtract", &date_time(day, last_tick(), Some(-840)), &start));
         calls.push(call("subtract", &date_time(day, 0, Some(840)), &end));
         calls.push(call("subtract", &start, &date_time(day, 0, None)));
-        calls.push(call("subtract", &end, &date_time(day, LAST, None)));
+        calls.push(call("subtract", &end, &date_time(day, last_tick(), None)));
     }
     calls
 }
 
-/// A day and the next one, in zones in which they are one instant, and a minute or a microsecond either side.
+/// A day and the next one, in zones in which they are one instant, and a minute or a tick either side.
 fn comparisons(day: i64) -> Vec<String> {
     if day == last_day() {
         return Vec::new();
@@ -102,17 +104,17 @@ fn comparisons(day: i64) -> Vec<String> {
         let west = Value::Date { day, zone: Some(zone) };
         call("compare", &west, &Value::Date { day: day + 1, zone: Some(840) })
     });
-    let east = date_time(day + 1, 840 * MICROS_A_MINUTE, Some(840));
-    let instants = [date_time(day, LAST, None), date_time(day + 1, 0, None), date_time(day + 1, 1, None)];
+    let east = date_time(day + 1, 840 * ticks_a_minute(), Some(840));
+    let instants = [date_time(day, last_tick(), None), date_time(day + 1, 0, None), date_time(day + 1, 1, None)];
     dates.into_iter().chain(instants.iter().map(|instant| call("compare", instant, &east))).collect()
 }
 
-/// From the farthest zones and from UTC to them and to those beside it, at the first and last microsecond of the day.
+/// From the farthest zones and from UTC to them and to those beside it, at the first and last tick of the day.
 fn adjustments(day: i64) -> Vec<String> {
     let mut calls = Vec::new();
     for zone in [0, 840, -840].map(Some) {
-        for value in [Value::Date { day, zone }, date_time(day, 0, zone), date_time(day, LAST, zone)] {
-            let zones = [-840, -1, 0, 1, 840].map(|minutes| Value::DayTime(minutes * MICROS_A_MINUTE));
+        for value in [Value::Date { day, zone }, date_time(day, 0, zone), date_time(day, last_tick(), zone)] {
+            let zones = [-840, -1, 0, 1, 840].map(|minutes| Value::DayTime(minutes * ticks_a_minute()));
             calls.extend(zones.iter().map(|other| call("adjust", &value, other)));
         }
     }
@@ -124,7 +126,7 @@ fn casts(day: i64) -> Vec<String> {
     let day = date_text(day);
     vec![
         format!("cast|xs:date|{day}-14:00|xs:dateTime"),
-        format!("cast|xs:dateTime|{day}T23:59:59.999999+14:00|xs:date"),
+        format!("cast|xs:dateTime|{day}T23:59:59.999999999+14:00|xs:date"),
         format!("cast|xs:dateTime|{day}T24:00:00|xs:date"),
         format!("read|xs:dateTime|{day}T24:00:00Z"),
         format!("components|xs:dateTime|{day}T24:00:00-14:00"),

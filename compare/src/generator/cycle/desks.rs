@@ -6,7 +6,7 @@ use crate::values::calendar::DAYS_IN_400_YEARS;
 use crate::values::operations::add;
 use crate::values::reading::read;
 use crate::values::writing::{date_text, write};
-use crate::values::{first_day, last_day, Kind, Value, LAST_YEAR, MICROS_A_DAY, MICROS_A_MINUTE};
+use crate::values::{first_day, last_day, ticks_a_day, ticks_a_minute, Kind, Value, LAST_YEAR};
 
 pub fn cases() -> Vec<Case> {
     let counts = [(366, 1), (1_461, 4), (36_524, 100), (DAYS_IN_400_YEARS, 400)];
@@ -16,14 +16,14 @@ pub fn cases() -> Vec<Case> {
 }
 
 /// Each of the days, the day that lies so many days after it (before it, where the calendar ends), that count, and the
-/// day's last and first microsecond in zones in which they lie on the next day and on the day before, if there is one.
+/// day's last and first tick in zones in which they lie on the next day and on the day before, if there is one.
 fn departures(count: i64, years: i64) -> Case {
     let line = |day: i64| {
         let count = if day + count > last_day() { -count } else { count };
-        let last = (day + 1) as i128 * MICROS_A_DAY - 1;
+        let last = (day + 1) as i128 * ticks_a_day() - 1;
         let last = in_zone(last, if day == last_day() { -840 } else { 840 });
-        let first = in_zone(day as i128 * MICROS_A_DAY, if day == first_day() { 840 } else { -840 });
-        let span = write(&Value::DayTime(count as i128 * MICROS_A_DAY));
+        let first = in_zone(day as i128 * ticks_a_day(), if day == first_day() { 840 } else { -840 });
+        let span = write(&Value::DayTime(count as i128 * ticks_a_day()));
         [date_text(day), date_text(day + count), span, last, first].join("\t")
     };
     let lines: Vec<String> = days().into_iter().map(line).collect();
@@ -35,23 +35,26 @@ fn departures(count: i64, years: i64) -> Case {
         format!("xs:date($1) + xs:dayTimeDuration(\"P{count}D\") * 2 - xs:dayTimeDuration(\"P{count}D\") eq xs:date($2)"),
         format!("xs:date($1) + xs:yearMonthDuration(\"P{years}Y\") eq xs:date($2)"),
     ];
-    conditions.extend(AT_DEPARTURES.iter().map(|condition| condition.to_string()));
+    conditions.extend(at_departures());
     Case::of_lines(&lines, "\n", &conditions)
 }
 
-const AT_DEPARTURES: &[&str] = &[
-    "xs:date($1) + xs:dayTimeDuration($3) eq xs:date($2)",
-    "xs:date($2) - xs:dayTimeDuration($3) eq xs:date($1)",
-    "xs:date($2) - xs:date($1) eq xs:dayTimeDuration($3)",
-    "xs:dateTime($4) + xs:dayTimeDuration(\"PT0.000001S\") eq xs:dateTime(xs:date($1) + xs:dayTimeDuration(\"P1D\"))",
-    "xs:dateTime($4) - xs:dateTime($5) eq xs:dayTimeDuration(\"PT23H59M59.999999S\")",
-    "xs:dateTime($5) eq xs:dateTime(xs:date($1))",
-    "xs:date(xs:dateTime($4)) gt xs:date(xs:dateTime($5))",
-];
+fn at_departures() -> [String; 7] {
+    let (tick, last) = (write(&Value::DayTime(1)), write(&Value::DayTime(ticks_a_day() - 1)));
+    [
+        "xs:date($1) + xs:dayTimeDuration($3) eq xs:date($2)".to_string(),
+        "xs:date($2) - xs:dayTimeDuration($3) eq xs:date($1)".to_string(),
+        "xs:date($2) - xs:date($1) eq xs:dayTimeDuration($3)".to_string(),
+        format!("xs:dateTime($4) + xs:dayTimeDuration(\"{tick}\") eq xs:dateTime(xs:date($1) + xs:dayTimeDuration(\"P1D\"))"),
+        format!("xs:dateTime($4) - xs:dateTime($5) eq xs:dayTimeDuration(\"{last}\")"),
+        "xs:dateTime($5) eq xs:dateTime(xs:date($1))".to_string(),
+        "xs:date(xs:dateTime($4)) gt xs:date(xs:dateTime($5))".to_string(),
+    ]
+}
 
 /// The text of an instant in a zone.
 fn in_zone(instant: i128, zone: i64) -> String {
-    write(&Value::DateTime { micro: instant + zone as i128 * MICROS_A_MINUTE, zone: Some(zone) })
+    write(&Value::DateTime { tick: instant + zone as i128 * ticks_a_minute(), zone: Some(zone) })
 }
 
 /// Every ten minutes over the end of each of the years, and every day over the end of its February. The sixth field is
@@ -99,7 +102,7 @@ fn long_runs() -> Case {
     let line = |&(first, days, count): &(&str, i128, i128)| {
         let first_value = read(Kind::DateTime, first.as_bytes()).expect("a good text");
         let occurrence = |place: i128| {
-            let span = Value::DayTime(place * days * MICROS_A_DAY);
+            let span = Value::DayTime(place * days * ticks_a_day());
             write(&add(&first_value, &span).expect("within the calendar"))
         };
         format!("n\tevery\t{first}\t{}\tP{days}D\t{}", occurrence(count - 1), occurrence(count / 2))

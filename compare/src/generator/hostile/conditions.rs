@@ -23,7 +23,7 @@ pub const BAD: &[(&str, &str)] = &[
     ("kinds-and-literal", "xs:date(\"2023-02-29\") eq xs:time($2)"),
     ("literal-1", "xs:date(\"2023-02-29\") eq xs:date($1)"),
     ("literal-2", "xs:date(\"10000-01-01\") eq xs:date($1)"),
-    ("literal-3", "xs:time(\"12:00:00.0000000\") eq xs:time($2)"),
+    ("literal-3", "xs:time(\"12:00:00.0000000000\") eq xs:time($2)"),
     ("literals-2-and-1", "xs:date(\"10000-01-01\") eq xs:date(\"2023-02-29\")"),
     ("literal-blanks", "xs:date(\" \t\r \") eq xs:date($1)"),
     ("literal-blank-inside", "xs:date(\"2024- 03-31\") eq xs:date($1)"),
@@ -39,7 +39,7 @@ pub const NEIGHBOURS: &[(&str, &str)] = &[
     ("literal-leap", "xs:date(\"2024-02-29\") eq xs:date($1)"),
     ("literal-last-year", "xs:date(\"9999-12-31\") gt xs:date($1)"),
     ("literal-padded", "xs:date(\"\t 2024-03-31\r \") eq xs:date($1)"),
-    ("literal-six-digits", "xs:time(\"12:00:00.000000\") gt xs:time($2)"),
+    ("literal-nine-digits", "xs:time(\"12:00:00.000000000\") gt xs:time($2)"),
     ("result-beyond", "xs:date(\"9999-12-31\") + xs:dayTimeDuration(\"P1D\") eq xs:date($1)"),
     ("field-16", "xs:date($16) eq xs:date($1)"),
 ];

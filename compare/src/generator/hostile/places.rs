@@ -8,10 +8,10 @@ pub const LINES: &[(&str, u64, &str)] = &[
     ("run-3", 3, "n1\tevery\t2024-03-30T23:50:00+01:00\t2024-03-31T00:10:00+01:00\tPT10M\tx"),
     ("plain", 1, "7\t2024-03-31T00:00:00Z\tx"),
     ("run-1", 1, "n2\tevery\t2024-03-30T24:00:00\t2024-03-31T00:00:00Z\tP1D"),
-    ("run-0", 0, "n3\tevery\t2024-03-31T00:00:00+01:00\t2024-03-30T22:59:59.999999\tPT1S"),
+    ("run-0", 0, "n3\tevery\t2024-03-31T00:00:00+01:00\t2024-03-30T22:59:59.999999999\tPT1S"),
     ("refused-1", 0, "n4\tevery\tlate\t2024-03-31T00:00:00\tPT1S"),
     ("refused-2", 0, "n5\tevery\t2024-03-31T00:00:00\t9999-12-31T24:00:00\tPT1S"),
-    ("refused-3", 0, "n6\tevery\t2024-03-31T00:00:00\t2024-03-31T00:00:00\tPT0.0000001S"),
+    ("refused-3", 0, "n6\tevery\t2024-03-31T00:00:00\t2024-03-31T00:00:00\tPT0.0000000001S"),
     ("refused-6", 0, "n7\tevery\t2024-03-31T00:00:00\t2024-03-31T00:00:00"),
     ("refused-17", 0, "n8\tevery\t2024-03-31T00:00:00\t2024-03-30T00:00:00\tPT0S"),
     ("refused-18", 0, "n9\tevery\t2024-03-30T00:00:00\t2024-03-31T00:00:00\tPT1M"),
@@ -21,8 +21,8 @@ pub const LINES: &[(&str, u64, &str)] = &[
     ("run-2-padded", 2, "nf\tevery\t 2024-03-30T23:50:00Z\t2024-03-31T00:00:00Z   \t\rPT10M \r"),
     ("almost", 1, "nb\tevery \t2024-03-30T23:50:00\t2024-03-31T00:10:00\tPT10M"),
     ("run-1439", 1_439, "nc\tevery\t2024-03-30T00:00:00Z\t2024-03-30T23:58:00Z\tPT1M"),
-    ("run-1440", 1_440, "nd\tevery\t2024-03-30T12:00:00\t2024-03-31T11:59:59.999999\tPT1M"),
-    ("run-2-unended", 2, "ne\tevery\t2024-03-30T23:59:59.5Z\t2024-03-31T00:00:00Z\tPT0.5S"),
+    ("run-1440", 1_440, "nd\tevery\t2024-03-30T12:00:00\t2024-03-31T11:59:59.999999999\tPT1M"),
+    ("run-2-unended", 2, "ne\tevery\t2024-03-30T23:59:59.999999999Z\t2024-03-31T00:00:00Z\tPT0.000000001S"),
 ];
 
 /// A condition that misses before midnight, hits after it, and is refused where the second field is no dateTime.

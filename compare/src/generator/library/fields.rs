@@ -1,25 +1,31 @@
 //! The fields of calls: a value's record, its zone, its sign and number.
 
-use super::bounds::{DAYS, DAY_TIMES, MICROS, MINUTES, MONTHS, YEARS, YEAR_MONTHS};
+use super::bounds::{DAYS, DAY_TIMES, MINUTES, MONTHS, NANOS, SECONDS, YEARS, YEAR_MONTHS};
 use crate::generator::random::Random;
 use crate::generator::texts;
 use crate::values::calendar::civil_from_days;
-use crate::values::{Kind, Value, Zone, MICROS_A_DAY};
+use crate::values::{ticks_a_day, ticks_a_second, Kind, Value, Zone};
 
 /// The numbers of the value's record, without its kind.
 pub fn numbers_of(value: &Value) -> Vec<String> {
     match *value {
         Value::Date { day, zone } => moment(day, 0, zone),
-        Value::Time { micro, zone } => moment(crate::values::operations::REFERENCE_DAY as i64, micro, zone),
-        Value::DateTime { micro, zone } => moment(micro.div_euclid(MICROS_A_DAY) as i64, micro.rem_euclid(MICROS_A_DAY), zone),
-        Value::DayTime(number) | Value::YearMonth(number) => vec![format!("{number:+}")],
+        Value::Time { tick, zone } => moment(crate::values::operations::REFERENCE_DAY as i64, tick, zone),
+        Value::DateTime { tick, zone } => moment(tick.div_euclid(ticks_a_day()) as i64, tick.rem_euclid(ticks_a_day()), zone),
+        Value::DayTime(number) => {
+            let (sign, size) = (if number < 0 { '-' } else { '+' }, number.abs());
+            vec![format!("{sign}{}", size / ticks_a_second()), (size % ticks_a_second()).to_string()]
+        }
+        Value::YearMonth(number) => vec![format!("{number:+}")],
     }
 }
 
-fn moment(days: i64, micro: i128, zone: Zone) -> Vec<String> {
+fn moment(days: i64, tick: i128, zone: Zone) -> Vec<String> {
     let date = civil_from_days(days);
     let zone = zone.map_or("none".to_string(), |minutes| format!("{minutes:+}"));
-    vec![date.year.to_string(), date.month.to_string(), date.day.to_string(), micro.to_string(), zone]
+    let (second, nano) = (tick / ticks_a_second(), tick % ticks_a_second());
+    let numbers = [date.year as i128, date.month as i128, date.day as i128, second, nano];
+    numbers.iter().map(i128::to_string).chain([zone]).collect()
 }
 
 /// A kind and the numbers of a record of it, with a tab between.
@@ -44,12 +50,14 @@ pub fn any_numbers(random: &mut Random, kind: Kind) -> Vec<String> {
 pub fn at_a_bound(random: &mut Random, kind: Kind, numbers: &mut [String]) {
     let place = random.below(numbers.len());
     numbers[place] = match (kind, place) {
-        (Kind::DayTime, _) => signed(random, DAY_TIMES),
+        (Kind::DayTime, 0) => signed(random, DAY_TIMES),
+        (Kind::DayTime, _) => number(random, NANOS),
         (Kind::YearMonth, _) => signed(random, YEAR_MONTHS),
         (_, 0) => number(random, YEARS),
         (_, 1) => number(random, MONTHS),
         (_, 2) => number(random, DAYS),
-        (_, 3) => number(random, MICROS),
+        (_, 3) => number(random, SECONDS),
+        (_, 4) => number(random, NANOS),
         _ => signed(random, MINUTES),
     };
 }

@@ -73,12 +73,13 @@ fn table() -> Timetable {
 }
 
 /// Beginnings of calls whose last field is as long as the input lets it be.
-const LONG: [(&str, &str); 7] = [
+const LONG: [(&str, &str); 8] = [
     ("open", "open\t"),
     ("write-date", "write\txs:date\t9\t"),
     ("write-duration", "write\txs:dayTimeDuration\t9\tP"),
     ("bytes", "bytes\txs:date\t9\t"),
     ("day-time", "dayTime\t+"),
+    ("day-time-nano", "dayTime\t+1\t"),
     ("late", "late\txs:time\t"),
     ("late-duration", "late\txs:dayTimeDuration\tPT1S\tPT2S\tPT"),
 ];

@@ -17,7 +17,7 @@ use crate::programs::MOST_CALLS_BYTES;
 use crate::values::operations::subtract;
 use crate::values::reading::read;
 use crate::values::writing::write;
-use crate::values::{Kind, Value, KINDS, MOST_DURATION_MICROS, MOST_DURATION_MONTHS};
+use crate::values::{most_duration_ticks, ticks_a_minute, ticks_a_second, Kind, Value, KINDS, MOST_DURATION_MONTHS};
 
 pub fn case(seed: u64) -> Case {
     let random = &mut Random::new(seed);
@@ -123,10 +123,10 @@ fn maker(random: &mut Random) -> Vec<u8> {
     let kind = random.pick(&KINDS);
     let numbers = any_numbers(random, kind);
     let (word, taken): (&str, &[usize]) = match kind {
-        Kind::Date => ("date", &[0, 1, 2, 4]),
-        Kind::Time => ("time", &[3, 4]),
-        Kind::DateTime => ("dateTime", &[0, 1, 2, 3, 4]),
-        Kind::DayTime => ("dayTime", &[0]),
+        Kind::Date => ("date", &[0, 1, 2, 5]),
+        Kind::Time => ("time", &[3, 4, 5]),
+        Kind::DateTime => ("dateTime", &[0, 1, 2, 3, 4, 5]),
+        Kind::DayTime => ("dayTime", &[0, 1]),
         Kind::YearMonth => ("yearMonth", &[0]),
     };
     let numbers: Vec<&str> = taken.iter().map(|&place| numbers[place].as_str()).collect();
@@ -139,7 +139,7 @@ fn room(random: &mut Random, length: usize) -> String {
         0..=2 => length,
         3 | 4 => length.saturating_sub(1),
         5 | 6 => length + 1,
-        7 => random.pick(&[0, 1, 32, 33, 63, 64, 64, 65]),
+        7 => random.pick(&[0, 1, 32, 34, 35, 36, 63, 64, 64, 65]),
         _ => random.below(65),
     };
     digits(random, size as u64)
@@ -227,9 +227,9 @@ fn late_call(random: &mut Random) -> Vec<u8> {
     };
     let apart = read(kind, second.as_bytes()).and_then(|later| subtract(&later, &value));
     let most = match apart {
-        Ok(Value::DayTime(micros)) if random.chance(75) => {
-            let beside = random.pick(&[0, 0, 0, 1, -1, 1_000_000, -60_000_000]);
-            texts::duration_text(random, Kind::DayTime, micros + beside)
+        Ok(Value::DayTime(ticks)) if random.chance(75) => {
+            let beside = random.pick(&[0, 0, 0, 1, -1, ticks_a_second(), -ticks_a_minute()]);
+            texts::duration_text(random, Kind::DayTime, ticks + beside)
         }
         _ => texts::good(random, Kind::DayTime),
     };
@@ -247,7 +247,7 @@ fn far(random: &mut Random, value: &Value) -> String {
     let sign = random.pick(&[1, -1]);
     let beside = random.pick(&[0, 0, 1, -1]);
     let (number, bound) = match *value {
-        Value::DayTime(micros) => (micros, MOST_DURATION_MICROS),
+        Value::DayTime(ticks) => (ticks, most_duration_ticks()),
         Value::YearMonth(months) => (months, MOST_DURATION_MONTHS),
         _ => return texts::good(random, value.kind()),
     };

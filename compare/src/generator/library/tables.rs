@@ -1,7 +1,7 @@
 //! Tables of calls: every number at and either side of its bounds, every room round a text's length, every pair of
 //! kinds, and the desk with all seats held. Calls are written with `|` for a tab.
 
-use super::bounds::{DAYS, DAY_TIMES, MICROS, MINUTES, MONTHS, ROOMS, YEARS, YEAR_MONTHS};
+use super::bounds::{CLOCKS, DAYS, DAY_TIMES, MINUTES, MONTHS, NANOS, ROOMS, SECONDS, YEARS, YEAR_MONTHS};
 use crate::generator::hostile::conditions::{padded, BAD, BY_DATE, BY_TIME, NEIGHBOURS};
 use crate::values::KINDS;
 
@@ -9,9 +9,10 @@ pub fn tables() -> Vec<(&'static str, Vec<String>)> {
     vec![
         ("dates", dates()),
         ("days", every_day()),
-        ("micros", micros()),
+        ("clocks", clocks()),
         ("zones", zones()),
         ("spans", spans()),
+        ("months", months()),
         ("reference-day", reference_day()),
         ("rooms", rooms()),
         ("kinds", kinds()),
@@ -33,9 +34,9 @@ fn dates() -> Vec<String> {
             }
         }
         for day in DAYS {
-            calls.push(format!("dateTime|{year}|2|{day}|86399999999|-840"));
-            calls.push(format!("record|32|xs:date|{year}|2|{day}|0|+840"));
-            calls.push(format!("record|32|xs:dateTime|{year}|12|{day}|0|none"));
+            calls.push(format!("dateTime|{year}|2|{day}|86399|999999999|-840"));
+            calls.push(format!("record|35|xs:date|{year}|2|{day}|0|0|+840"));
+            calls.push(format!("record|35|xs:dateTime|{year}|12|{day}|0|0|none"));
         }
     }
     calls
@@ -52,17 +53,29 @@ fn every_day() -> Vec<String> {
     calls
 }
 
-/// Each microsecond of the day in makers and in records of all three kinds.
-fn micros() -> Vec<String> {
+/// Each second of the day with each nanosecond, and those at the ends of seconds and of days with zones, in makers and in
+/// records of all three kinds.
+fn clocks() -> Vec<String> {
     let mut calls = Vec::new();
-    for micros in MICROS {
+    for second in SECONDS {
+        for nano in NANOS {
+            calls.push(format!("time|{second}|{nano}|none"));
+            calls.push(format!("dateTime|9999|12|31|{second}|{nano}|-840"));
+            calls.push(format!("record|35|xs:time|1972|12|31|{second}|{nano}|+840"));
+        }
+        calls.push(format!("time|{second:020}|{second:020}|none"));
+        calls.push(format!("time|{second:021}|0|none"));
+        calls.push(format!("time|0|{second:021}|none"));
+    }
+    for (second, nano) in CLOCKS {
+        let clock = format!("{second}|{nano}");
         for zone in ["none", "+0", "-840", "+841", "-0"] {
-            calls.push(format!("time|{micros}|{zone}"));
-            calls.push(format!("dateTime|9999|12|31|{micros}|{zone}"));
-            calls.push(format!("dateTime|1|1|1|{micros}|{zone}"));
+            calls.push(format!("time|{clock}|{zone}"));
+            calls.push(format!("dateTime|9999|12|31|{clock}|{zone}"));
+            calls.push(format!("dateTime|1|1|1|{clock}|{zone}"));
             for kind in ["xs:date", "xs:time", "xs:dateTime"] {
-                calls.push(format!("record|32|{kind}|1972|12|31|{micros}|{zone}"));
-                calls.push(format!("compare|xs:time|12:00:00|{kind}|1972|12|31|{micros}|{zone}"));
+                calls.push(format!("record|35|{kind}|1972|12|31|{clock}|{zone}"));
+                calls.push(format!("compare|xs:time|12:00:00|{kind}|1972|12|31|{clock}|{zone}"));
             }
         }
     }
@@ -76,32 +89,65 @@ fn zones() -> Vec<String> {
     let mut calls = Vec::new();
     for zone in zones {
         calls.push(format!("date|2024|2|29|{zone}"));
-        calls.push(format!("time|3600000000|{zone}"));
-        calls.push(format!("dateTime|1|1|1|0|{zone}"));
-        calls.push(format!("dateTime|9999|12|31|86399999999|{zone}"));
-        calls.push(format!("record|16|xs:date|1|1|1|0|{zone}"));
-        calls.push(format!("record|14|xs:time|1972|12|31|0|{zone}"));
-        calls.push(format!("compare|xs:date|2024-03-31|xs:date|2024|3|31|0|{zone}"));
-        calls.push(format!("compare|xs:time|08:00:00+01:00|xs:time|1972|12|31|28800000000|{zone}"));
+        calls.push(format!("time|3600|0|{zone}"));
+        calls.push(format!("dateTime|1|1|1|0|0|{zone}"));
+        calls.push(format!("dateTime|9999|12|31|86399|999999999|{zone}"));
+        calls.push(format!("record|16|xs:date|1|1|1|0|0|{zone}"));
+        calls.push(format!("record|14|xs:time|1972|12|31|0|0|{zone}"));
+        calls.push(format!("compare|xs:date|2024-03-31|xs:date|2024|3|31|0|0|{zone}"));
+        calls.push(format!("compare|xs:time|08:00:00+01:00|xs:time|1972|12|31|28800|0|{zone}"));
     }
     calls
 }
 
-/// Each duration with either sign.
+/// Each number of seconds with each nanosecond beside it and either sign.
 fn spans() -> Vec<String> {
+    const KIND: &str = "xs:dayTimeDuration";
     let mut calls = Vec::new();
-    for (kind, maker, numbers) in
-        [("xs:dayTimeDuration", "dayTime", DAY_TIMES), ("xs:yearMonthDuration", "yearMonth", YEAR_MONTHS)]
-    {
-        for number in numbers {
-            for sign in ["+", "-"] {
-                calls.push(format!("{maker}|{sign}{number}"));
-                calls.push(format!("{maker}|{sign}{number:020}"));
-                calls.push(format!("{maker}|{sign}{number:021}"));
-                calls.push(format!("record|32|{kind}|{sign}{number}"));
-                for text in ["PT0S", "P0M", "-PT0.000001S", "P11574074DT1H46M40S", "-P11574074DT1H46M40S", "-P83333Y4M"] {
-                    calls.push(format!("compare|{kind}|{text}|{kind}|{sign}{number}"));
+    for seconds in DAY_TIMES {
+        for sign in ["+", "-"] {
+            for nano in NANOS {
+                calls.push(format!("dayTime|{sign}{seconds}|{nano}"));
+                calls.push(format!("record|35|{KIND}|{sign}{seconds}|{nano}"));
+            }
+            calls.push(format!("dayTime|{sign}{seconds:020}|{:020}", 1));
+            calls.push(format!("dayTime|{sign}{seconds:021}|0"));
+            calls.push(format!("dayTime|{sign}{seconds}|{:021}", 0));
+            for nano in [0, 1, 999_999_999, 1_000_000_000] {
+                for text in COMPARED {
+                    calls.push(format!("compare|{KIND}|{text}|{KIND}|{sign}{seconds}|{nano}"));
                 }
+            }
+        }
+    }
+    calls
+}
+
+/// Durations at zero, at a second and at the greatest, and a nanosecond beside each.
+const COMPARED: &[&str] = &[
+    "PT0S",
+    "PT0.000000001S",
+    "-PT0.000000001S",
+    "-PT0.999999999S",
+    "-PT1S",
+    "P11574074DT1H46M40S",
+    "P11574074DT1H46M39.999999999S",
+    "-P11574074DT1H46M40S",
+    "-P11574074DT1H46M39.999999999S",
+];
+
+/// Each number of months with either sign.
+fn months() -> Vec<String> {
+    const KIND: &str = "xs:yearMonthDuration";
+    let mut calls = Vec::new();
+    for months in YEAR_MONTHS {
+        for sign in ["+", "-"] {
+            calls.push(format!("yearMonth|{sign}{months}"));
+            calls.push(format!("yearMonth|{sign}{months:020}"));
+            calls.push(format!("yearMonth|{sign}{months:021}"));
+            calls.push(format!("record|35|{KIND}|{sign}{months}"));
+            for text in ["P0M", "PT0S", "P83333Y4M", "-P83333Y4M"] {
+                calls.push(format!("compare|{KIND}|{text}|{KIND}|{sign}{months}"));
             }
         }
     }
@@ -115,35 +161,38 @@ fn reference_day() -> Vec<String> {
         ["1972|12|31", "1972|12|30", "1973|1|1", "1972|1|31", "1971|12|31", "1973|12|31", "1972|12|32", "1972|11|31", "0|0|0"]
     {
         for kind in ["xs:date", "xs:time", "xs:dateTime"] {
-            for micros in [0, 1, 86_399_999_999_u64, 86_400_000_000] {
-                calls.push(format!("record|32|{kind}|{day}|{micros}|none"));
-                calls.push(format!("record|0|{kind}|{day}|{micros}|none"));
-                calls.push(format!("compare|{kind}|00:00:00|{kind}|{day}|{micros}|+0"));
-                calls.push(format!("compare|{kind}|1972-12-31|{kind}|{day}|{micros}|+0"));
-                calls.push(format!("compare|{kind}|1972-12-31T00:00:00|{kind}|{day}|{micros}|+0"));
+            for clock in ["0|0", "0|1", "1|0", "86399|999999999", "86399|1000000000", "86400|0"] {
+                calls.push(format!("record|35|{kind}|{day}|{clock}|none"));
+                calls.push(format!("record|0|{kind}|{day}|{clock}|none"));
+                calls.push(format!("compare|{kind}|00:00:00|{kind}|{day}|{clock}|+0"));
+                calls.push(format!("compare|{kind}|1972-12-31|{kind}|{day}|{clock}|+0"));
+                calls.push(format!("compare|{kind}|1972-12-31T00:00:00|{kind}|{day}|{clock}|+0"));
             }
         }
     }
     calls
 }
 
-/// A record and a text of the same value, of many lengths from 3 to 32.
+/// A record and a text of the same value, of many lengths from 3 to 35.
 const WRITTEN: &[(&str, &str)] = &[
     ("xs:yearMonthDuration|+0", "P0M"),
-    ("xs:dayTimeDuration|+0", "-PT0S"),
+    ("xs:dayTimeDuration|+0|0", "-PT0S"),
     ("xs:yearMonthDuration|-12", "-P12M"),
-    ("xs:dayTimeDuration|+86460000000", "PT24H1M"),
-    ("xs:time|1972|12|31|86399000000|none", "23:59:59"),
-    ("xs:time|1972|12|31|0|+0", "24:00:00-00:00"),
-    ("xs:date|2024|2|29|0|none", "2024-02-29"),
+    ("xs:dayTimeDuration|+86460|0", "PT24H1M"),
+    ("xs:time|1972|12|31|86399|0|none", "23:59:59"),
+    ("xs:time|1972|12|31|0|0|+0", "24:00:00-00:00"),
+    ("xs:date|2024|2|29|0|0|none", "2024-02-29"),
     ("xs:yearMonthDuration|-1000000", "-P1000000M"),
-    ("xs:date|1|1|1|0|+0", "0001-01-01Z"),
-    ("xs:dayTimeDuration|-1", "-PT0.000001S"),
-    ("xs:time|1972|12|31|1|+1", "00:00:00.000001+00:01"),
-    ("xs:date|9999|12|31|0|-840", "9999-12-31-14:00"),
-    ("xs:dateTime|2024|2|29|500000|none", "2024-02-29T00:00:00.50"),
-    ("xs:dayTimeDuration|-999999999999999999", "-PT999999999999.999999S"),
-    ("xs:dateTime|9999|12|31|86399999999|+840", "9999-12-31T23:59:59.999999+14:00"),
+    ("xs:date|1|1|1|0|0|+0", "0001-01-01Z"),
+    ("xs:dayTimeDuration|-0|1", "-PT0.000000001S"),
+    ("xs:time|1972|12|31|0|1000|+1", "00:00:00.000001+00:01"),
+    ("xs:time|1972|12|31|86399|999999999|-840", "23:59:59.999999999-14:00"),
+    ("xs:date|9999|12|31|0|0|-840", "9999-12-31-14:00"),
+    ("xs:dateTime|2024|2|29|0|500000000|none", "2024-02-29T00:00:00.50"),
+    ("xs:dayTimeDuration|-999999999999|999999999", "-PT999999999999.999999999S"),
+    ("xs:dateTime|9999|12|31|86399|999999000|+840", "9999-12-31T23:59:59.999999+14:00"),
+    ("xs:dateTime|9999|12|31|86399|999999990|+840", "9999-12-31T23:59:59.99999999+14:00"),
+    ("xs:dateTime|9999|12|31|86399|999999999|+840", "9999-12-31T23:59:59.999999999+14:00"),
 ];
 
 /// Each of these into every room, and records and texts that are refused before the room is looked at.
@@ -155,10 +204,10 @@ fn rooms() -> Vec<String> {
             calls.push(format!("record|{room}|{record}"));
             calls.push(format!("write|{kind}|{room}|{text}"));
         }
-        for record in ["xs:dayTimeDuration|-0", "xs:date|2023|2|29|0|none", "xs:time|1972|12|31|0|+841"] {
+        for record in ["xs:dayTimeDuration|-0|0", "xs:date|2023|2|29|0|0|none", "xs:time|1972|12|31|0|0|+841"] {
             calls.push(format!("record|{room}|{record}"));
         }
-        for text in ["xs:date|{}|2023-02-29", "xs:date|{}|10000-01-01", "xs:time|{}|00:00:00.0000000", "xs:date|{}|"] {
+        for text in ["xs:date|{}|2023-02-29", "xs:date|{}|10000-01-01", "xs:time|{}|00:00:00.0000000000", "xs:date|{}|"] {
             calls.push(format!("write|{}", text.replace("{}", &room.to_string())));
         }
     }
@@ -169,17 +218,17 @@ fn rooms() -> Vec<String> {
 const OF_KINDS: [(&[&str], &[&str]); 5] = [
     (
         &["2024-03-31", "2024-03-31+14:00", "2023-02-29", "12000-13-45"],
-        &["2024|3|31|0|none", "2024|3|31|1|none", "0|3|31|0|none"],
+        &["2024|3|31|0|0|none", "2024|3|31|0|1|none", "0|3|31|0|0|none"],
     ),
     (
-        &["08:00:00", "24:00:00Z", "24:00:01", "00:00:00.0000000"],
-        &["1972|12|31|0|none", "1973|12|31|0|none", "1972|12|31|0|-0", "1972|12|31|86400000000|+0"],
+        &["08:00:00", "24:00:00Z", "24:00:01", "00:00:00.0000000000"],
+        &["1972|12|31|0|0|none", "1973|12|31|0|0|none", "1972|12|31|0|0|-0", "1972|12|31|86400|0|+0"],
     ),
     (
-        &["2024-03-31T00:00:00", "9999-12-31T24:00:00", "bad", "2024-03-31T25:00:00.0000000"],
-        &["2024|3|31|0|none", "2024|2|30|0|none", "10000|1|1|0|+0"],
+        &["2024-03-31T00:00:00", "9999-12-31T24:00:00", "bad", "2024-03-31T25:00:00.0000000000"],
+        &["2024|3|31|0|0|none", "2024|2|30|0|0|none", "10000|1|1|0|0|+0"],
     ),
-    (&["PT24H", "P11574074DT1H46M41S", "P", "PT0.0000000S"], &["+86400000000", "-0", "+1000000000000000001"]),
+    (&["PT24H", "P11574074DT1H46M41S", "P", "PT0.0000000000S"], &["+86400|0", "-0|0", "+1000000000000|1"]),
     (&["P1Y", "P1000001M", "PT1M"], &["+12", "-0", "-1000001"]),
 ];
 
@@ -200,22 +249,22 @@ fn kinds() -> Vec<String> {
 /// Records just before, at and just after a text's value, also where a zone moves it.
 fn orders() -> Vec<String> {
     let mut calls = Vec::new();
-    for micros in [43_199_999_999_u64, 43_200_000_000, 43_200_000_001, 0, 86_399_999_999] {
+    for clock in ["43199|999999999", "43200|0", "43200|1", "0|0", "86399|999999999"] {
         for zone in ["none", "+0", "+1", "-1", "+720", "-720", "+840", "-840"] {
-            for text in ["12:00:00", "12:00:00Z", "24:00:00", "12:01:00+00:01", "11:59:00-00:01", "23:59:59.999999-14:00"] {
-                calls.push(format!("compare|xs:time|{text}|xs:time|1972|12|31|{micros}|{zone}"));
-                calls.push(format!("compare|xs:dateTime|2024-02-29T{text}|xs:dateTime|2024|2|29|{micros}|{zone}"));
-                calls.push(format!("compare|xs:dateTime|2024-02-29T{text}|xs:dateTime|2024|3|1|{micros}|{zone}"));
+            for text in ["12:00:00", "12:00:00Z", "24:00:00", "12:01:00+00:01", "11:59:00-00:01", "23:59:59.999999999-14:00"] {
+                calls.push(format!("compare|xs:time|{text}|xs:time|1972|12|31|{clock}|{zone}"));
+                calls.push(format!("compare|xs:dateTime|2024-02-29T{text}|xs:dateTime|2024|2|29|{clock}|{zone}"));
+                calls.push(format!("compare|xs:dateTime|2024-02-29T{text}|xs:dateTime|2024|3|1|{clock}|{zone}"));
             }
         }
     }
     for zone in ["none", "+0", "+600", "+599", "-840", "-839", "+840"] {
         for text in ["2024-03-01", "2024-02-29-10:00", "2024-02-29-14:00", "2024-03-01+14:00", "2024-02-29", "2024-03-02+10:00"] {
-            calls.push(format!("compare|xs:date|{text}|xs:date|2024|3|1|0|{zone}"));
+            calls.push(format!("compare|xs:date|{text}|xs:date|2024|3|1|0|0|{zone}"));
         }
     }
     for text in ["0001-01-01+14:00", "9999-12-31-14:00", "0001-01-01-14:00", "9999-12-31+14:00"] {
-        for record in ["1|1|1|0|+840", "9999|12|31|0|-840", "1|1|1|0|none", "9999|12|31|0|+840"] {
+        for record in ["1|1|1|0|0|+840", "9999|12|31|0|0|-840", "1|1|1|0|0|none", "9999|12|31|0|0|+840"] {
             calls.push(format!("compare|xs:date|{text}|xs:date|{record}"));
         }
     }
@@ -226,20 +275,20 @@ fn orders() -> Vec<String> {
 const APART: &[(&str, &str, &str, &str)] = &[
     ("xs:time", "08:00:00", "08:03:00", "PT3M"),
     ("xs:time", "08:03:00", "08:00:00", "-PT3M"),
-    ("xs:time", "00:00:00", "23:59:59.999999", "PT23H59M59.999999S"),
+    ("xs:time", "00:00:00", "23:59:59.999999999", "PT23H59M59.999999999S"),
     ("xs:time", "24:00:00", "00:00:00", "PT0S"),
-    ("xs:time", "00:00:00+14:00", "23:59:59.999999-14:00", "P2DT3H59M59.999999S"),
+    ("xs:time", "00:00:00+14:00", "23:59:59.999999999-14:00", "P2DT3H59M59.999999999S"),
     ("xs:time", "08:00:00+09:00", "17:00:00-06:00", "P1D"),
     ("xs:date", "2024-02-28", "2024-03-01", "P2D"),
     ("xs:date", "2024-03-31+14:00", "2024-03-31-14:00", "P1DT4H"),
     ("xs:date", "0001-01-01+14:00", "9999-12-31-14:00", "P3652059DT4H"),
     ("xs:dateTime", "1999-11-28T09:00:00Z", "2000-10-30T06:12:00-05:00", "P337DT2H12M"),
-    ("xs:dateTime", "9999-12-31T23:59:59.999999-14:00", "0001-01-01T00:00:00+14:00", "-P3652060DT3H59M59.999999S"),
-    ("xs:dateTime", "1999-12-31T24:00:00", "2000-01-01T00:00:00.000001", "PT0.000001S"),
+    ("xs:dateTime", "9999-12-31T23:59:59.999999999-14:00", "0001-01-01T00:00:00+14:00", "-P3652060DT3H59M59.999999999S"),
+    ("xs:dateTime", "1999-12-31T24:00:00", "2000-01-01T00:00:00.000000001", "PT0.000000001S"),
     ("xs:dayTimeDuration", "-P1D", "PT24H", "P2D"),
     ("xs:dayTimeDuration", "PT0S", "P11574074DT1H46M40S", "PT1000000000000S"),
-    ("xs:dayTimeDuration", "PT0.000001S", "-P11574074DT1H46M39.999999S", "-PT1000000000000S"),
-    ("xs:dayTimeDuration", "PT0.000001S", "-P11574074DT1H46M40S", "PT0S"),
+    ("xs:dayTimeDuration", "PT0.000000001S", "-P11574074DT1H46M39.999999999S", "-PT1000000000000S"),
+    ("xs:dayTimeDuration", "PT0.000000001S", "-P11574074DT1H46M40S", "PT0S"),
     ("xs:dayTimeDuration", "-P11574074DT1H46M40S", "P11574074DT1H46M40S", "PT0S"),
     ("xs:yearMonthDuration", "P1M", "P2M", "P1M"),
     ("xs:yearMonthDuration", "-P1M", "P1000000M", "PT0S"),
@@ -248,8 +297,17 @@ const APART: &[(&str, &str, &str, &str)] = &[
 
 /// The difference itself and durations beside it, and both ways round.
 fn late() -> Vec<String> {
-    let beside = ["PT0S", "-PT0S", "PT0.000001S", "-PT0.000001S", "PT2M59.999999S", "PT3M0.000001S", "-PT3M0.000001S", "P1DT4H"];
-    let ends = ["PT1000000000000S", "-PT1000000000000S", "PT1000000000000.000001S", "P", "", "PT0.0000000S", "P1M"];
+    let beside = [
+        "PT0S",
+        "-PT0S",
+        "PT0.000000001S",
+        "-PT0.000000001S",
+        "PT2M59.999999999S",
+        "PT3M0.000000001S",
+        "-PT3M0.000000001S",
+        "P1DT4H",
+    ];
+    let ends = ["PT1000000000000S", "-PT1000000000000S", "PT1000000000000.000000001S", "P", "", "PT0.0000000000S", "P1M"];
     let mut calls = Vec::new();
     for (kind, first, second, apart) in APART {
         for most in [*apart].iter().chain(&beside).chain(&ends) {

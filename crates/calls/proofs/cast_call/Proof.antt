@@ -2,7 +2,9 @@ use mathlib.Core.Path.{ap, _∙_}
 use Rattle.text.specs.Reading.{readAs}
 use Rattle.value.specs.declared.Value.{Value}
 use Rattle.text.specs.Writing.{textOf}
+use Rattle.value.specs.Carried.{valid}
 use Rattle.operation_casting.specs.Casts.{castOf}
+use Rattle.operation.proofs.Validity.{cast-valid}
 use Rattle.calls.specs.Answers.{said, answerBy}
 use Rattle.calls.proofs.Saying.{was-read, was-refused, renamed}
 use borrow.Author.Needs.{needs}
@@ -28,7 +30,7 @@ cast-requires : tie.Need-cast-requires
 cast-requires c κs = search needs
 
 value-said-requires : tie.Need-value-said-requires
-value-said-requires c κs = search needs
+value-said-requires c κs = ap valid (c .cast .ensures) ∙ cast-valid _ _
 
 returns : tie.Need-returns
 unfolding answerBy

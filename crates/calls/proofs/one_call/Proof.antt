@@ -1,4 +1,6 @@
-use mathlib.Core.Path.{ap, _∙_}
+use mathlib.Core.Path.{ap, sym, _∙_}
+use Rattle.value.specs.Kinds.{meaning}
+use Rattle.text.proofs.RoundTrip.{what-reads-is-valid}
 use Rattle.text.specs.Reading.{readAs}
 use Rattle.calls.specs.Answers.{oneText, answerBy}
 use Rattle.calls.proofs.Saying.{was-read, was-refused}
@@ -22,7 +24,7 @@ enum-known-a : tie.Need-enum-known-a
 enum-known-a c = search needs
 
 one-said-requires : tie.Need-one-said-requires
-one-said-requires c κs = search needs
+one-said-requires c κs = what-reads-is-valid (c .before .before .before .before .before .before .args .k) _ _ (sym (c .before .before .before .read .ensures) ∙ ap meaning (c .before .a .given .1)) .ok
 
 returns : tie.Need-returns
 unfolding answerBy

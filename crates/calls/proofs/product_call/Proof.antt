@@ -3,7 +3,9 @@ use Rattle.text.specs.Reading.{readAs}
 use Rattle.timetable.specs.Fields.{fieldAt}
 use Rattle.value.specs.declared.Value.{Value}
 use Rattle.text.specs.Writing.{textOf}
+use Rattle.value.specs.Carried.{valid}
 use Rattle.operation_arithmetic.specs.Products.{timesOf}
+use Rattle.operation_arithmetic.proofs.Validity.{times-valid}
 use Rattle.calls_asked.specs.Asked.{hasMinus, wholeMagnitude}
 use Rattle.calls.specs.Answers.{said, answerBy}
 use Rattle.calls_asked.proofs.Wholes.{times-said}
@@ -37,7 +39,7 @@ times-requires : tie.Need-times-requires
 times-requires c κs = search needs
 
 value-said-requires : tie.Need-value-said-requires
-value-said-requires c κs = search needs
+value-said-requires c κs = ap valid (c .times .ensures) ∙ times-valid _ _ _
 
 returns : tie.Need-returns
 unfolding answerBy

@@ -16,7 +16,7 @@ returns : tie.Need-returns
 returns c = simp (← c .refused .ensures, no (c .before .before .is-zone .ensures) (c .before .if1 .taken))
 
 zone-of-requires : tie.Need-zone-of-requires
-zone-of-requires c κs = good (c .before .is-zone .ensures) (c .if1 .left)
+zone-of-requires c κs = (c .before .before .pre .1, good (c .before .is-zone .ensures) (c .if1 .left))
 
 adjusted-from-requires : tie.Need-adjusted-from-requires
 adjusted-from-requires c κs = (c .before .before .before .pre .0, ap okOffset (c .zone-of .ensures) ∙ zone-ok _ (c .before .before .before .pre .1) (good (c .before .before .is-zone .ensures) (c .before .if1 .left)))

@@ -8,7 +8,7 @@ size-requires : tie.Need-size-requires
 size-requires c κs = search needs
 
 cast-m : tie.Need-cast-m
-cast-m c = omega (arith, zone-minutes _ (c .before .before .pre), minutes-of _ _ (c .before .size .ensures))
+cast-m c = omega (arith, zone-minutes _ (c .before .before .pre .1), minutes-of _ _ (c .before .size .ensures))
 
 returns : tie.Need-returns
 returns c = simp (c .if1 .taken, minutes-of _ _ (c .before .before .size .ensures))

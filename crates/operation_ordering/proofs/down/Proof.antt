@@ -1,3 +1,4 @@
+use Rattle.operation_quantities.proofs.Shapes.{day-time-ok}
 use Rattle.operation_ordering.specs.Order.{down}
 use borrow.Author.Needs.{needs}
 use Rattle.operation_ordering.proofs.down.Statement.{statement}
@@ -16,7 +17,7 @@ enum-known-x : tie.Need-enum-known-x
 enum-known-x c = search needs
 
 minus-ticks-requires : tie.Need-minus-ticks-requires
-minus-ticks-requires c κs = search needs
+minus-ticks-requires c κs = day-time-ok _ _ (c .before .before .before .before .pre) (c .before .before .before .operand .ensures) _ (c .before .x .given .1)
 
 enum-known-x-2 : tie.Need-enum-known-x-2
 enum-known-x-2 c = search needs

@@ -1,4 +1,4 @@
-use Rattle.operation_quantities.proofs.Shapes.{moment-good}
+use Rattle.operation_quantities.proofs.Shapes.{moment-good, day-time-ok}
 use Rattle.operation_ordering.specs.Order.{up}
 use borrow.Author.Needs.{needs}
 use Rattle.operation_ordering.proofs.up.Statement.{statement}
@@ -17,7 +17,7 @@ enum-known-x-2 : tie.Need-enum-known-x-2
 enum-known-x-2 c = search needs
 
 plus-ticks-requires : tie.Need-plus-ticks-requires
-plus-ticks-requires c κs = search needs
+plus-ticks-requires c κs = day-time-ok _ _ (c .before .before .before .before .pre .0) (c .before .before .before .operand .ensures) _ (c .before .x2 .given .1)
 
 enum-known-x-3 : tie.Need-enum-known-x-3
 enum-known-x-3 c = search needs

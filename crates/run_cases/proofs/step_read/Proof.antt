@@ -2,7 +2,7 @@ use mathlib.Core.Path.{ap, _∙_}
 use native.Mathlib.Omega.{arith}
 use Rattle.basis.specs.Answer.{gives}
 use Rattle.value.specs.declared.Span.{Span}
-use Rattle.run_cases.proofs.Fields.{own-field, step-refused, step-is}
+use Rattle.run_cases.proofs.Fields.{own-field, field-valid, step-refused, step-is}
 use borrow.Author.Needs.{needs}
 use Rattle.run_cases.proofs.step_read.Statement.{statement}
 use Rattle.run_cases.proofs.step_read.Tie as tie
@@ -24,7 +24,7 @@ enum-known-v : tie.Need-enum-known-v
 enum-known-v c = search needs
 
 forward-requires : tie.Need-forward-requires
-forward-requires c κs = search needs
+forward-requires c κs = field-valid _ _ _ _ (own-field _ _ _ _ _ _ (omega arith) (c .before .before .before .read .ensures) (c .before .v .given .1))
 
 returns : tie.Need-returns
 returns c = step-refused _ _ (own-field _ _ _ _ _ _ (omega arith) (c .before .before .before .read .ensures) (c .before .r .given .1))

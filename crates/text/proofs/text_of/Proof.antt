@@ -1,3 +1,5 @@
+use Rattle.value.proofs.Good.{good}
+use Rattle.value.proofs.KindParts.{date-good, time-good, date-time-good, day-time-good}
 use Rattle.text.proofs.Texts.{holds-as}
 use Rattle.text.specs.Writing.{textOf}
 use borrow.Author.Needs.{needs}
@@ -13,25 +15,25 @@ enum-known-v : tie.Need-enum-known-v
 enum-known-v c = search needs
 
 layout-text-requires : tie.Need-layout-text-requires
-layout-text-requires c κs = search needs
+layout-text-requires c κs = good _ (date-good _ (c .before .before .before .pre) _ (c .before .v .given .1) .0) .time
 
 enum-known-v-2 : tie.Need-enum-known-v-2
 enum-known-v-2 c = search needs
 
 layout-text-requires-2 : tie.Need-layout-text-requires-2
-layout-text-requires-2 c κs = search needs
+layout-text-requires-2 c κs = good _ (time-good _ (c .before .before .before .pre) _ (c .before .v2 .given .1) .0) .time
 
 enum-known-v-3 : tie.Need-enum-known-v-3
 enum-known-v-3 c = search needs
 
 layout-text-requires-3 : tie.Need-layout-text-requires-3
-layout-text-requires-3 c κs = search needs
+layout-text-requires-3 c κs = good _ (date-time-good _ (c .before .before .before .pre) _ (c .before .v3 .given .1)) .time
 
 enum-known-v-4 : tie.Need-enum-known-v-4
 enum-known-v-4 c = search needs
 
 day-time-text-requires : tie.Need-day-time-text-requires
-day-time-text-requires c κs = search needs
+day-time-text-requires c κs = day-time-good _ (c .before .before .before .pre) _ (c .before .v4 .given .1)
 
 enum-known-v-5 : tie.Need-enum-known-v-5
 enum-known-v-5 c = search needs

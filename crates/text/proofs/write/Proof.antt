@@ -23,7 +23,7 @@ returns c =
     (c .refused .ensures ∙ o .0, o .1)
 
 text-of-requires : tie.Need-text-of-requires
-text-of-requires c κs = search needs
+text-of-requires c κs = good (c .before .value-ok .ensures) (c .if1 .left)
 
 refused-requires-2 : tie.Need-refused-requires-2
 refused-requires-2 c κs = search needs

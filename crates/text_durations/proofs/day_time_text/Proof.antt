@@ -1,7 +1,7 @@
 use Rattle.text_durations.specs.Forms.{dayTime}
 use Rattle.text_durations.specs.Spelling.{dayTimeAmount}
 use Rattle.text_durations.proofs.Lengths.{holds-zero, sized, sized-short, holds-sized}
-use Rattle.value.proofs.ClockLaws.{ticks-held}
+use Rattle.value.proofs.ClockLaws.{ticks-to}
 use Rattle.numerals.proofs.Texts.{then}
 use mathlib.Core.Path.{sym, _∙_}
 use borrow.Author.Needs.{needs}
@@ -39,7 +39,7 @@ slice-aggregate-spelt-2 : tie.Need-slice-aggregate-spelt-2
 slice-aggregate-spelt-2 c = search needs
 
 spelt-requires : tie.Need-spelt-requires
-spelt-requires c κs = sized-short (c .before .before .before .before .before .args .d) (c .before .before .before .before .size .ensures) (ticks-held (c .before .before .before .before .before .args .d) (search needs))
+spelt-requires c κs = sized-short (c .before .before .before .before .before .args .d) (c .before .before .before .before .size .ensures) (ticks-to _ (c .before .before .before .before .before .pre))
 
 returns-2 : tie.Need-returns-2
 returns-2 c = holds-sized (c .before .before .before .before .before .before .args .d) (c .before .before .before .before .before .size .ensures) (sym (c .before .before .before .before .is-nothing .ensures) ∙ c .before .before .before .if1 .left) (c .spelt .ensures)

@@ -6,7 +6,7 @@ use Rattle.value.specs.declared.Value.the-variants as VV
 use Rattle.text_durations.specs.Forms.{dayTime}
 use Rattle.text_durations.specs.Walks.{asValue, dayTimeOf}
 use Rattle.text_durations.specs.declared.Shape.{Shape}
-use Rattle.text_durations.proofs.Valid.{of-form, shape-ticks, seconds-within, reads-good}
+use Rattle.text_durations.proofs.Valid.{of-form, shape-ticks, reads-good}
 use native.Mathlib.Omega.{arith}
 use mathlib.Core.Path.{refl, ap, sym, _∙_}
 use borrow.Author.Needs.{needs}
@@ -30,7 +30,7 @@ enum-known-c : tie.Need-enum-known-c
 enum-known-c c = search needs
 
 lasting-requires : tie.Need-lasting-requires
-lasting-requires c κs = let g = reads-good dayTime _ _ (sym (of-form dayTime _ (c .before .before .before .before .shape .ensures) (c .before .before .before .counted .ensures) (c .before .c .given .1))) in (g .good .part, seconds-within _ (g .good))
+lasting-requires c κs = let g = reads-good dayTime _ _ (sym (of-form dayTime _ (c .before .before .before .before .shape .ensures) (c .before .before .before .counted .ensures) (c .before .c .given .1))) in g .good .part
 
 enum-known-c-2 : tie.Need-enum-known-c-2
 enum-known-c-2 c = search needs

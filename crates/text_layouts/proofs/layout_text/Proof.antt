@@ -12,7 +12,7 @@ slice-aggregate-parts : tie.Need-slice-aggregate-parts
 slice-aggregate-parts c = search needs
 
 parts-requires : tie.Need-parts-requires
-parts-requires c κs = wide KV.Date
+parts-requires c κs = (wide KV.Date, c .before .before .before .pre)
 
 enum-told-2 : tie.Need-enum-told-2
 enum-told-2 c = search needs
@@ -21,7 +21,7 @@ slice-aggregate-parts-2 : tie.Need-slice-aggregate-parts-2
 slice-aggregate-parts-2 c = search needs
 
 parts-requires-2 : tie.Need-parts-requires-2
-parts-requires-2 c κs = wide KV.Time
+parts-requires-2 c κs = (wide KV.Time, c .before .before .before .pre)
 
 enum-told-3 : tie.Need-enum-told-3
 enum-told-3 c = search needs
@@ -30,7 +30,7 @@ slice-aggregate-parts-3 : tie.Need-slice-aggregate-parts-3
 slice-aggregate-parts-3 c = search needs
 
 parts-requires-3 : tie.Need-parts-requires-3
-parts-requires-3 c κs = wide KV.DateTime
+parts-requires-3 c κs = (wide KV.DateTime, c .before .before .before .pre)
 
 enum-told-4 : tie.Need-enum-told-4
 enum-told-4 c = search needs

@@ -1,6 +1,7 @@
 use Rattle.value_components.proofs.SpanParts.{ticks-are, clock-within, size-within}
 use native.Mathlib.Omega.{arith}
-use Rattle.value.proofs.KindParts.{time-good, date-time-good, day-time-within, year-month-within}
+use Rattle.value.proofs.KindParts.{time-good, date-time-good, day-time-good, year-month-within}
+use Rattle.value.proofs.ClockLaws.{ticks-to}
 use Rattle.value.proofs.Good as Good
 use Rattle.value_components.specs.Components.{ofDate, ofTime, ofDateTime, ofDuration, clockIn, lasting}
 use Rattle.basis.specs.Answer.{gives}
@@ -41,7 +42,7 @@ enum-known-v-2 : tie.Need-enum-known-v-2
 enum-known-v-2 c = search needs
 
 clock-requires : tie.Need-clock-requires
-clock-requires c κs = search needs
+clock-requires c κs = Good.good _ (time-good _ (good (c .before .before .before .before .value-ok .ensures) (c .before .before .before .if1 .left)) _ (c .before .v2 .given .1) .0) .time
 
 clock-in-requires : tie.Need-clock-in-requires
 clock-in-requires c κs = clock-within _ _ (Good.good _ (time-good _ (good (c .before .before .before .before .before .value-ok .ensures) (c .before .before .before .before .if1 .left)) _ (c .before .before .v2 .given .1) .0) .time) (c .clock .ensures)
@@ -53,7 +54,7 @@ date-in-requires-2 : tie.Need-date-in-requires-2
 date-in-requires-2 c κs = search needs
 
 clock-requires-2 : tie.Need-clock-requires-2
-clock-requires-2 c κs = search needs
+clock-requires-2 c κs = Good.good _ (date-time-good _ (good (c .before .before .before .before .before .value-ok .ensures) (c .before .before .before .before .if1 .left)) _ (c .before .before .v3 .given .1)) .time
 
 clock-in-requires-2 : tie.Need-clock-in-requires-2
 clock-in-requires-2 c κs = clock-within _ _ (Good.good _ (date-time-good _ (good (c .before .before .before .before .before .before .value-ok .ensures) (c .before .before .before .before .before .if1 .left)) _ (c .before .before .before .v3 .given .1)) .time) (c .clock2 .ensures)
@@ -62,10 +63,10 @@ enum-known-v-4 : tie.Need-enum-known-v-4
 enum-known-v-4 c = search needs
 
 size-requires : tie.Need-size-requires
-size-requires c κs = search needs
+size-requires c κs = day-time-good _ (good (c .before .before .before .before .value-ok .ensures) (c .before .before .before .if1 .left)) _ (c .before .v4 .given .1)
 
 six-parts-requires : tie.Need-six-parts-requires
-six-parts-requires c κs = let h = size-within _ _ (day-time-within _ (good (c .before .before .before .before .before .value-ok .ensures) (c .before .before .before .before .if1 .left)) _ (c .before .before .v4 .given .1)) (c .size .ensures) in (omega arith, h .0, h .1)
+six-parts-requires c κs = let h = size-within _ _ (ticks-to _ (day-time-good _ (good (c .before .before .before .before .before .value-ok .ensures) (c .before .before .before .before .if1 .left)) _ (c .before .before .v4 .given .1))) (c .size .ensures) in (omega arith, h .0, h .1)
 
 enum-known-v-5 : tie.Need-enum-known-v-5
 enum-known-v-5 c = search needs

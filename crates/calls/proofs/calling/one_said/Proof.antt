@@ -1,4 +1,6 @@
-use mathlib.Core.Path.{ap, sym}
+use mathlib.Core.Path.{ap, sym, _∙_}
+use Rattle.value.specs.Carried.{valid}
+use Rattle.operation.proofs.Validity.{unzone-valid}
 use Rattle.text.specs.Writing.{textOf}
 use Rattle.calls_replies.specs.ReplyParts.{partsText}
 use Rattle.calls_asked.specs.declared.One.{One}
@@ -21,7 +23,7 @@ unzone-requires : tie.Need-unzone-requires
 unzone-requires c κs = search needs
 
 value-said-requires : tie.Need-value-said-requires
-value-said-requires c κs = search needs
+value-said-requires c κs = ap valid (c .unzone .ensures) ∙ unzone-valid _
 
 enum-told-3 : tie.Need-enum-told-3
 enum-told-3 c = search needs

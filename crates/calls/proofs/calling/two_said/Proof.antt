@@ -1,4 +1,7 @@
-use mathlib.Core.Path.{ap, sym}
+use mathlib.Core.Path.{ap, sym, _∙_}
+use Rattle.value.specs.Carried.{valid}
+use Rattle.operation_arithmetic.proofs.Validity.{plus-valid, minus-valid}
+use Rattle.operation.proofs.Validity.{adjust-valid}
 use Rattle.text.specs.Writing.{textOf}
 use Rattle.calls_asked.specs.declared.Two.{Two}
 use Rattle.calls.specs.Answers.{orderText, twoText}
@@ -23,7 +26,7 @@ plus-requires : tie.Need-plus-requires
 plus-requires c κs = search needs
 
 value-said-requires : tie.Need-value-said-requires
-value-said-requires c κs = search needs
+value-said-requires c κs = ap valid (c .plus .ensures) ∙ plus-valid _ _
 
 enum-told-3 : tie.Need-enum-told-3
 enum-told-3 c = search needs
@@ -32,7 +35,7 @@ minus-requires : tie.Need-minus-requires
 minus-requires c κs = search needs
 
 value-said-requires-2 : tie.Need-value-said-requires-2
-value-said-requires-2 c κs = search needs
+value-said-requires-2 c κs = ap valid (c .minus .ensures) ∙ minus-valid _ _ _
 
 enum-told-4 : tie.Need-enum-told-4
 enum-told-4 c = search needs
@@ -41,7 +44,7 @@ adjust-requires : tie.Need-adjust-requires
 adjust-requires c κs = search needs
 
 value-said-requires-3 : tie.Need-value-said-requires-3
-value-said-requires-3 c κs = search needs
+value-said-requires-3 c κs = ap valid (c .adjust .ensures) ∙ adjust-valid _ _
 
 returns : tie.Need-returns
 unfolding twoText

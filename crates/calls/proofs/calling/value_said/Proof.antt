@@ -1,4 +1,7 @@
-use mathlib.Core.Path.{refl}
+use mathlib.Core.Path.{refl, ap, sym, _∙_}
+use Rattle.value.specs.Kinds.{meaning}
+use Rattle.value.specs.Carried.{valid}
+use Rattle.value.specs.declared.Outcome.{Outcome}
 use Rattle.text.specs.Writing.{textOf}
 use Rattle.calls.proofs.Saying.{was-read, was-refused}
 use borrow.Author.Needs.{needs}
@@ -9,7 +12,7 @@ enum-known-a : tie.Need-enum-known-a
 enum-known-a c = search needs
 
 written-requires : tie.Need-written-requires
-written-requires c κs = search needs
+written-requires c κs = ap (λ (x : Outcome). valid (meaning x)) (sym (c .before .a .given .1)) ∙ c .before .before .before .pre
 
 enum-known-a-2 : tie.Need-enum-known-a-2
 enum-known-a-2 c = search needs

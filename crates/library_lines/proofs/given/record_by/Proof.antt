@@ -6,11 +6,8 @@ use Rattle.library_lines.proofs.given.record_by.Tie as tie
 enum-told : tie.Need-enum-told
 enum-told c = search needs
 
-field-requires : tie.Need-field-requires
-field-requires c κs = search needs
-
-signed-number-requires : tie.Need-signed-number-requires
-signed-number-requires c κs = search needs
+lasting-at-requires : tie.Need-lasting-at-requires
+lasting-at-requires c κs = search needs
 
 add-has-field : tie.Need-add-has-field
 add-has-field c = search needs
@@ -27,11 +24,11 @@ unless-more-requires c κs = search needs
 enum-told-2 : tie.Need-enum-told-2
 enum-told-2 c = search needs
 
-field-requires-2 : tie.Need-field-requires-2
-field-requires-2 c κs = search needs
+field-requires : tie.Need-field-requires
+field-requires c κs = search needs
 
-signed-number-requires-2 : tie.Need-signed-number-requires-2
-signed-number-requires-2 c κs = search needs
+signed-number-requires : tie.Need-signed-number-requires
+signed-number-requires c κs = search needs
 
 add-has-field-2 : tie.Need-add-has-field-2
 add-has-field-2 c = search needs
@@ -100,10 +97,10 @@ unless-more-requires-5 : tie.Need-unless-more-requires-5
 unless-more-requires-5 c κs = search needs
 
 returns : tie.Need-returns
-returns c = by-day-time (c .before .before .before .before .before .before .before .before .args .line .now) (c .before .before .before .before .before .before .before .before .args .at) (c .unless-more .ensures) (c .before .before .has-field .ensures) (c .before .before .before .before .field .ensures) (c .before .before .before .before .before .enum-told .given .1) (c .before .before .before .signed-number .ensures .0) (c .before .given-day-time .ensures)
+returns c = by-day-time (c .before .before .before .before .before .before .before .args .line .now) (c .before .before .before .before .before .before .before .args .at) (c .unless-more .ensures) (c .before .before .has-field .ensures) (c .before .before .before .lasting-at .ensures) (c .before .before .before .before .enum-told .given .1) (c .before .given-day-time .ensures)
 
 returns-2 : tie.Need-returns-2
-returns-2 c = by-year-month (c .before .before .before .before .before .before .before .before .args .line .now) (c .before .before .before .before .before .before .before .before .args .at) (c .unless-more2 .ensures) (c .before .before .has-field2 .ensures) (c .before .before .before .before .field2 .ensures) (c .before .before .before .before .before .enum-told2 .given .1) (c .before .before .before .signed-number2 .ensures .0) (c .before .given-year-month .ensures)
+returns-2 c = by-year-month (c .before .before .before .before .before .before .before .before .args .line .now) (c .before .before .before .before .before .before .before .before .args .at) (c .unless-more2 .ensures) (c .before .before .has-field2 .ensures) (c .before .before .before .before .field .ensures) (c .before .before .before .before .before .enum-told2 .given .1) (c .before .before .before .signed-number .ensures .0) (c .before .given-year-month .ensures)
 
 returns-3 : tie.Need-returns-3
 returns-3 c = by-date (c .before .before .before .before .before .before .before .args .line .now) (c .before .before .before .before .before .before .before .args .at) (c .unless-more3 .ensures) (c .before .before .before .has-field3 .ensures) (c .before .before .moment-at .ensures) (c .before .before .before .before .enum-told3 .given .1) (c .before .given-moment .ensures)
@@ -119,15 +116,14 @@ record-by-spec =
     tie.close
     (tie.spec
     enum-told
-    field-requires
-    signed-number-requires
+    lasting-at-requires
     add-has-field
     has-field-requires
     given-day-time-requires
     unless-more-requires
     enum-told-2
-    field-requires-2
-    signed-number-requires-2
+    field-requires
+    signed-number-requires
     add-has-field-2
     has-field-requires-2
     given-year-month-requires

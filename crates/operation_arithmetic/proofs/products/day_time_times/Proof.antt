@@ -1,6 +1,7 @@
 use native.Mathlib.Omega.{arith}
 use mathlib.Core.Path.{_≡_, _∙_}
 use Rattle.value.specs.Clocks.{ticksIn}
+use Rattle.value.proofs.ClockLaws.{ticks-to}
 use Rattle.operation_quantities.specs.Results.{inTicks}
 use Rattle.operation_quantities.proofs.Spanned.{part-of, spans-in-ticks}
 use Rattle.operation_shifting.proofs.Halves.{plus-to, minus-to}
@@ -14,13 +15,13 @@ plus-ticks-requires : tie.Need-plus-ticks-requires
 plus-ticks-requires c κs = search needs
 
 times-requires : tie.Need-times-requires
-times-requires c κs = times-room _ _ _ (c .plus-ticks .ensures) (let h = plus-to (c .before .args .t .negative) (ticksIn (c .before .args .t)) in omega (arith, c .before .pre .0)) (c .before .pre .1)
+times-requires c κs = times-room _ _ _ (c .plus-ticks .ensures) (let h = plus-to (c .before .args .t .negative) (ticksIn (c .before .args .t)) in omega (arith, ticks-to _ (c .before .pre .0))) (c .before .pre .1)
 
 minus-ticks-requires : tie.Need-minus-ticks-requires
 minus-ticks-requires c κs = search needs
 
 times-requires-2 : tie.Need-times-requires-2
-times-requires-2 c κs = times-room _ _ _ (c .minus-ticks .ensures) (let h = minus-to (c .before .before .before .args .t .negative) (ticksIn (c .before .before .before .args .t)) in omega (arith, c .before .before .before .pre .0)) (c .before .before .before .pre .1)
+times-requires-2 c κs = times-room _ _ _ (c .minus-ticks .ensures) (let h = minus-to (c .before .before .before .args .t .negative) (ticksIn (c .before .before .before .args .t)) in omega (arith, ticks-to _ (c .before .before .before .pre .0))) (c .before .before .before .pre .1)
 
 in-ticks-requires : tie.Need-in-ticks-requires
 in-ticks-requires c κs = (part-of _ _ (c .before .times2 .ensures), part-of _ _ (c .before .before .before .times .ensures))

@@ -1,4 +1,4 @@
-use Rattle.operation_quantities.proofs.Shapes.{day-time-within}
+use Rattle.operation_quantities.proofs.Shapes.{day-time-ok}
 use Rattle.operation_arithmetic.specs.Products.{productOf}
 use borrow.Author.Needs.{needs}
 use Rattle.operation_arithmetic.proofs.products.product.Statement.{statement}
@@ -17,7 +17,7 @@ enum-known-x : tie.Need-enum-known-x
 enum-known-x c = search needs
 
 day-time-times-requires : tie.Need-day-time-times-requires
-day-time-times-requires c κs = (day-time-within _ _ (c .before .before .before .before .pre .0) (c .before .before .before .operand .ensures) _ (c .before .x .given .1), c .before .before .before .before .pre .1)
+day-time-times-requires c κs = (day-time-ok _ _ (c .before .before .before .before .pre .0) (c .before .before .before .operand .ensures) _ (c .before .x .given .1), c .before .before .before .before .pre .1)
 
 enum-known-x-2 : tie.Need-enum-known-x-2
 enum-known-x-2 c = search needs

@@ -1,7 +1,7 @@
 use Rattle.operation_quantities.specs.declared.Operand.the-variants.{DayTime}
 use mathlib.Core.Path.{_≡_, ap, sym, _∙_}
 use Rattle.operation_quantities.proofs.Spanned.{part-of, spans-in-ticks}
-use Rattle.operation_quantities.proofs.Shapes.{moment-good, day-time-within}
+use Rattle.operation_quantities.proofs.Shapes.{moment-good, day-time-ok}
 use Rattle.operation_arithmetic.specs.Sums.{sumOf}
 use borrow.Author.Needs.{needs}
 use Rattle.operation_arithmetic.proofs.sums.day_time_plus.Statement.{statement}
@@ -20,10 +20,10 @@ enum-known-y-2 : tie.Need-enum-known-y-2
 enum-known-y-2 c = search needs
 
 plus-halves-requires : tie.Need-plus-halves-requires
-plus-halves-requires c κs = (c .before .before .before .before .pre .0, day-time-within _ _ (c .before .before .before .before .pre .1) (c .before .before .before .operand .ensures) _ (c .before .y2 .given .1))
+plus-halves-requires c κs = (c .before .before .before .before .pre .0, day-time-ok _ _ (c .before .before .before .before .pre .1) (c .before .before .before .operand .ensures) _ (c .before .y2 .given .1))
 
 minus-halves-requires : tie.Need-minus-halves-requires
-minus-halves-requires c κs = (c .before .before .before .before .before .pre .0, day-time-within _ _ (c .before .before .before .before .before .pre .1) (c .before .before .before .before .operand .ensures) _ (c .before .before .y2 .given .1))
+minus-halves-requires c κs = (c .before .before .before .before .before .pre .0, day-time-ok _ _ (c .before .before .before .before .before .pre .1) (c .before .before .before .before .operand .ensures) _ (c .before .before .y2 .given .1))
 
 in-ticks-requires : tie.Need-in-ticks-requires
 in-ticks-requires c κs = (part-of _ _ (c .before .plus-halves .ensures), part-of _ _ (c .minus-halves .ensures))

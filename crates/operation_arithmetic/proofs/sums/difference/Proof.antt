@@ -4,7 +4,7 @@ use Rattle.value.specs.declared.YearMonth as Y
 use Rattle.value.specs.declared.DayTime as D
 use mathlib.Core.Path.{_≡_, ap, _∙_}
 use Rattle.operation_arithmetic.proofs.Opposites.{opposite-ok, opposite-months-ok}
-use Rattle.operation_quantities.proofs.Shapes.{moment-good, day-time-ok, day-time-within, year-month-ok}
+use Rattle.operation_quantities.proofs.Shapes.{moment-good, day-time-ok, year-month-ok}
 use Rattle.operation_arithmetic.specs.Sums.{differenceIn}
 use borrow.Author.Needs.{needs}
 use Rattle.operation_arithmetic.proofs.sums.difference.Statement.{statement}
@@ -23,7 +23,7 @@ enum-known-y-2 : tie.Need-enum-known-y-2
 enum-known-y-2 c = search needs
 
 opposite-requires : tie.Need-opposite-requires
-opposite-requires c κs = day-time-within _ _ (c .before .before .before .before .pre .1) (c .before .before .before .operand .ensures) _ (c .before .y2 .given .1)
+opposite-requires c κs = day-time-ok _ _ (c .before .before .before .before .pre .1) (c .before .before .before .operand .ensures) _ (c .before .y2 .given .1)
 
 sum-requires : tie.Need-sum-requires
 sum-requires c κs = (c .before .before .before .before .before .pre .0, ap (λ (x : D.DayTime). okValue (VV.DayTime x)) (c .opposite .ensures) ∙ opposite-ok _ (day-time-ok _ _ (c .before .before .before .before .before .pre .1) (c .before .before .before .before .operand .ensures) _ (c .before .before .y2 .given .1)))

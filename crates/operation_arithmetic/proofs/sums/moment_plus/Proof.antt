@@ -1,4 +1,4 @@
-use Rattle.operation_quantities.proofs.Shapes.{day-time-within, year-month-within}
+use Rattle.operation_quantities.proofs.Shapes.{day-time-ok, year-month-within}
 use Rattle.operation_arithmetic.specs.Sums.{sumOf}
 use borrow.Author.Needs.{needs}
 use Rattle.operation_arithmetic.proofs.sums.moment_plus.Statement.{statement}
@@ -17,7 +17,7 @@ enum-known-y : tie.Need-enum-known-y
 enum-known-y c = search needs
 
 shifted-requires : tie.Need-shifted-requires
-shifted-requires c κs = (c .before .before .before .before .pre .0, day-time-within _ _ (c .before .before .before .before .pre .1) (c .before .before .before .operand .ensures) _ (c .before .y .given .1))
+shifted-requires c κs = (c .before .before .before .before .pre .0, day-time-ok _ _ (c .before .before .before .before .pre .1) (c .before .before .before .operand .ensures) _ (c .before .y .given .1))
 
 enum-known-y-2 : tie.Need-enum-known-y-2
 enum-known-y-2 c = search needs

@@ -1,6 +1,5 @@
 use mathlib.Core.Path.{_≡_, _∙_}
-use native.Mathlib.Omega.{arith}
-use Rattle.operation_quantities.proofs.Spanned.{part-of, ticks-of}
+use Rattle.operation_quantities.proofs.Spanned.{part-of}
 use Rattle.operation_arithmetic.proofs.Opposites.{opposite-made}
 use borrow.Author.Needs.{needs}
 use Rattle.operation_arithmetic.proofs.sums.opposite.Statement.{statement}
@@ -19,7 +18,7 @@ size-requires : tie.Need-size-requires
 size-requires c κs = search needs
 
 lasting-requires : tie.Need-lasting-requires
-lasting-requires c κs = (part-of _ _ (c .size .ensures), omega (arith, ticks-of _ _ (c .size .ensures), c .before .before .before .before .pre))
+lasting-requires c κs = part-of _ _ (c .size .ensures)
 
 returns : tie.Need-returns
 returns c = c .lasting .ensures ∙ opposite-made _ _ _ _ _ (c .before .before .before .before .plus-ticks .ensures) (c .before .before .before .minus-ticks .ensures) (c .before .before .is-less .ensures) (c .before .size .ensures)

@@ -1,4 +1,4 @@
-use Rattle.operation_quantities.proofs.Shapes.{moment-good, day-time-within, year-month-within}
+use Rattle.operation_quantities.proofs.Shapes.{moment-good, day-time-ok, year-month-within}
 use borrow.Author.Needs.{needs}
 use Rattle.operation_arithmetic.proofs.sums.sum.Statement.{statement}
 use Rattle.operation_arithmetic.proofs.sums.sum.Tie as tie
@@ -16,7 +16,7 @@ enum-known-x-2 : tie.Need-enum-known-x-2
 enum-known-x-2 c = search needs
 
 day-time-plus-requires : tie.Need-day-time-plus-requires
-day-time-plus-requires c κs = (day-time-within _ _ (c .before .before .before .before .pre .0) (c .before .before .before .operand .ensures) _ (c .before .x2 .given .1), c .before .before .before .before .pre .1)
+day-time-plus-requires c κs = (day-time-ok _ _ (c .before .before .before .before .pre .0) (c .before .before .before .operand .ensures) _ (c .before .x2 .given .1), c .before .before .before .before .pre .1)
 
 enum-known-x-3 : tie.Need-enum-known-x-3
 enum-known-x-3 c = search needs

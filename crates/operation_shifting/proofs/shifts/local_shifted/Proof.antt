@@ -1,3 +1,4 @@
+use Rattle.value.proofs.ClockLaws.{ticks-to}
 use Rattle.value_instants.proofs.Within.{timed}
 use Rattle.operation_quantities.specs.Results.{atTicks}
 use Prim.Native.Nat.{ℕ, _-_}
@@ -37,7 +38,7 @@ returns-2 : tie.Need-returns-2
 returns-2 c = c .at-ticks .ensures ∙ span-at-ticks _ _ _ _ (c .before .minus .ensures ∙ (λ i. spanOf (ticks-of _ _ (c .before .before .before .before .before .before .local .ensures) i - ticks-of _ _ (c .before .before .before .before .before .size .ensures) i))) ∙ ap (λ (t : ℕ). atTicks (c .before .before .before .before .before .before .before .args .kind) t (c .before .before .before .before .before .before .before .args .d .zone)) (taken-off _ _ _ (c .before .before .before .before .if1 .taken))
 
 plus-requires : tie.Need-plus-requires
-plus-requires c κs = (part-of _ _ (c .before .before .local .ensures), part-of _ _ (c .before .size .ensures), omega (arith, seconds-of _ _ (c .before .before .local .ensures), seconds-of _ _ (c .before .size .ensures), timed _ (c .before .before .before .pre .0) .local-few, c .before .before .before .pre .1))
+plus-requires c κs = (part-of _ _ (c .before .before .local .ensures), part-of _ _ (c .before .size .ensures), omega (arith, seconds-of _ _ (c .before .before .local .ensures), seconds-of _ _ (c .before .size .ensures), timed _ (c .before .before .before .pre .0) .local-few, ticks-to _ (c .before .before .before .pre .1)))
 
 at-ticks-requires-2 : tie.Need-at-ticks-requires-2
 at-ticks-requires-2 c κs = part-of _ _ (c .plus .ensures)

@@ -16,13 +16,13 @@ new-requires : tie.Need-new-requires Inv-loop μ-loop
 new-requires c κs = search needs
 
 loop-holds : tie.Need-loop-holds Inv-loop μ-loop
-loop-holds c = start _ _ (c .before .before .pre) (c .new .ensures)
+loop-holds c = start _ _ (c .before .before .pre .0) (c .new .ensures)
 
 shared-slice-read-p : tie.Need-shared-slice-read-p Inv-loop μ-loop
 shared-slice-read-p c = omega arith
 
 part-requires : tie.Need-part-requires Inv-loop μ-loop
-part-requires c κs = omega (arith, c .before .before .loop .inv .room, next-width (c .before .before .before .before .before .args .layout .now) _ (c .before .loop-test .taken))
+part-requires c κs = (omega (arith, c .before .before .loop .inv .room, next-width (c .before .before .before .before .before .args .layout .now) _ (c .before .loop-test .taken)), c .before .before .before .before .before .pre .1)
 
 add-k : tie.Need-add-k Inv-loop μ-loop
 add-k c = omega arith

@@ -7,17 +7,17 @@ use Rattle.value.proofs.DateTime.date.Statement.{statement}
 use Rattle.value.proofs.DateTime.date.Tie as tie
 use Rattle.value.proofs.DateTime.date.Reads as reads
 use Rattle.value.proofs.DateTime.date.Lts as lts
-use Rattle.value.proofs.clocks.of_ticks.Reads as of-ticks-reads
+use Rattle.value.proofs.clocks.with_time.Reads as with-time-reads
 use Rattle.value.proofs.valid.checked.Reads as checked-reads
 
-of-ticks-requires : tie.Need-of-ticks-requires
-of-ticks-requires c κs = search needs
+with-time-requires : tie.Need-with-time-requires
+with-time-requires c κs = search needs
 
 checked-requires : tie.Need-checked-requires
 checked-requires c κs = search needs
 
 returns : tie.Need-returns
-returns c = c .checked .ensures ∙ ap (λ (x : DateTime). made (VV.Date x)) (c .before .of-ticks .ensures)
+returns c = c .checked .ensures ∙ ap (λ (x : DateTime). made (VV.Date x)) (c .before .with-time .ensures)
 
 pub date-spec : {M : Type 1} → statement M
-date-spec = tie.close (tie.spec of-ticks-requires checked-requires returns)
+date-spec = tie.close (tie.spec with-time-requires checked-requires returns)

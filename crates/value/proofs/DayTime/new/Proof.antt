@@ -5,19 +5,15 @@ use mathlib.Core.Path.{ap, _∙_}
 use borrow.Author.Needs.{needs}
 use Rattle.value.proofs.DayTime.new.Statement.{statement}
 use Rattle.value.proofs.DayTime.new.Tie as tie
-use Rattle.value.proofs.DayTime.new.Reads as reads
-use Rattle.value.proofs.DayTime.new.Lts as lts
-use Rattle.value.proofs.clocks.duration.Reads as duration-reads
-use Rattle.value.proofs.valid.checked.Reads as checked-reads
 
-duration-requires : tie.Need-duration-requires
-duration-requires c κs = search needs
+with-size-requires : tie.Need-with-size-requires
+with-size-requires c κs = search needs
 
 checked-requires : tie.Need-checked-requires
 checked-requires c κs = search needs
 
 returns : tie.Need-returns
-returns c = c .checked .ensures ∙ ap (λ (x : DayTime). made (VV.DayTime x)) (c .before .duration .ensures)
+returns c = c .checked .ensures ∙ ap (λ (x : DayTime). made (VV.DayTime x)) (c .before .with-size .ensures)
 
 pub new-spec : {M : Type 1} → statement M
-new-spec = tie.close (tie.spec duration-requires checked-requires returns)
+new-spec = tie.close (tie.spec with-size-requires checked-requires returns)

@@ -1,17 +1,13 @@
-use Rattle.value.specs.Clocks.{clockOf}
+use Rattle.value.proofs.ClockLaws.{clock-span}
 use borrow.Author.Needs.{needs}
 use Rattle.value.proofs.clocks.clock.Statement.{statement}
 use Rattle.value.proofs.clocks.clock.Tie as tie
-use Rattle.value.proofs.clocks.clock.Reads as reads
-use Rattle.value.proofs.clocks.clock.Lts as lts
-use Rattle.value.proofs.clocks.span.Reads as span-reads
 
-span-requires : tie.Need-span-requires
-span-requires c κs = search needs
+cast-t2 : tie.Need-cast-t2
+cast-t2 c = search needs
 
 returns : tie.Need-returns
-unfolding clockOf
-returns c = c .span .ensures
+returns c = clock-span (c .before .args .d) (c .before .pre)
 
 pub clock-spec : {M : Type 1} → statement M
-clock-spec = tie.close (tie.spec span-requires returns)
+clock-spec = tie.close (tie.spec cast-t2 returns)

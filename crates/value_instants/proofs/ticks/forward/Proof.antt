@@ -1,5 +1,6 @@
 use mathlib.Core.Path.{ap, sym, _∙_}
 use Rattle.value.specs.Carried.{spanOf}
+use Rattle.value.proofs.KindParts.{day-time-good}
 use Rattle.value_instants.proofs.Within.{plus-forward}
 use borrow.Author.Needs.{needs}
 use Rattle.value_instants.proofs.ticks.forward.Statement.{statement}
@@ -43,7 +44,7 @@ returns : tie.Need-returns
 returns c = rw (c .before .before .before .v .given .1, c .before .if1 .taken) (c .span5 .ensures)
 
 size-requires : tie.Need-size-requires
-size-requires c κs = search needs
+size-requires c κs = day-time-good _ (c .before .before .before .before .pre) _ (c .before .before .v .given .1)
 
 returns-2 : tie.Need-returns-2
 returns-2 c = rw (c .before .enum-told .given .1) (c .span .ensures)

@@ -21,7 +21,7 @@ day-number-requires : tie.Need-day-number-requires
 day-number-requires c κs = good _ (c .pre) .day .date
 
 clock-requires : tie.Need-clock-requires
-clock-requires c κs = search needs
+clock-requires c κs = good _ (c .before .pre) .time
 
 mul-t5 : tie.Need-mul-t5
 mul-t5 c = let n = numbered _ (good _ (c .before .before .pre) .day) in omega arith
