@@ -6,7 +6,8 @@ use Prim.Native.Nat.{ℕ, _+_, _-_, _*_}
 use Rattle.basis.specs.Choice.{both, every}
 use Rattle.basis.specs.Answer.{gives, refuses}
 use Rattle.calendar.specs.Calendar.{total, periodOf, dateOf}
-use Rattle.value.specs.Bounds.{minuteTicks, hourTicks, maxClock, maxDayTime}
+use Rattle.value.specs.Bounds.{minuteTicks, hourTicks, maxDayTime}
+use Rattle.value.specs.Carried.{maxClock}
 use Rattle.value.specs.Clocks.{clockOf, atClock, sameClock, ticksIn, durationOf}
 use Rattle.value.specs.Values.{okDate, okOffset, okZone, okTimePart, okDateTime, okSigned, okDayTime}
 use Rattle.value.specs.Kinds.{ofKind, okValue}

@@ -11,7 +11,8 @@ use Rattle.basis.specs.Answer.{gives, refuses}
 use Rattle.basis.proofs.Tests.{both-true}
 use Rattle.calendar.specs.Calendar.{total, yearDays, dateOf}
 use Rattle.calendar.proofs.Years.{years-grow, year-up-to, days-up-to}
-use Rattle.value.specs.Bounds.{minYear, maxYear, maxZone, maxClock, minuteTicks, dayTicks}
+use Rattle.value.specs.Bounds.{minYear, maxYear, maxZone, minuteTicks, dayTicks}
+use Rattle.value.specs.Carried.{maxClock}
 use Rattle.value.specs.Clocks.{clockOf}
 use Rattle.value.specs.Refusals.{outside, badZone}
 use Rattle.value.specs.Values.{okOffset}

@@ -9,7 +9,8 @@ use Rattle.basis.specs.Choice.{pick, both}
 use Rattle.basis.specs.Answer.{gives, refuses}
 use Rattle.basis.proofs.Tests.{both-left, both-right, both-true}
 use Rattle.calendar.specs.Calendar.{monthDays, monthCount}
-use Rattle.value.specs.Bounds.{minYear, maxYear, maxClock}
+use Rattle.value.specs.Bounds.{minYear, maxYear}
+use Rattle.value.specs.Carried.{maxClock}
 use Rattle.value.specs.Clocks.{clockOf, atClock, atClockOf, durationOf}
 use Rattle.value.specs.Refusals.{beyondResult}
 use Rattle.value.specs.Values.{okDateTime, dateIn}

@@ -8,7 +8,8 @@ use borrow.Author.Tests.{leb-true, leb-false}
 use Rattle.basis.specs.Choice.{pick, both}
 use Rattle.basis.specs.Answer.{gives}
 use Rattle.calendar.specs.Calendar.{dateOf, periodOf}
-use Rattle.value.specs.Bounds.{maxClock, dayTicks}
+use Rattle.value.specs.Bounds.{dayTicks}
+use Rattle.value.specs.Carried.{maxClock}
 use Rattle.value.specs.Clocks.{clockOf, atClock}
 use Rattle.value.specs.Values.{okDateTime, dateIn}
 use Rattle.value.specs.Kinds.{template, kept, ofKind}

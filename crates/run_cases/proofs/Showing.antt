@@ -61,20 +61,17 @@ module _ (run : Run) (own : Zone) (p : ℕ) (g : GoodSpans run own) (t : GoodTim
   record-good : okDateTime (atLocal (localAtPlace (spanTimes run) p) own) ≡ true
   record-good = placed-ok (localAtPlace (spanTimes run) p) own in-years (g .zoned)
 
-  pub occurrence-good : (d : DateTime) → d ≡ atLocal (localAtPlace (spanTimes run) p) own → okValue (VV.DateTime d) ≡ true
-  unfolding okValue
-  occurrence-good d q = ap okDateTime q ∙ record-good
-
   -- the row with the written text of the occurrence
   pub there-shown : (d : DateTime) (made : Text) (more : Bool) → d ≡ atLocal (localAtPlace (spanTimes run) p) own
       → Holds (made .bytes) (made .len) (textOf (VV.DateTime d)) → more ≡ ltb (p + 1) (countOf (spanTimes run))
       → ShowsOccurrence (record { read = SV.Row; made = made; more = more }) run own p
+  unfolding okValue
   there-shown d made more q w m zone line f e =
       let ts : spanTimes run ≡ timesIn zone f = times-of zone f (record { run = run; zone = own }) e in
       let n : countOf (spanTimes run) ≡ countOf (timesIn zone f) = ap countOf ts in
       let z : own ≡ f .first .zone = ap (λ (x : RunSpans). x .zone) e in
       let o : d ≡ occurrenceAt f p = q ∙ (λ i. atLocal (localAtPlace (ts i) p) (z i)) in
-      let long : 0 < length (textOf (VV.DateTime d)) = written-some (VV.DateTime d) (occurrence-good d q) in
+      let long : 0 < length (textOf (VV.DateTime d)) = written-some (VV.DateTime d) (ap okDateTime q ∙ record-good) in
       record {
         what =
             ap (λ (s : List ℕ). rowCase (rowWith line s)) (w .text)

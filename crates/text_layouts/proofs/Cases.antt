@@ -7,7 +7,8 @@ use Rattle.basis.specs.Answer.{gives, refuses}
 use Rattle.basis.specs.Letters.{bytes}
 use Rattle.calendar.specs.Calendar.{datedOf, dateOf, total, periodOf}
 use Rattle.calendar.specs.declared.Date.{Date}
-use Rattle.value.specs.Bounds.{maxClock, maxZone, secondTicks, hourTicks}
+use Rattle.value.specs.Bounds.{maxZone, secondTicks, hourTicks}
+use Rattle.value.specs.Carried.{maxClock}
 use Rattle.value.specs.Clocks.{clockOf, atClock}
 use Rattle.value.specs.Values.{okDate, dateIn}
 use Rattle.value.specs.Kinds.{template}

@@ -7,7 +7,8 @@ use lib.ListN.{length, length-append}
 use mathlib.Core.Bool.{true}
 use Rattle.basis.specs.Choice.{both, every}
 use Rattle.basis.specs.Letters.{bytes}
-use Rattle.value.specs.Bounds.{maxYear, maxClock, maxZone}
+use Rattle.value.specs.Bounds.{maxYear, maxZone}
+use Rattle.value.specs.Carried.{maxClock}
 use Rattle.value.specs.Clocks.{clockOf, atClock}
 use Rattle.value.specs.Values.{okDate, okOffset, okZone, okTimePart, okDateTime}
 use Rattle.value.specs.declared.Offset.the-variants.{East}

@@ -17,7 +17,8 @@ use Rattle.calendar.specs.declared.Dated.the-variants.{On, Later}
 use Rattle.calendar.proofs.Years.{years-grow, year-starts, year-ends}
 use Rattle.calendar.proofs.Dates.{date-good, day-date}
 use Rattle.calendar.proofs.Answers.{OnTime, on-says}
-use Rattle.value.specs.Bounds.{minYear, maxYear, maxClock, maxZone, secondTicks}
+use Rattle.value.specs.Bounds.{minYear, maxYear, maxZone, secondTicks}
+use Rattle.value.specs.Carried.{maxClock}
 use Rattle.value.specs.Clocks.{atClock}
 use Rattle.value.specs.Values.{okDate, okOffset, okZone, okDateTime, dateIn}
 use Rattle.value.specs.Kinds.{okValue, kindOf, template}

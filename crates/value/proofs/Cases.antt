@@ -5,7 +5,8 @@ use mathlib.Core.Bool.{Bool, true, false}
 use Prim.Native.Nat.{ℕ, _+_}
 use Rattle.basis.specs.Choice.{both, every}
 use Rattle.basis.specs.Answer.{gives, refuses}
-use Rattle.value.specs.Bounds.{maxClock, dayTicks}
+use Rattle.value.specs.Bounds.{dayTicks}
+use Rattle.value.specs.Carried.{maxClock}
 use Rattle.value.specs.Clocks.{withTime, sameClock, ticksIn, withSize}
 use Rattle.value.specs.Values.{okDate, okOffset, okZone, okTimePart, okDateTime, okSigned, okDayTime}
 use Rattle.value.specs.Kinds.{ofKind, okValue, made}

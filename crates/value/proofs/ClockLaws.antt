@@ -10,14 +10,14 @@ use borrow.Author.Tests.{leb-true, le-leb, eq-eqb, eqb-true}
 use Rattle.basis.specs.Choice.{both, every}
 use Rattle.basis.proofs.Tests.{both-left, both-right, both-true, both-end}
 use Rattle.calendar.specs.declared.Date.{Date}
-use Rattle.value.specs.Bounds.{secondTicks, maxSecond, maxNanosecond, maxClock, maxDayTime}
+use Rattle.value.specs.Bounds.{secondTicks, maxSecond, maxNanosecond, maxDayTime}
 use Rattle.value.specs.Clocks.{clockOf, withTime, atClock, atClockOf, sameClock, ticksIn, withSize, durationOf}
 use Rattle.value.specs.Values.{okTimePart, okSigned, okDayTime, dateIn}
 use Rattle.value.specs.Durations.{plusHalf, minusHalf, plusTicks, minusTicks, apart, lessTicks}
 use Rattle.value.specs.declared.Zone.{Zone}
 use Rattle.value.specs.declared.DateTime.{DateTime}
 use Rattle.value.specs.declared.DayTime.{DayTime}
-use Rattle.value.specs.Carried.{spanOf}
+use Rattle.value.specs.Carried.{spanOf, maxClock}
 use Rattle.value.proofs.Spans.{span-is}
 use Rattle.value.proofs.Signs.{signed-within, plus-apart, minus-apart, difference-ok}
 

@@ -35,7 +35,7 @@ pub struct DateTime {
     pub zone: Zone,
 }
 
-// Seconds and nanoseconds under one sign. Zero, where both are, is not negative.
+// Seconds and nanoseconds under one sign. Zero, that is zero of both, is not negative.
 pub struct DayTime {
     pub negative: bool,
     pub seconds: u64,

@@ -3,8 +3,8 @@ use mathlib.Core.Path.{_≡_, sym}
 use mathlib.Core.Bool.{true}
 use Prim.Native.Nat.{ℕ, _+_, _*_, _/_, _%_, _≤_, _<_}
 use native.Mathlib.Omega.{arith}
-use Rattle.value.specs.Bounds.{maxClock, maxDayTime, secondTicks, minuteSeconds, hourMinutes, dayHours, minuteTicks, hourTicks, dayTicks}
-use Rattle.value.specs.Carried.{ticksOf, spanOf}
+use Rattle.value.specs.Bounds.{maxDayTime, secondTicks, minuteSeconds, hourMinutes, dayHours, minuteTicks, hourTicks, dayTicks}
+use Rattle.value.specs.Carried.{ticksOf, spanOf, maxClock}
 use Rattle.value.specs.Clocks.{clockOf}
 use Rattle.value.specs.Values.{okTimePart}
 use Rattle.value.specs.declared.DateTime.{DateTime}

@@ -9,8 +9,8 @@ use value::clocks;
 use value::valid;
 ghost use mathlib.Core.Path.{_≡_};
 ghost use Prim.Native.Nat.{_≤_, _<_, _^_};
-ghost use Rattle.value.specs.Bounds.{secondTicks, maxClock, maxDayTime};
-ghost use Rattle.value.specs.Carried.{ticksOf};
+ghost use Rattle.value.specs.Bounds.{secondTicks, maxDayTime};
+ghost use Rattle.value.specs.Carried.{ticksOf, maxClock};
 ghost use Rattle.value.specs.Values.{dateIn};
 ghost use Rattle.value_components.specs.Components as the;
 

@@ -10,7 +10,8 @@ use Rattle.basis.proofs.Tests.{both-left, both-right, both-true}
 use Rattle.calendar.specs.declared.Date.{Date}
 use Rattle.calendar.specs.Calendar.{GoodDate, dayNumber, dayOf, dateOf}
 use Rattle.calendar.proofs.Dates.{date-day, date-good, day-date}
-use Rattle.value.specs.Bounds.{minYear, maxYear, maxClock, dayTicks}
+use Rattle.value.specs.Bounds.{minYear, maxYear, dayTicks}
+use Rattle.value.specs.Carried.{maxClock}
 use Rattle.value.specs.Clocks.{clockOf, atClock}
 use Rattle.value.specs.Values.{okZone, okDateTime, dateIn}
 use Rattle.value_instants.specs.Ticks.{localOf, atLocal, inYears, placedAt}
@@ -43,6 +44,20 @@ placed-ok t z e h =
 pub placed-there : (t : ℕ) (z : Zone) → inYears t ≡ true → placedAt t z ≡ PV.At (atLocal t z)
 unfolding placedAt
 placed-there t z e = λ i. pick (e i) (PV.At (atLocal t z)) PV.Beyond
+
+-- and a record that a local time has is within the bounds, where its zone is
+pub placed-good : (t : ℕ) (z : Zone) (d : DateTime) → PV.At d ≡ placedAt t z → okZone z ≡ true → okDateTime d ≡ true
+unfolding placedAt
+placed-good t z d e h = go (inYears t) refl
+  where
+    go : (b : Bool) → inYears t ≡ b → okDateTime d ≡ true
+    go true y =
+        let q : PV.At d ≡ PV.At (atLocal t z) = e ∙ placed-there t z y in
+        let k : d ≡ atLocal t z = cc in
+        ap okDateTime k ∙ placed-ok t z y h
+    go false y =
+        let q : PV.At d ≡ PV.Beyond = e ∙ (λ i. pick (y i) (PV.At (atLocal t z)) PV.Beyond) in
+        absurd (let n : _≡_ {A = ℕ} 0 1 = cc in omega arith)
 
 -- the day and the time of day of a local time
 day-of-local : (n u : ℕ) → u ≤ maxClock → (n * dayTicks + u) / dayTicks ≡ n

@@ -3,11 +3,13 @@ use mathlib.Core.Path.{ap, sym, _∙_}
 use native.Mathlib.Omega.{arith}
 use borrow.Author.Tests.{ltb-true}
 use Rattle.basis.proofs.Tests.{no, yes}
+use Rattle.value.specs.Kinds.{okValue}
 use Rattle.value_instants.specs.Ticks.{placedAt}
+use Rattle.value_instants.proofs.Locals.{placed-good}
 use Rattle.value.proofs.Spans.{has-ticks}
 use Rattle.run_times.specs.Occurrences.{countOf}
 use Rattle.run_times.specs.Carried.{spanTimes}
-use Rattle.run_cases.proofs.Showing.{placed-is, placed-not, in-years, occurrence-good, there-shown, gone-shown}
+use Rattle.run_cases.proofs.Showing.{placed-is, placed-not, in-years, there-shown, gone-shown}
 use borrow.Author.Needs.{needs}
 use Rattle.run_cases.proofs.at_occurrence.Statement.{statement}
 use Rattle.run_cases.proofs.at_occurrence.Tie as tie
@@ -50,19 +52,11 @@ enum-known-d : tie.Need-enum-known-d
 enum-known-d c = search needs
 
 text-of-requires : tie.Need-text-of-requires
+unfolding okValue
 text-of-requires c κs =
     let p = c .before .before .before in
-    let o = p .before in
-    let f = o .before .before in
-    let b = f .before .before in
-    let h : b .args .place < countOf (spanTimes (b .args .run)) = ltb-true _ _ (yes (f .before .reached .ensures) (f .if1 .left)) in
-    occurrence-good (b .args .run) (b .args .zone) (b .args .place) (b .pre .0) (b .pre .1) h
-    (c .before .d .given .0 .0)
-    (placed-is _ _ _
-    (sym (c .before .d .given .1)
-    ∙ p .placed .ensures
-    ∙ ap (λ (n : ℕ). placedAt n (b .args .zone)) (has-ticks (o .occurrence .result) _ (o .occurrence .ensures) .ticks))
-    (in-years (b .args .run) (b .args .zone) (b .args .place) (b .pre .0) (b .pre .1) h))
+    let b = p .before .before .before .before .before in
+    placed-good _ _ _ (sym (c .before .d .given .1) ∙ p .placed .ensures) (b .pre .0 .zoned)
 
 returns-2 : tie.Need-returns-2
 returns-2 c =
