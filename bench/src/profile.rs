@@ -21,7 +21,7 @@ pub enum Part {
 
 pub const PARTS: [(Part, &str); 7] = [
     (Part::ConditionText, "the condition's text, its symbols and grammar: `condition`, `condition_readers`, `condition_symbols`, `condition_depth`, `condition_words`"),
-    (Part::Values, "values read, fields and literals: `text`, `text_blanks`, `text_fields`, `text_layouts`, `text_checks`, `text_scan`, `text_durations`, `numerals`"),
+    (Part::Values, "values read, fields and literals: `text`, `text_blanks`, `text_fields`, `text_layouts`, `text_checks`, `text_scan`, `text_forms`, `text_durations`, `numerals`"),
     (
         Part::Computing,
         "comparing and computing: `operation`, `operation_arithmetic`, `operation_ordering`, `operation_adjusting`, `operation_casting`, `operation_shifting`, `operation_quantities`, `value_instants`, `value`, \
@@ -72,9 +72,8 @@ fn part_of(name: &str) -> Part {
         "condition" | "condition_readers" | "condition_symbols" | "condition_depth" | "condition_words" => Part::ConditionText,
         "numerals" if name.contains("decimal") => Part::Desk,
         "run_cases" | "run_times" => Part::Runs,
-        "text" | "text_blanks" | "text_fields" | "text_layouts" | "text_checks" | "text_scan" | "text_durations" | "numerals" => {
-            Part::Values
-        }
+        "text" | "text_blanks" | "text_fields" | "text_layouts" | "text_checks" | "text_scan" | "text_forms"
+        | "text_durations" | "numerals" => Part::Values,
         "operation"
         | "operation_arithmetic"
         | "operation_ordering"

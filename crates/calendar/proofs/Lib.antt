@@ -1,6 +1,7 @@
 pub mod Leap
 pub mod Periods
 pub mod Months
+pub mod MonthRows
 pub mod Years
 pub mod Order
 pub mod Dates

@@ -62,9 +62,7 @@ fn components_said(a: Components) -> Reply
     ensures { λ r. ⌜ r ≡ replyOf (the.said partsText (components.componentsMeaning a)) ⌝ }
 {
     match a {
-        Components::Date(d, z) => parts::of_date(d, z),
-        Components::Time(c, z) => parts::of_time(c, z),
-        Components::DateTime(d, c, z) => parts::of_date_time(d, c, z),
+        Components::Moment(f) => parts::of_moment(f),
         Components::Duration(l) => parts::of_duration(l),
         Components::Refused(r) => refused(r),
     }

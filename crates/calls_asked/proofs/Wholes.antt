@@ -18,7 +18,6 @@ use Rattle.value.specs.declared.Value.{Value}
 use Rattle.value.specs.Kinds.{okValue}
 use Rattle.value.specs.Refusals.{outside}
 use Rattle.basis.specs.Answer.{refuses}
-use Rattle.operation_quantities.specs.Operands.{operandOf}
 use Rattle.operation_arithmetic.specs.Products as products
 use Rattle.operation_arithmetic.specs.Products.{timesOf, maxFactor}
 use Rattle.timetable.specs.Fields.{fieldAt}
@@ -60,9 +59,9 @@ module _ (s : List ℕ) {b : ℕ} (e : b ≡ at s 0) where
 module _ (a : Value) (negative : Bool) where
   refused-beyond : (n : ℕ) → leb n maxFactor ≡ false → timesOf a negative n ≡ refuses outside
   unfolding timesOf both
-  refused-beyond n h = (λ i. pick (both (okValue a) (h i)) (products.productOf (operandOf a) negative n) (refuses outside)) ∙ dead (okValue a)
+  refused-beyond n h = (λ i. pick (both (okValue a) (h i)) (products.productOf a negative n) (refuses outside)) ∙ dead (okValue a)
     where
-      dead : (b : Bool) → pick (both b false) (products.productOf (operandOf a) negative n) (refuses outside) ≡ refuses outside
+      dead : (b : Bool) → pick (both b false) (products.productOf a negative n) (refuses outside) ≡ refuses outside
       dead true = refl
       dead false = refl
 

@@ -1,6 +1,6 @@
 -- The marked cases hold: one test over the whole table, by computation, and from it each row's equation.
-use mathlib.Core.Path.{_≡_, refl, sym, _∙_}
-use mathlib.Core.Bool.{Bool, true, false}
+use mathlib.Core.Path.{_≡_, refl}
+use mathlib.Core.Bool.{true}
 use mathlib.Core.List.{List, [], _∷_}
 use Prim.Native.Nat.{ℕ, zero, suc, _<_}
 use native.Mathlib.Omega.{arith}
@@ -12,7 +12,8 @@ use Rattle.basis.specs.Choice.{both, every}
 use Rattle.calendar.specs.Calendar.{total, periodOf, dateOf, datedOf}
 use Rattle.timetable.specs.Fields.{fieldsOf, hasField, fieldAt}
 use Rattle.timetable.specs.Parted.{onto, parted}
-use Rattle.value.specs.Kinds.{ofKind, okValue}
+use Rattle.value.specs.Rows.{has, isMoment, isDated, isClocked, ofKind}
+use Rattle.value.specs.Kinds.{okValue}
 use Rattle.value_instants.specs.Ticks.{localOf, instantOf, inYears, placedAt}
 use Rattle.value.specs.Clocks.{clockOf, sameClock, ticksIn}
 use Rattle.value.specs.Values.{okDate, okOffset, okZone, okTimePart, okDateTime, okSigned, okDayTime}
@@ -22,7 +23,7 @@ use Rattle.text_scan.specs.Scanning.{pairAt, isPair, withPair, fractionPart, zo
 use Rattle.text_checks.specs.Reading.{nextDay, okClock, isDayEnd, clockTicks, goodClock, clocked, okParts, zoneIs, onCalendar, bounded, judge}
 use Rattle.text_layouts.specs.Reading.{readLayout}
 use Rattle.text_layouts.specs.Writing.{pairOf, partText, layoutText}
-use Rattle.text_durations.specs.Forms.{weight}
+use Rattle.text_forms.specs.Forms.{weight}
 use Rattle.text_durations.specs.Spelling.{shown, shownAll, left, body, durationText}
 use Rattle.text_durations.specs.Walks.{component, components, shapeFrom, shape, counted, readBy}
 use Rattle.text_blanks.specs.Blanks.{isBlank, leadingBlanks, untrailed, stripped, bare}
@@ -30,7 +31,7 @@ use Rattle.text.specs.Reading.{readBare, readAs}
 use Rattle.text.specs.Writing.{textOf}
 use Rattle.operation_quantities.specs.Results.{inTicks, inMonths, atTicks}
 use Rattle.operation_shifting.specs.Shifts.{movedTo, moved, shifted}
-use Rattle.operation_adjusting.specs.Adjustment.{isZone, adjustedFrom, momentTo, operandTo, adjustOf}
+use Rattle.operation_adjusting.specs.Adjustment.{isZone, adjustedFrom, momentTo, valueTo, adjustOf}
 use Rattle.operation_ordering.specs.Order.{up, down, orderIn}
 use Rattle.operation_arithmetic.specs.Sums.{sumOf, plusOf, lessMoment, differenceIn, minusIn}
 use Rattle.condition_words.specs.Words.{same}
@@ -41,7 +42,7 @@ use Rattle.calls_replies.specs.Replies.{numberText}
 use Rattle.calls_cases.specs.Table.{TableRow, noRow, table, rowHolds, tests, allHold}
 
 pub all-hold : allHold ≡ true
-unfolding both every total periodOf dateOf datedOf fieldsOf hasField fieldAt onto parted ofKind okValue localOf instantOf inYears placedAt okDate okOffset okZone okTimePart okDateTime okSigned okDayTime clockOf sameClock ticksIn isDigit number fractionAt digits shortest decimal keptDigits fractionText pairAt isPair withPair fractionPart zoneSigned zonePart fourZeros yearAt yearPart partAt scanned nextDay okClock isDayEnd clockTicks goodClock clocked okParts zoneIs onCalendar bounded judge readLayout pairOf partText layoutText weight shown shownAll left body durationText component components shapeFrom shape counted readBy isBlank leadingBlanks untrailed stripped bare readBare readAs textOf inTicks inMonths atTicks movedTo moved shifted isZone adjustedFrom momentTo operandTo adjustOf up down orderIn sumOf plusOf lessMoment differenceIn minusIn same named oneText twoText answerBy answerOf exactly oneForm twoForm pairBy formBy formOf numberText refusedText table rowHolds tests allHold
+unfolding both every total periodOf dateOf datedOf fieldsOf hasField fieldAt onto parted has isMoment isDated isClocked ofKind okValue localOf instantOf inYears placedAt okDate okOffset okZone okTimePart okDateTime okSigned okDayTime clockOf sameClock ticksIn isDigit number fractionAt digits shortest decimal keptDigits fractionText pairAt isPair withPair fractionPart zoneSigned zonePart fourZeros yearAt yearPart partAt scanned nextDay okClock isDayEnd clockTicks goodClock clocked okParts zoneIs onCalendar bounded judge readLayout pairOf partText layoutText weight shown shownAll left body durationText component components shapeFrom shape counted readBy isBlank leadingBlanks untrailed stripped bare readBare readAs textOf inTicks inMonths atTicks movedTo moved shifted isZone adjustedFrom momentTo valueTo adjustOf up down orderIn sumOf plusOf lessMoment differenceIn minusIn same named oneText twoText answerBy answerOf exactly oneForm twoForm pairBy formBy formOf numberText refusedText table rowHolds tests allHold
 all-hold = refl
 
 alike : (a b : List ℕ) → same a b ≡ true → a ≡ b

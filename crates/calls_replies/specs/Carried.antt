@@ -16,12 +16,9 @@ pub record ReplyGrown (t r : Reply) (s : List ℕ) : Type 0 where
 abbrev pub numberWidth : ℕ
 numberWidth = 21
 
--- no text of a date, a clock or a zone is longer than this: its names, and its numbers with their width
-abbrev pub dateRoom : ℕ
-dateRoom = 17 + 3 * numberWidth
-
+-- no text of a clock or a zone is longer than this: its names, and its numbers with their width
 abbrev pub clockRoom : ℕ
 clockRoom = 24 + 3 * numberWidth
 
 abbrev pub zoneRoom : ℕ
-zoneRoom = 6 + numberWidth
+zoneRoom = 5 + numberWidth

@@ -4,7 +4,7 @@
 use mathlib.Core.Path.{_≡_, refl, sym, ap, subst, _∙_}
 use mathlib.Core.Bool.{Bool, true, false}
 use mathlib.Core.List.{List}
-use Prim.Native.Nat.{ℕ, _<_, _≤_}
+use Prim.Native.Nat.{ℕ, _<_}
 use native.Mathlib.Omega.{arith}
 use Rattle.basis.specs.Choice.{pick}
 use Rattle.basis.specs.Answer.{Answer, gives, refusesFor, refuses, andThen}
@@ -13,15 +13,14 @@ use Rattle.value.specs.Kinds.{kindOf, okValue}
 use Rattle.value.specs.Values.{okOffset}
 use Rattle.value.specs.declared.Offset.{Offset}
 use Rattle.value.specs.declared.Kind.{Kind}
-use Rattle.value.specs.declared.Kind.the-variants as K
 use Rattle.value.specs.declared.Value.{Value}
 use Rattle.timetable.specs.Rows.{Row, hasCell, cellText}
 use Rattle.text_layouts.proofs.Valid.{Valid}
 use Rattle.text.specs.Reading.{readAs}
 use Rattle.text_fields.specs.Fields.{readField}
 use Rattle.text.proofs.RoundTrip.{what-reads-is-valid}
-use Rattle.operation_quantities.specs.Operands.{sameKind}
-use Rattle.operation_ordering.specs.Order.{Order, orderFor}
+use Rattle.value.specs.Rows.{sameKind}
+use Rattle.operation_ordering.specs.Order.{orderFor}
 use Rattle.operation_arithmetic.specs.Sums.{plusOf, minusFor}
 use Rattle.operation_arithmetic.specs.Products.{timesOf}
 use Rattle.operation_casting.specs.Casts.{castsTo, castOf}

@@ -7,14 +7,14 @@ use native.Mathlib.Omega.{arith}
 use Rattle.basis.specs.Choice.{pick, both}
 use Rattle.basis.specs.Answer.{Reason, Answer, gives, refusesFor, refuses, andThen}
 use Rattle.basis.specs.Exactly.{Exactly}
+use Rattle.value.specs.Rows.{sameKind}
 use Rattle.value.specs.Kinds.{kindOf, okValue}
 use Rattle.value.specs.Refusals.{wrongKind}
 use Rattle.value.specs.Values.{okOffset}
 use Rattle.value.specs.declared.Offset.{Offset}
 use Rattle.value.specs.declared.Kind.{Kind}
 use Rattle.value.specs.declared.Value.{Value}
-use Rattle.operation_quantities.specs.Operands.{operandOf, sameKind}
-use Rattle.operation_ordering.specs.Order.{orderIn, orderFor, operandOrder}
+use Rattle.operation_ordering.specs.Order.{orderIn, orderFor, valueOrder}
 use Rattle.operation_ordering.proofs.OrderLaws.{order-in-zone}
 use Rattle.operation_casting.specs.Casts.{castsTo, castTo, castOf}
 use Rattle.operation_arithmetic.specs.Sums.{plusOf, minusFor}
@@ -56,11 +56,11 @@ module _ (a : Value) (p : okValue a ≡ true) where
       Exactly (comparedKinds (kindOf a) (kindOf b) ≡ S.Clash) (orderFor zone a b ≡ refuses wrongKind)
   unfolding orderIn comparedKinds both
   order-clash zone b h q =
-      rw (order-in-zone zone a b h, p, q) (by-test (sameKind (kindOf a) (kindOf b)) S.Truth (operandOrder zone (operandOf a) (operandOf b)) truth-no-clash)
+      rw (order-in-zone zone a b h, p, q) (by-test (sameKind (kindOf a) (kindOf b)) S.Truth (valueOrder zone a b) truth-no-clash)
 
   cast-clash : (k : Kind) → Exactly (sortCast k (S.Of (kindOf a)) ≡ S.Clash) (castOf a k ≡ refuses wrongKind)
   unfolding castOf
-  cast-clash k = rw p (by-test (castsTo (kindOf a) k) (S.Of k) (castTo k (operandOf a)) (kind-no-clash k))
+  cast-clash k = rw p (by-test (castsTo (kindOf a) k) (S.Of k) (castTo k a) (kind-no-clash k))
 
 pub clash-is-9 : ClashIs9
 clash-is-9 =

@@ -2,10 +2,9 @@
 -- whole condition need truth values, which are never compared or added." Which kinds fit each operation of "Operations".
 use mathlib.Core.Bool.{Bool, true, false}
 use Rattle.basis.specs.Choice.{pick}
-use Rattle.value.specs.Kinds.{hasDate, hasTime}
+use Rattle.value.specs.Rows.{sameKind, isMoment, isDated, isClocked}
 use Rattle.value.specs.declared.Kind.{Kind}
 use Rattle.value.specs.declared.Kind.the-variants as K
-use Rattle.operation_quantities.specs.Operands.{sameKind}
 use Rattle.operation_casting.specs.Casts.{castsTo}
 use Rattle.condition_symbols.specs.declared.Op.{Op}
 use Rattle.condition_operators.specs.Roles.{roleOf, joins}
@@ -14,18 +13,11 @@ use Rattle.condition_operators.specs.declared.Role.the-variants.{Joins, Compare
 use Rattle.condition_sorts.specs.declared.Sort.{Sort}
 use Rattle.condition_sorts.specs.declared.Sort.the-variants.{Clash, Truth, Of}
 
--- whether a kind is a date, time or dateTime; the others are durations
-abbrev pub moment : Kind → Bool
-moment k = pick (hasDate k) true (hasTime k)
-
 -- whether a kind takes a duration of another: "dateTime ± yearMonthDuration .. Dates likewise", "dateTime ± dayTimeDuration",
 -- "A date does so ..", "A time wraps .."
-abbrev pub takes : Kind → Kind → Bool
-takes j K.Date = false
-takes j K.Time = false
-takes j K.DateTime = false
-takes j K.DayTimeDuration = moment j
-takes j K.YearMonthDuration = hasDate j
+unfoldable pub takes : Kind → Kind → Bool
+takes j k =
+    pick (sameKind k K.DayTimeDuration) (pick (isDated j) true (isClocked j)) (pick (sameKind k K.YearMonthDuration) (isDated j) false)
 
 -- "Only values of one kind are compared"
 unfoldable pub comparedKinds : Kind → Kind → Sort
@@ -33,11 +25,11 @@ comparedKinds j k = pick (sameKind j k) Truth Clash
 
 -- "A duration may stand left of plus"; "Durations of one kind add"
 unfoldable pub addedKinds : Kind → Kind → Sort
-addedKinds j k = pick (takes j k) (Of j) (pick (takes k j) (Of k) (pick (moment j) Clash (pick (sameKind j k) (Of j) Clash)))
+addedKinds j k = pick (takes j k) (Of j) (pick (takes k j) (Of k) (pick (isMoment j) Clash (pick (sameKind j k) (Of j) Clash)))
 
 -- "dateTime - dateTime, date - date, time - time: a dayTimeDuration"; "Durations of one kind .. subtract"
 unfoldable pub lessKinds : Kind → Kind → Sort
-lessKinds j k = pick (takes j k) (Of j) (pick (sameKind j k) (pick (moment j) (Of K.DayTimeDuration) (Of j)) Clash)
+lessKinds j k = pick (takes j k) (Of j) (pick (sameKind j k) (pick (isMoment j) (Of K.DayTimeDuration) (Of j)) Clash)
 
 -- two kinds with an operator between, by what it does
 abbrev pub kindsOf : Role → Kind → Kind → Sort
@@ -66,4 +58,4 @@ sortCast k (Of j) = pick (castsTo j k) (Of k) Clash
 abbrev pub sortTimes : Sort → Sort
 sortTimes Clash = Clash
 sortTimes Truth = Clash
-sortTimes (Of k) = pick (moment k) Clash (Of k)
+sortTimes (Of k) = pick (isMoment k) Clash (Of k)

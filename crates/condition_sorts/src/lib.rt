@@ -4,10 +4,11 @@ use condition_operators::joins;
 use condition_operators::role_of;
 use condition_symbols::Op;
 use operation_casting::casts_to;
-use operation_quantities::operands::same_kind;
 use value::Kind;
-use value::kinds::has_date;
-use value::kinds::has_time;
+use value::kinds::is_clocked;
+use value::kinds::is_dated;
+use value::kinds::is_moment;
+use value::kinds::same;
 ghost use mathlib.Core.Path.{_≡_};
 ghost use Rattle.condition_sorts.specs.Sorts as the;
 
@@ -18,33 +19,26 @@ pub enum Sort {
     Of(Kind),
 }
 
-// Whether a kind is a date, time or dateTime.
-fn moment(kind: Kind) -> bool
-    ensures { λ r. ⌜ r ≡ the.moment kind ⌝ }
-{
-    if has_date(kind) {
-        return true;
-    }
-    has_time(kind)
-}
-
 // Whether a kind takes a duration of another.
 fn takes(kind: Kind, by: Kind) -> bool
     ensures { λ r. ⌜ r ≡ the.takes kind by ⌝ }
 {
-    match by {
-        Kind::Date => false,
-        Kind::Time => false,
-        Kind::DateTime => false,
-        Kind::DayTimeDuration => moment(kind),
-        Kind::YearMonthDuration => has_date(kind),
+    if same(by, Kind::DayTimeDuration) {
+        if is_dated(kind) {
+            return true;
+        }
+        return is_clocked(kind);
     }
+    if same(by, Kind::YearMonthDuration) {
+        return is_dated(kind);
+    }
+    false
 }
 
 fn compared(a: Kind, b: Kind) -> Sort
     ensures { λ r. ⌜ r ≡ the.comparedKinds a b ⌝ }
 {
-    if same_kind(a, b) {
+    if same(a, b) {
         return Sort::Truth;
     }
     Sort::Clash
@@ -59,10 +53,10 @@ fn added(a: Kind, b: Kind) -> Sort
     if takes(b, a) {
         return Sort::Of(b);
     }
-    if moment(a) {
+    if is_moment(a) {
         return Sort::Clash;
     }
-    if same_kind(a, b) {
+    if same(a, b) {
         return Sort::Of(a);
     }
     Sort::Clash
@@ -74,8 +68,8 @@ fn less(a: Kind, b: Kind) -> Sort
     if takes(a, b) {
         return Sort::Of(a);
     }
-    if same_kind(a, b) {
-        if moment(a) {
+    if same(a, b) {
+        if is_moment(a) {
             return Sort::Of(Kind::DayTimeDuration);
         }
         return Sort::Of(a);
@@ -143,7 +137,7 @@ pub fn times(a: Sort) -> Sort
         Sort::Clash => Sort::Clash,
         Sort::Truth => Sort::Clash,
         Sort::Of(k) => {
-            if moment(k) {
+            if is_moment(k) {
                 return Sort::Clash;
             }
             Sort::Of(k)

@@ -6,6 +6,7 @@ use Prim.Native.Nat.{ℕ, zero, suc}
 use Rattle.basis.specs.Choice.{pick, both}
 use Rattle.basis.specs.Answer.{Answer, gives, refusesFor}
 use Rattle.basis.specs.Letters.{bytes}
+use Rattle.value.specs.declared.Kind.the-variants as KV
 use Rattle.value.specs.declared.Value.the-variants as VV
 use Rattle.value_instants.specs.Ticks.{utc}
 use Rattle.timetable.specs.Rows.{rowOf, withSecond}
@@ -39,7 +40,7 @@ module _ (c a b : List ℕ) (h : AlikeLines a b) where
   all-same : (r : RunFields) (n p : ℕ) → Results (occurrences a r p n) ≡ Results (occurrences b r p n)
   unfolding occurrences
   all-same r zero p = refl
-  all-same r (suc n) p = λ i. made-same (textOf (VV.DateTime (occurrenceAt r p))) i ∷ all-same r n (suc p) i
+  all-same r (suc n) p = λ i. made-same (textOf (VV.Moment KV.DateTime (occurrenceAt r p))) i ∷ all-same r n (suc p) i
 
   abbrev resultsOr : List Result → List Result
   resultsOr [] = caseResult c missCase ∷ []

@@ -16,6 +16,7 @@ use Rattle.condition_symbols.specs.Symbols.{named}
 use Rattle.condition_symbols.specs.declared.Named.{Named}
 use Rattle.line_fields.specs.Numbers.{greatest, numberOf}
 use Rattle.line_fields.specs.declared.numbers.FieldNumber.{FieldNumber}
+use Rattle.value.specs.Rows.{sameKind, isMoment}
 use Rattle.value.specs.declared.Offset.{Offset}
 use Rattle.value.specs.declared.Offset.the-variants.{East, West}
 use Rattle.value.specs.declared.Zone.{Zone}
@@ -24,7 +25,7 @@ use Rattle.value.specs.declared.DateTime.{DateTime}
 use Rattle.value.specs.declared.Kind.{Kind}
 use Rattle.value.specs.declared.Kind.the-variants as KV
 use Rattle.value.specs.declared.Value.the-variants as VV
-use Rattle.library_lines.specs.Given.{twoBytes, oneByte, fourBytes, withSign, noSigned, afterSign, signedOf, offsetOf, zoneBy, zoneGiven, dayGiven, dayAt, timeGiven, timeAt, lastingGiven, lastingAt, recordParts, momentGiven, momentAt, recordOfKind, givenMoment, dayTimeIn, givenDayTime, givenYearMonth, unlessMore, recordBy, recordNamed, recordAt}
+use Rattle.library_lines.specs.Given.{twoBytes, oneByte, fourBytes, withSign, noSigned, afterSign, signedOf, offsetOf, zoneBy, zoneGiven, dayGiven, dayAt, timeGiven, timeAt, lastingGiven, lastingAt, recordParts, momentGiven, momentAt, givenMoment, dayTimeIn, givenDayTime, givenYearMonth, unlessMore, momentBy, dayTimeBy, yearMonthBy, durationBy, recordBy, recordNamed, recordAt}
 use Rattle.library_lines.specs.declared.given.Signed.{Signed}
 use Rattle.library_lines.specs.declared.given.Zoned.{Zoned}
 use Rattle.library_lines.specs.declared.given.Day.{Day}
@@ -130,10 +131,10 @@ moment-read line i eg ep ed et efz ez =
 
 -- ---- records
 pub no-moment : (k : Kind) (m : Moment) → not (m .good) ≡ true → G.No ≡ givenMoment k m
-no-moment k m q = second-of {b = m .good} (recordOfKind k (m .parts)) G.No (no refl q)
+no-moment k m q = second-of {b = m .good} (G.Is (VV.Moment k (m .parts))) G.No (no refl q)
 
-pub is-moment : (k′ : Kind) (m : Moment) {k : Kind} → k ≡ k′ → not (m .good) ≡ false → recordOfKind k′ (m .parts) ≡ givenMoment k m
-is-moment k′ m {k} e q = ap (λ (x : Kind). recordOfKind x (m .parts)) (sym e) ∙ first-of {b = m .good} (recordOfKind k (m .parts)) G.No (yes refl q)
+pub is-moment : (k : Kind) (m : Moment) → not (m .good) ≡ false → G.Is (VV.Moment k (m .parts)) ≡ givenMoment k m
+is-moment k m q = first-of {b = m .good} (G.Is (VV.Moment k (m .parts))) G.No (yes refl q)
 
 pub no-day-time : (n : LastingGiven) → not (n .good) ≡ true → G.No ≡ givenDayTime n
 no-day-time n q = second-of {b = n .good} (G.Is (VV.DayTime (dayTimeIn n))) G.No (no refl q)
@@ -147,28 +148,38 @@ no-year-month n q = second-of {b = n .good} (G.Is (VV.YearMonth (record { negati
 pub is-year-month : (n : Signed) → not (n .good) ≡ false → G.Is (VV.YearMonth (record { negative = n .negative; months = n .value })) ≡ givenYearMonth n
 is-year-month n q = first-of {b = n .good} (G.Is (VV.YearMonth (record { negative = n .negative; months = n .value }))) G.No (yes refl q)
 
-module _ (line : List ℕ) (i : ℕ) {k : Kind} {r g : GivenRecord} {h : Bool} (er : r ≡ unlessMore h g) where
-  pub by-day-time : {n : LastingGiven} → h ≡ hasField line (i + 2) → n ≡ lastingAt line i → k ≡ KV.DayTimeDuration → g ≡ givenDayTime n → r ≡ recordBy k line i
+module _ (line : List ℕ) (i : ℕ) {r g : GivenRecord} {h : Bool} (er : r ≡ unlessMore h g) where
+  pub by-moment : (k : Kind) {m : Moment} → h ≡ hasField line (i + 6) → m ≡ momentAt line i → g ≡ givenMoment k m → r ≡ momentBy k line i
+  by-moment k eh em eg = er ∙ (λ j. unlessMore (eh j) ((eg ∙ ap (givenMoment k) em) j))
+
+  pub by-day-time : {n : LastingGiven} → h ≡ hasField line (i + 2) → n ≡ lastingAt line i → g ≡ givenDayTime n → r ≡ dayTimeBy line i
+  by-day-time eh en eg = er ∙ (λ j. unlessMore (eh j) ((eg ∙ ap givenDayTime en) j))
+
+  pub by-year-month : {n : Signed} {f : List ℕ} → h ≡ hasField line (i + 1) → f ≡ fieldAt line i → n ≡ signedOf fourBytes f → g ≡ givenYearMonth n → r ≡ yearMonthBy line i
+  by-year-month eh ef en eg = er ∙ (λ j. unlessMore (eh j) ((eg ∙ ap givenYearMonth (en ∙ ap (signedOf fourBytes) ef)) j))
+
+module _ (k : Kind) (line : List ℕ) (i : ℕ) {r : GivenRecord} where
+  pub of-moment : isMoment k ≡ true → r ≡ momentBy k line i → r ≡ recordBy k line i
   unfolding recordBy
-  by-day-time eh en ek eg = er ∙ (λ j. unlessMore (eh j) ((eg ∙ ap givenDayTime en) j)) ∙ ap (λ (x : Kind). recordBy x line i) (sym ek)
+  of-moment p e = e ∙ first-of (momentBy k line i) (durationBy k line i) p
 
-  module _ {n : Signed} {f : List ℕ} (eh : h ≡ hasField line (i + 1)) (ef : f ≡ fieldAt line i) where
-    pub by-year-month : k ≡ KV.YearMonthDuration → n ≡ signedOf fourBytes f → g ≡ givenYearMonth n → r ≡ recordBy k line i
+  module _ (p : isMoment k ≡ false) where
+    of-duration : r ≡ durationBy k line i → r ≡ recordBy k line i
     unfolding recordBy
-    by-year-month ek en eg = er ∙ (λ j. unlessMore (eh j) ((eg ∙ ap givenYearMonth (en ∙ ap (signedOf fourBytes) ef)) j)) ∙ ap (λ (x : Kind). recordBy x line i) (sym ek)
+    of-duration e = e ∙ second-of (momentBy k line i) (durationBy k line i) p
 
-  module _ {m : Moment} (eh : h ≡ hasField line (i + 6)) (em : m ≡ momentAt line i) where
-    pub by-date : k ≡ KV.Date → g ≡ givenMoment KV.Date m → r ≡ recordBy k line i
-    unfolding recordBy
-    by-date ek eg = er ∙ (λ j. unlessMore (eh j) ((eg ∙ ap (givenMoment KV.Date) em) j)) ∙ ap (λ (x : Kind). recordBy x line i) (sym ek)
+    pub of-day-time : sameKind k KV.DayTimeDuration ≡ true → r ≡ dayTimeBy line i → r ≡ recordBy k line i
+    of-day-time q e = of-duration (e ∙ first-of (dayTimeBy line i) (pick (sameKind k KV.YearMonthDuration) (yearMonthBy line i) G.No) q)
 
-    pub by-time : k ≡ KV.Time → g ≡ givenMoment KV.Time m → r ≡ recordBy k line i
-    unfolding recordBy
-    by-time ek eg = er ∙ (λ j. unlessMore (eh j) ((eg ∙ ap (givenMoment KV.Time) em) j)) ∙ ap (λ (x : Kind). recordBy x line i) (sym ek)
+    module _ (q : sameKind k KV.DayTimeDuration ≡ false) where
+      of-other : r ≡ pick (sameKind k KV.YearMonthDuration) (yearMonthBy line i) G.No → r ≡ recordBy k line i
+      of-other e = of-duration (e ∙ second-of (dayTimeBy line i) (pick (sameKind k KV.YearMonthDuration) (yearMonthBy line i) G.No) q)
 
-    pub by-date-time : k ≡ KV.DateTime → g ≡ givenMoment KV.DateTime m → r ≡ recordBy k line i
-    unfolding recordBy
-    by-date-time ek eg = er ∙ (λ j. unlessMore (eh j) ((eg ∙ ap (givenMoment KV.DateTime) em) j)) ∙ ap (λ (x : Kind). recordBy x line i) (sym ek)
+      pub of-year-month : sameKind k KV.YearMonthDuration ≡ true → r ≡ yearMonthBy line i → r ≡ recordBy k line i
+      of-year-month w e = of-other (e ∙ first-of (yearMonthBy line i) G.No w)
+
+      pub of-none : sameKind k KV.YearMonthDuration ≡ false → r ≡ G.No → r ≡ recordBy k line i
+      of-none w e = of-other (e ∙ second-of (yearMonthBy line i) G.No w)
 
 pub record-named : (line : List ℕ) (i : ℕ) {f : List ℕ} {x y : Named} → f ≡ fieldAt line i → x ≡ named f → x ≡ y → recordNamed y line (i + 1) ≡ recordAt line i
 unfolding recordAt

@@ -15,6 +15,7 @@ use Rattle.condition_symbols.specs.declared.Named.{Named}
 use Rattle.condition_symbols.specs.declared.Named.the-variants as N
 use Rattle.line_fields.specs.Numbers.{greatest, numberOf}
 use Rattle.line_fields.specs.declared.numbers.FieldNumber.{FieldNumber}
+use Rattle.value.specs.Rows.{sameKind, isMoment}
 use Rattle.value.specs.Clocks.{withTime, withSize}
 use Rattle.value.specs.declared.Offset.{Offset}
 use Rattle.value.specs.declared.Offset.the-variants.{East, West}
@@ -103,16 +104,9 @@ momentGiven d t z = record { good = every (d .good ∷ t .good ∷ z .good ∷ [
 unfoldable pub momentAt : List ℕ → ℕ → Moment
 momentAt line i = momentGiven (dayAt line i) (timeAt line (i + 3)) (zoneGiven (fieldAt line (i + 5)))
 
--- the record of a kind that such fields are
-abbrev pub recordOfKind : Kind → DateTime → GivenRecord
-recordOfKind KV.Date d = G.Is (VV.Date d)
-recordOfKind KV.Time d = G.Is (VV.Time d)
-recordOfKind KV.DateTime d = G.Is (VV.DateTime d)
-recordOfKind KV.DayTimeDuration d = G.No
-recordOfKind KV.YearMonthDuration d = G.No
-
+-- the date, time or dateTime that such fields are
 abbrev pub givenMoment : Kind → Moment → GivenRecord
-givenMoment k m = pick (m .good) (recordOfKind k (m .parts)) G.No
+givenMoment k m = pick (m .good) (G.Is (VV.Moment k (m .parts))) G.No
 
 abbrev pub dayTimeIn : LastingGiven → DayTime
 dayTimeIn n = withSize (n .negative) (n .seconds) (n .nanoseconds)
@@ -127,12 +121,22 @@ givenYearMonth n = pick (n .good) (G.Is (VV.YearMonth (record { negative = n .ne
 abbrev pub unlessMore : Bool → GivenRecord → GivenRecord
 unlessMore more g = pick more G.No g
 
+abbrev pub momentBy : Kind → List ℕ → ℕ → GivenRecord
+momentBy k line i = unlessMore (hasField line (i + 6)) (givenMoment k (momentAt line i))
+
+abbrev pub dayTimeBy : List ℕ → ℕ → GivenRecord
+dayTimeBy line i = unlessMore (hasField line (i + 2)) (givenDayTime (lastingAt line i))
+
+abbrev pub yearMonthBy : List ℕ → ℕ → GivenRecord
+yearMonthBy line i = unlessMore (hasField line (i + 1)) (givenYearMonth (signedOf fourBytes (fieldAt line i)))
+
+abbrev pub durationBy : Kind → List ℕ → ℕ → GivenRecord
+durationBy k line i =
+    pick (sameKind k KV.DayTimeDuration) (dayTimeBy line i) (pick (sameKind k KV.YearMonthDuration) (yearMonthBy line i) G.No)
+
+-- the record of a kind: a date, time or dateTime, or a duration
 unfoldable pub recordBy : Kind → List ℕ → ℕ → GivenRecord
-recordBy KV.Date line i = unlessMore (hasField line (i + 6)) (givenMoment KV.Date (momentAt line i))
-recordBy KV.Time line i = unlessMore (hasField line (i + 6)) (givenMoment KV.Time (momentAt line i))
-recordBy KV.DateTime line i = unlessMore (hasField line (i + 6)) (givenMoment KV.DateTime (momentAt line i))
-recordBy KV.DayTimeDuration line i = unlessMore (hasField line (i + 2)) (givenDayTime (lastingAt line i))
-recordBy KV.YearMonthDuration line i = unlessMore (hasField line (i + 1)) (givenYearMonth (signedOf fourBytes (fieldAt line i)))
+recordBy k line i = pick (isMoment k) (momentBy k line i) (durationBy k line i)
 
 abbrev pub recordNamed : Named → List ℕ → ℕ → GivenRecord
 recordNamed N.No line i = G.No

@@ -18,6 +18,7 @@ use value::Value;
 use value::YearMonth;
 use value::Zone;
 use value::clocks;
+use value::kinds;
 ghost use mathlib.Core.Path.{_≡_};
 ghost use mathlib.Core.List.{[], _∷_};
 ghost use Prim.Native.Nat.{_≤_};
@@ -235,13 +236,7 @@ fn given_moment(kind: Kind, m: Moment) -> GivenRecord
         return GivenRecord::No;
     }
     let parts = m.parts;
-    match kind {
-        Kind::Date => GivenRecord::Is(Value::Date(parts)),
-        Kind::Time => GivenRecord::Is(Value::Time(parts)),
-        Kind::DateTime => GivenRecord::Is(Value::DateTime(parts)),
-        Kind::DayTimeDuration => GivenRecord::No,
-        Kind::YearMonthDuration => GivenRecord::No,
-    }
+    GivenRecord::Is(Value::Moment(kind, parts))
 }
 
 fn given_day_time(n: LastingGiven) -> GivenRecord
@@ -276,32 +271,44 @@ fn unless_more(more: bool, g: GivenRecord) -> GivenRecord
     g
 }
 
+fn moment_by(kind: Kind, line: &[u8], at: usize) -> GivenRecord
+    requires { ⌜ at ≤ 5 ⌝ }
+    ensures { λ r. ⌜ r ≡ the.momentBy kind (now (line .entry)) at ⌝ }
+{
+    let m = moment_at(line, at);
+    unless_more(has_field(line, at + 6), given_moment(kind, m))
+}
+
+fn day_time_by(line: &[u8], at: usize) -> GivenRecord
+    requires { ⌜ at ≤ 5 ⌝ }
+    ensures { λ r. ⌜ r ≡ the.dayTimeBy (now (line .entry)) at ⌝ }
+{
+    let n = lasting_at(line, at);
+    unless_more(has_field(line, at + 2), given_day_time(n))
+}
+
+fn year_month_by(line: &[u8], at: usize) -> GivenRecord
+    requires { ⌜ at ≤ 5 ⌝ }
+    ensures { λ r. ⌜ r ≡ the.yearMonthBy (now (line .entry)) at ⌝ }
+{
+    let n = signed_number(field(line, at), FOUR_BYTES);
+    unless_more(has_field(line, at + 1), given_year_month(n))
+}
+
 fn record_by(kind: Kind, line: &[u8], at: usize) -> GivenRecord
     requires { ⌜ at ≤ 5 ⌝ }
     ensures { λ r. ⌜ r ≡ the.recordBy kind (now (line .entry)) at ⌝ }
 {
-    match kind {
-        Kind::DayTimeDuration => {
-            let n = lasting_at(line, at);
-            unless_more(has_field(line, at + 2), given_day_time(n))
-        }
-        Kind::YearMonthDuration => {
-            let n = signed_number(field(line, at), FOUR_BYTES);
-            unless_more(has_field(line, at + 1), given_year_month(n))
-        }
-        Kind::Date => unless_more(
-            has_field(line, at + 6),
-            given_moment(Kind::Date, moment_at(line, at)),
-        ),
-        Kind::Time => unless_more(
-            has_field(line, at + 6),
-            given_moment(Kind::Time, moment_at(line, at)),
-        ),
-        Kind::DateTime => unless_more(
-            has_field(line, at + 6),
-            given_moment(Kind::DateTime, moment_at(line, at)),
-        ),
+    if kinds::is_moment(kind) {
+        return moment_by(kind, line, at);
     }
+    if kinds::same(kind, Kind::DayTimeDuration) {
+        return day_time_by(line, at);
+    }
+    if kinds::same(kind, Kind::YearMonthDuration) {
+        return year_month_by(line, at);
+    }
+    GivenRecord::No
 }
 
 // The record in the last fields of a line: a kind's name, and the numbers of that kind.

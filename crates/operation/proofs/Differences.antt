@@ -4,42 +4,36 @@ use mathlib.Core.Path.{_≡_, refl, ap, sym, _∙_}
 use mathlib.Core.Bool.{Bool, true, false}
 use Prim.Native.Nat.{ℕ, _+_}
 use native.Mathlib.Omega.{arith}
-use lib.Dec.{eqb, leb, ltb}
-use borrow.Author.Tests.{ltb-true, ltb-false, eq-eqb, ne-eqb, eqb-true}
+use lib.Dec.{eqb, ltb}
+use borrow.Author.Tests.{ltb-true, ltb-false, eq-eqb, ne-eqb}
 use Rattle.basis.specs.Choice.{pick, both}
 use Rattle.basis.specs.Answer.{gives}
 use Rattle.value.specs.Refusals.{outside, wrongKind, beyondResult}
 use Rattle.value.specs.Clocks.{ticksIn}
 use Rattle.value.specs.Durations.{plusHalf, minusHalf, plusTicks, minusTicks, apart, lessTicks, lessMonths}
 use Rattle.value.specs.Values.{okDayTime, okYearMonth}
+use Rattle.value.specs.Rows.{sameKind, isMoment}
 use Rattle.value.specs.Kinds.{kindOf, okValue}
 use Rattle.value_instants.specs.Ticks.{instantOf}
 use Rattle.value.specs.declared.Offset.{Offset}
-use Rattle.value.specs.declared.DateTime.{DateTime}
-use Rattle.value.specs.declared.DayTime as D
-use Rattle.value.specs.declared.YearMonth as Y
-use Rattle.value.specs.declared.Kind.{Kind}
 use Rattle.value.specs.declared.Value.{Value}
 use Rattle.value.specs.declared.Value.the-variants as VV
 use Rattle.value.proofs.ClockLaws.{ticks-of-duration}
-use Rattle.operation_quantities.specs.Operands.{operandOf, kindNumber, sameKind}
+use Rattle.value.proofs.KindParts.{moment-good}
+use Rattle.value.proofs.RowLaws.{same-kind}
 use Rattle.operation_quantities.specs.Results.{inTicks, inMonths}
-use Rattle.operation_quantities.specs.declared.Operand.{Operand}
-use Rattle.operation_quantities.specs.declared.Operand.the-variants.{Moment, DayTime, YearMonth}
 use Rattle.operation_quantities.proofs.Given.{given-rest, gives-same}
-use Rattle.operation_arithmetic.specs.Sums.{opposite, oppositeMonths, sumOf, lessMoment, differenceIn, minusIn}
+use Rattle.operation_arithmetic.specs.Sums.{sumOf, lessMoment, differenceIn, minusIn}
 use Rattle.operation_arithmetic.proofs.Opposites.{plus-opposite, minus-opposite, plus-ticks-opposite, minus-ticks-opposite}
-use Rattle.operation_ordering.specs.Order.{Order, less, equal, greater, up, down, order, operandOrder, orderIn}
-use Rattle.operation_ordering.proofs.OrderLaws.{Comparable, ordered, comparable}
+use Rattle.operation_ordering.specs.Order.{Order, less, equal, greater, up, down, order, valueOrder, orderIn}
+use Rattle.operation_ordering.proofs.OrderLaws.{ordered, comparable}
 
 -- how a duration stands to zero, by its sign and magnitude; the other values have neither
 abbrev signOrder : Bool → ℕ → Order
 signOrder negative n = pick negative less (pick (eqb n 0) equal greater)
 
 abbrev pub toZero : Value → Order
-toZero (VV.Date d) = equal
-toZero (VV.Time d) = equal
-toZero (VV.DateTime d) = equal
+toZero (VV.Moment k d) = equal
 toZero (VV.DayTime t) = signOrder (t .negative) (ticksIn t)
 toZero (VV.YearMonth m) = signOrder (m .negative) (m .months)
 
@@ -79,38 +73,37 @@ plain p q =
     let b : q ≡ q + 0 = omega arith in
     λ i. order (a i) (b i)
 
-abbrev isMoment : Operand → Bool
-isMoment (Moment k d) = true
-isMoment (DayTime t) = false
-isMoment (YearMonth m) = false
+abbrev holdsMoment : Value → Bool
+holdsMoment (VV.Moment k d) = true
+holdsMoment (VV.DayTime t) = false
+holdsMoment (VV.YearMonth m) = false
 
-moment-by-kind : (a : Value) → isMoment (operandOf a) ≡ leb (kindNumber (kindOf a)) 2
-moment-by-kind (VV.Date d) = refl
-moment-by-kind (VV.Time d) = refl
-moment-by-kind (VV.DateTime d) = refl
-moment-by-kind (VV.DayTime t) = refl
-moment-by-kind (VV.YearMonth m) = refl
+moment-by-kind : (a : Value) → okValue a ≡ true → holdsMoment a ≡ isMoment (kindOf a)
+unfolding isMoment
+moment-by-kind (VV.Moment k d) g = sym (moment-good (VV.Moment k d) g k d refl .0)
+moment-by-kind (VV.DayTime t) g = refl
+moment-by-kind (VV.YearMonth m) g = refl
 
 module _ (o : Offset) where
-  operand-sign : (x y : Operand) (v : Value) → isMoment x ≡ isMoment y → differenceIn o x y ≡ gives v → toZero v ≡ operandOrder o x y
+  value-sign : (x y : Value) (v : Value) → holdsMoment x ≡ holdsMoment y → differenceIn o x y ≡ gives v → toZero v ≡ valueOrder o x y
   unfolding differenceIn lessMoment sumOf up down
-  operand-sign (Moment j d) (Moment k e) v h g =
+  value-sign (VV.Moment j d) (VV.Moment k e) v h g =
       ticks-order (instantOf o d) (instantOf o e) v (given-rest (sameKind j k) (inTicks (instantOf o d) (instantOf o e)) wrongKind v g)
       ∙ plain (instantOf o d) (instantOf o e)
-  operand-sign (Moment j d) (DayTime s) v h g = cc
-  operand-sign (Moment j d) (YearMonth n) v h g = cc
-  operand-sign (DayTime t) (Moment k e) v h g = cc
-  operand-sign (DayTime t) (DayTime s) v h g =
+  value-sign (VV.Moment j d) (VV.DayTime s) v h g = cc
+  value-sign (VV.Moment j d) (VV.YearMonth n) v h g = cc
+  value-sign (VV.DayTime t) (VV.Moment k e) v h g = cc
+  value-sign (VV.DayTime t) (VV.DayTime s) v h g =
       let p = plus-ticks-opposite s in
       let q = minus-ticks-opposite s in
       let f : inTicks (plusTicks t + minusTicks s) (minusTicks t + plusTicks s) ≡ gives v
       = sym (λ i. inTicks (plusTicks t + p i) (minusTicks t + q i)) ∙ g in
       ticks-order _ _ v f
       ∙ swapped (plusTicks t) (minusTicks t) (plusTicks s) (minusTicks s)
-  operand-sign (DayTime t) (YearMonth n) v h g = cc
-  operand-sign (YearMonth m) (Moment k e) v h g = cc
-  operand-sign (YearMonth m) (DayTime s) v h g = cc
-  operand-sign (YearMonth m) (YearMonth n) v h g =
+  value-sign (VV.DayTime t) (VV.YearMonth n) v h g = cc
+  value-sign (VV.YearMonth m) (VV.Moment k e) v h g = cc
+  value-sign (VV.YearMonth m) (VV.DayTime s) v h g = cc
+  value-sign (VV.YearMonth m) (VV.YearMonth n) v h g =
       let p = plus-opposite (n .negative) (n .months) in
       let q = minus-opposite (n .negative) (n .months) in
       let f : inMonths (plusHalf (m .negative) (m .months) + minusHalf (n .negative) (n .months)) (minusHalf (m .negative) (m .months) + plusHalf (n .negative) (n .months)) ≡ gives v
@@ -123,7 +116,7 @@ module _ (o : Offset) where
   unfolding minusIn
   order-by-difference a b v r e f =
       let c = comparable o a b r e in
-      let k : kindNumber (kindOf a) ≡ kindNumber (kindOf b) = eqb-true (kindNumber (kindOf a)) (kindNumber (kindOf b)) (c .same) in
-      let m : isMoment (operandOf a) ≡ isMoment (operandOf b) = moment-by-kind a ∙ ap (λ (n : ℕ). leb n 2) k ∙ sym (moment-by-kind b) in
-      let g = given-rest (both (okValue a) (okValue b)) (differenceIn o (operandOf a) (operandOf b)) outside v f in
-      operand-sign (operandOf a) (operandOf b) v m g ∙ gives-same _ _ (sym (ordered o a b c) ∙ e)
+      let k : kindOf a ≡ kindOf b = same-kind (kindOf a) (kindOf b) (c .same) in
+      let m : holdsMoment a ≡ holdsMoment b = moment-by-kind a (c .left-ok) ∙ ap isMoment k ∙ sym (moment-by-kind b (c .right-ok)) in
+      let g = given-rest (both (okValue a) (okValue b)) (differenceIn o a b) outside v f in
+      value-sign a b v m g ∙ gives-same _ _ (sym (ordered o a b c) ∙ e)

@@ -1,18 +1,21 @@
--- Adjustment of a value that has a zone: a dateTime keeps its instant, a time its instant modulo 24 hours, and a date becomes
--- the date in the new zone at the instant at which it started.
+-- Adjustment of a value that has a zone: a kind with a whole date and a clock keeps its instant, one with a clock alone
+-- its instant modulo 24 hours, and one with a date alone becomes the date in the new zone at the instant at which it
+-- started.
 use mathlib.Core.Path.{_≡_, refl, ap, sym, _∙_}
-use mathlib.Core.Bool.{true}
+use mathlib.Core.Bool.{true, false}
 use Prim.Native.Nat.{ℕ, _+_, _-_, _*_, _/_, _%_, _≤_, _<_}
 use native.Mathlib.Omega.{arith}
-use Rattle.basis.specs.Choice.{pick, both}
-use Rattle.basis.specs.Answer.{gives, refuses}
+use Rattle.basis.specs.Choice.{both}
+use Rattle.basis.specs.Answer.{gives}
 use Rattle.basis.proofs.Tests.{both-left, both-right}
-use Rattle.calendar.specs.Calendar.{total, dayNumber, dateOf}
+use Rattle.calendar.specs.declared.Date.{Date}
+use Rattle.calendar.specs.Calendar.{dayOf, dateOf}
 use Rattle.value.specs.Bounds.{maxZone, minuteTicks, dayTicks}
-use Rattle.value.specs.Clocks.{clockOf}
+use Rattle.value.specs.Clocks.{clockOf, atClockOf}
 use Rattle.value.specs.Refusals.{outside, badZone}
 use Rattle.value.specs.Values.{dateIn, okDateTime, okOffset}
-use Rattle.value.specs.Kinds.{template, kept, okValue}
+use Rattle.value.specs.Rows.{layoutOf, templateOf, isDated, isClocked, kept}
+use Rattle.value.specs.Kinds.{okValue}
 use Rattle.value_instants.specs.Ticks.{localOf, atLocal, instantAt, instantOf, offsetIn, east, west}
 use Rattle.value.specs.declared.Offset.{Offset}
 use Rattle.value.specs.declared.Zone.{Zone}
@@ -20,18 +23,20 @@ use Rattle.value.specs.declared.Zone.the-variants.{At}
 use Rattle.value.specs.declared.DateTime.{DateTime}
 use Rattle.value.specs.declared.DayTime as D
 use Rattle.value.specs.declared.Kind.{Kind}
-use Rattle.value.specs.declared.Kind.the-variants as KV
 use Rattle.value.specs.declared.Value.{Value}
 use Rattle.value.specs.declared.Value.the-variants as VV
 use Rattle.value.proofs.ClockLaws.{clock-at, clock-kept}
+use Rattle.value.proofs.Good.{numbered}
+use Rattle.value.proofs.KindParts.{moment-good}
+use Rattle.value.proofs.RowTests.{rows-pass}
+use Rattle.value.proofs.RowLaws.{row-day, row-start}
 use Rattle.value_instants.proofs.Within.{timed, east-to, west-to}
 use Rattle.value_instants.proofs.Locals.{local-of-placed}
-use Rattle.operation_quantities.specs.Operands.{valueOf}
 use Rattle.operation_quantities.specs.Results.{atTicks}
-use Rattle.operation_quantities.proofs.Shapes.{moment-ok}
+use Rattle.value.proofs.PartsKept.{kept-whole, kept-date, kept-clock}
 use Rattle.operation_quantities.proofs.Given.{given-test, given-rest}
 use Rattle.operation_shifting.proofs.Undo.{placed-gives, given-in-years}
-use Rattle.operation_adjusting.specs.Adjustment.{isZone, zoneOf, localAt, adjustedFrom, adjustedTo, momentTo, operandTo, adjustOf}
+use Rattle.operation_adjusting.specs.Adjustment.{isZone, zoneOf, localAt, adjustedFrom, adjustedTo, momentTo, valueTo, adjustOf}
 use Rattle.operation_adjusting.proofs.Zones.{zone-ok, own-zone, instant-reaches}
 use Rattle.operation.proofs.Validity.{adjust-within}
 
@@ -52,110 +57,105 @@ unfolding instantOf
 own-instant o d w e = ap (λ (x : Zone). instantAt (localOf d) (offsetIn o x)) e
 
 -- what an adjustment that was answered says: the tests before it held, and the record was placed
-record Adjusted (k : Kind) (d : DateTime) (t : D.DayTime) (w : Offset) (v : Value) : Type 0 where
-  pub own-ok : okValue (valueOf k d) ≡ true
+record Adjusted (k : Kind) (d e : DateTime) (t : D.DayTime) (w : Offset) : Type 0 where
+  pub own-ok : okDateTime d ≡ true
   pub zone-good : okOffset (zoneOf t) ≡ true
-  pub placed : atTicks k (localAt (instantAt (localOf d) w) (zoneOf t)) (At (zoneOf t)) ≡ gives v
+  pub is-kept : kept k (atLocal (localAt (instantAt (localOf d) w) (zoneOf t)) (At (zoneOf t))) ≡ e
+  pub own-from : dayTicks ≤ instantAt (localOf d) w
 
-adjusted-by : (k : Kind) (d : DateTime) (t : D.DayTime) (w : Offset) (v : Value) → d .zone ≡ At w
-    → pick (both (okValue (valueOf k d)) (okValue (VV.DayTime t))) (adjustedTo k d t) (refuses outside) ≡ gives v → Adjusted k d t w v
-unfolding adjustedFrom okValue
-adjusted-by k d t w v z e =
-    let g = given-test (both (okValue (valueOf k d)) (okValue (VV.DayTime t))) (adjustedTo k d t) outside v e in
-    let f = given-rest (both (okValue (valueOf k d)) (okValue (VV.DayTime t))) (adjustedTo k d t) outside v e in
+adjusted-by : (k : Kind) (d e : DateTime) (t : D.DayTime) (w : Offset) → d .zone ≡ At w
+    → adjustOf (VV.Moment k d) (VV.DayTime t) ≡ gives (VV.Moment k e) → Adjusted k d e t w
+unfolding adjustOf valueTo momentTo adjustedFrom okValue
+adjusted-by k d e t w z h =
+    let v : Value = VV.Moment k e in
+    let g = given-test (both (okValue (VV.Moment k d)) (okValue (VV.DayTime t))) (adjustedTo k d t) outside v h in
+    let f = given-rest (both (okValue (VV.Moment k d)) (okValue (VV.DayTime t))) (adjustedTo k d t) outside v h in
     let i = given-test (isZone t) (adjustedFrom k d (d .zone) (zoneOf t)) badZone v f in
     let r = given-rest (isZone t) (adjustedFrom k d (d .zone) (zoneOf t)) badZone v f in
+    let l : ℕ = localAt (instantAt (localOf d) w) (zoneOf t) in
+    let p : atTicks k l (At (zoneOf t)) ≡ gives v = (λ j. adjustedFrom k d (sym z j) (zoneOf t)) ∙ r in
+    let y = given-in-years k l (At (zoneOf t)) v p in
+    let x : gives (VV.Moment k (kept k (atLocal l (At (zoneOf t))))) ≡ gives (VV.Moment k e) = sym (placed-gives k l (At (zoneOf t)) y) ∙ p in
+    let o : okDateTime d ≡ true = moment-good (VV.Moment k d) (both-left _ _ g) k d refl .1 in
     record {
-      own-ok = both-left _ _ g;
+      own-ok = o;
       zone-good = zone-ok t (both-right _ _ g) i;
-      placed = (λ j. adjustedFrom k d (sym z j) (zoneOf t)) ∙ r;
+      is-kept = cc;
+      own-from = instant-reaches d w o (own-zone d w o z) .from;
     }
 
-pub adjust-keeps-instant : (o : Offset) (d e : DateTime) (t : D.DayTime) (w : Offset) → d .zone ≡ At w
-    → adjustOf (VV.DateTime d) (VV.DayTime t) ≡ gives (VV.DateTime e) → (instantOf o e ≡ instantOf o d) × (e .zone ≡ At (zoneOf t))
-unfolding adjustOf operandTo momentTo
-adjust-keeps-instant o d e t w z h =
-    let a = adjusted-by KV.DateTime d t w (VV.DateTime e) z h in
-    let g : okDateTime d ≡ true = moment-ok KV.DateTime d (a .own-ok) in
+-- a kind with a whole date and a clock
+pub adjust-keeps-instant : (o : Offset) (k : Kind) (d e : DateTime) (t : D.DayTime) (w : Offset) → isDated k ≡ true → isClocked k ≡ true → d .zone ≡ At w
+    → adjustOf (VV.Moment k d) (VV.DayTime t) ≡ gives (VV.Moment k e) → (instantOf o e ≡ instantOf o d) × (e .zone ≡ At (zoneOf t))
+adjust-keeps-instant o k d e t w p q z h =
+    let a = adjusted-by k d e t w z h in
     let i : ℕ = instantAt (localOf d) w in
     let l : ℕ = localAt i (zoneOf t) in
-    let y = given-in-years KV.DateTime l (At (zoneOf t)) (VV.DateTime e) (a .placed) in
-    let f : gives (VV.DateTime (atLocal l (At (zoneOf t)))) ≡ gives (VV.DateTime e) = sym (placed-gives KV.DateTime l (At (zoneOf t)) y) ∙ a .placed in
-    let x : atLocal l (At (zoneOf t)) ≡ e = cc in
-    let r = instant-reaches d w g (own-zone d w g z) in
+    let x : atLocal l (At (zoneOf t)) ≡ e = sym (kept-whole k (atLocal l (At (zoneOf t))) p q) ∙ a .is-kept in
     let n : e .zone ≡ At (zoneOf t) = ap (λ (s : DateTime). s .zone) (sym x) in
     let m : localOf e ≡ l = ap localOf (sym x) ∙ local-of-placed l (At (zoneOf t)) in
-    (own-instant o e (zoneOf t) n ∙ ap (λ (s : ℕ). instantAt s (zoneOf t)) m ∙ instant-back i (zoneOf t) (a .zone-good) (r .from) ∙ sym (own-instant o d w z), n)
+    (own-instant o e (zoneOf t) n ∙ ap (λ (s : ℕ). instantAt s (zoneOf t)) m ∙ instant-back i (zoneOf t) (a .zone-good) (a .own-from) ∙ sym (own-instant o d w z), n)
 
 -- the time of day at a local time
 clock-placed : (l : ℕ) (z : Zone) → clockOf (atLocal l z) ≡ l % dayTicks
 clock-placed l z = clock-at (dateOf (l / dayTicks)) (l % dayTicks) z
 
--- the local time of a time is on the reference day
-abbrev pub referenceDay : ℕ
-referenceDay = dayNumber 1972 12 31
+-- the local time of a kind with a clock alone is on its template's day
+abbrev pub referenceDay : Kind → ℕ
+referenceDay k = dayOf (dateIn (templateOf k))
 
-reference-from : 1 ≤ referenceDay
-unfolding total
-reference-from = omega arith
+reference-from : (k : Kind) → 1 ≤ referenceDay k
+reference-from k = numbered (dateIn (templateOf k)) (row-day (layoutOf k) (templateOf k) (rows-pass k)) .days-from
 
-pub on-reference : (d : DateTime) → localOf (kept KV.Time d) ≡ referenceDay * dayTicks + clockOf d
+day-and-clock : (e : Date) (d : DateTime) (z : Zone) → localOf (atClockOf e d z) ≡ dayOf e * dayTicks + clockOf d
 unfolding localOf
-on-reference d = ap (λ (u : ℕ). referenceDay * dayTicks + u) (clock-kept (dateIn (template KV.Time)) d (d .zone))
+day-and-clock e d z = ap (λ (u : ℕ). dayOf e * dayTicks + u) (clock-kept e d z)
 
-pub adjust-keeps-time : (o : Offset) (d e : DateTime) (t : D.DayTime) (w : Offset) → d .zone ≡ At w
-    → adjustOf (VV.Time d) (VV.DayTime t) ≡ gives (VV.Time e) → (instantOf o e % dayTicks ≡ instantOf o d % dayTicks) × (e .zone ≡ At (zoneOf t))
-unfolding adjustOf operandTo momentTo
-adjust-keeps-time o d e t w z h =
-    let a = adjusted-by KV.Time d t w (VV.Time e) z h in
-    let g : okDateTime d ≡ true = moment-ok KV.Time d (a .own-ok) in
+pub on-reference : (k : Kind) (d : DateTime) → isDated k ≡ false → isClocked k ≡ true → localOf (kept k d) ≡ referenceDay k * dayTicks + clockOf d
+on-reference k d p q = ap localOf (kept-clock k d p q) ∙ day-and-clock (dateIn (templateOf k)) d (d .zone)
+
+pub adjust-keeps-time : (o : Offset) (k : Kind) (d e : DateTime) (t : D.DayTime) (w : Offset) → isDated k ≡ false → isClocked k ≡ true → d .zone ≡ At w
+    → adjustOf (VV.Moment k d) (VV.DayTime t) ≡ gives (VV.Moment k e) → (instantOf o e % dayTicks ≡ instantOf o d % dayTicks) × (e .zone ≡ At (zoneOf t))
+adjust-keeps-time o k d e t w p q z h =
+    let a = adjusted-by k d e t w z h in
     let i : ℕ = instantAt (localOf d) w in
     let l : ℕ = localAt i (zoneOf t) in
-    let y = given-in-years KV.Time l (At (zoneOf t)) (VV.Time e) (a .placed) in
-    let f : gives (VV.Time (kept KV.Time (atLocal l (At (zoneOf t))))) ≡ gives (VV.Time e) = sym (placed-gives KV.Time l (At (zoneOf t)) y) ∙ a .placed in
-    let x : kept KV.Time (atLocal l (At (zoneOf t))) ≡ e = cc in
-    let r = instant-reaches d w g (own-zone d w g z) in
+    let x : kept k (atLocal l (At (zoneOf t))) ≡ e = a .is-kept in
     let n : e .zone ≡ At (zoneOf t) = ap (λ (s : DateTime). s .zone) (sym x) in
-    let m : localOf e ≡ referenceDay * dayTicks + l % dayTicks = ap localOf (sym x) ∙ on-reference (atLocal l (At (zoneOf t))) ∙ ap (λ (u : ℕ). referenceDay * dayTicks + u) (clock-placed l (At (zoneOf t))) in
-    let q : instantOf o e ≡ instantAt (referenceDay * dayTicks + l % dayTicks) (zoneOf t) = own-instant o e (zoneOf t) n ∙ ap (λ (s : ℕ). instantAt s (zoneOf t)) m in (
-      ap (λ (s : ℕ). s % dayTicks) q
-          ∙ round-day referenceDay i (east (zoneOf t)) (west (zoneOf t)) (east-to (zoneOf t) (a .zone-good)) (west-to (zoneOf t) (a .zone-good)) reference-from (r .from)
+    let m : localOf e ≡ referenceDay k * dayTicks + l % dayTicks = ap localOf (sym x) ∙ on-reference k (atLocal l (At (zoneOf t))) p q ∙ ap (λ (u : ℕ). referenceDay k * dayTicks + u) (clock-placed l (At (zoneOf t))) in
+    let r : instantOf o e ≡ instantAt (referenceDay k * dayTicks + l % dayTicks) (zoneOf t) = own-instant o e (zoneOf t) n ∙ ap (λ (s : ℕ). instantAt s (zoneOf t)) m in (
+      ap (λ (s : ℕ). s % dayTicks) r
+          ∙ round-day (referenceDay k) i (east (zoneOf t)) (west (zoneOf t)) (east-to (zoneOf t) (a .zone-good)) (west-to (zoneOf t) (a .zone-good)) (reference-from k) (a .own-from)
           ∙ ap (λ (s : ℕ). s % dayTicks) (sym (own-instant o d w z)),
       n,
     )
 
--- the start of a local time's day
-start-of-day : (x : DateTime) → localOf (kept KV.Date x) + clockOf x ≡ localOf x
+-- the start of a local time's day, which a kind with a whole date alone keeps
+day-started : (x u : DateTime) (z : Zone) → clockOf u ≡ 0 → localOf (atClockOf (dateIn x) u z) + clockOf x ≡ localOf x
 unfolding localOf
-start-of-day x =
-    omega (
-      arith,
-      clock-kept (dateIn x) (template KV.Date) (x .zone),
-      clock-at (dateIn (template KV.Date)) 0 (template KV.Date .zone),
-    )
+day-started x u z e = omega (arith, clock-kept (dateIn x) u z)
+
+start-of-day : (k : Kind) (x : DateTime) → isDated k ≡ true → isClocked k ≡ false → localOf (kept k x) + clockOf x ≡ localOf x
+start-of-day k x p q =
+    ap (λ (y : DateTime). localOf y + clockOf x) (kept-date k x p q)
+    ∙ day-started x (templateOf k) (x .zone) (row-start (layoutOf k) (templateOf k) (rows-pass k))
 
 module _ (l i s e w : ℕ) (he : e ≤ maxZone) (hw : w ≤ maxZone) (hi : dayTicks ≤ i) (hs : dayTicks ≤ s) (hl : l ≡ i + e * minuteTicks - w * minuteTicks) (m : s + l % dayTicks ≡ l) where
   within-day : (s + w * minuteTicks - e * minuteTicks ≤ i) × (i < s + w * minuteTicks - e * minuteTicks + dayTicks)
   within-day = (omega arith, omega arith)
 
-pub adjust-keeps-day : (o : Offset) (d e : DateTime) (t : D.DayTime) (w : Offset) → d .zone ≡ At w
-    → adjustOf (VV.Date d) (VV.DayTime t) ≡ gives (VV.Date e)
+pub adjust-keeps-day : (o : Offset) (k : Kind) (d e : DateTime) (t : D.DayTime) (w : Offset) → isDated k ≡ true → isClocked k ≡ false → d .zone ≡ At w
+    → adjustOf (VV.Moment k d) (VV.DayTime t) ≡ gives (VV.Moment k e)
     → (instantOf o e ≤ instantOf o d) × (instantOf o d < instantOf o e + dayTicks) × (e .zone ≡ At (zoneOf t))
-unfolding adjustOf operandTo momentTo
-adjust-keeps-day o d e t w z h =
-    let a = adjusted-by KV.Date d t w (VV.Date e) z h in
-    let g : okDateTime d ≡ true = moment-ok KV.Date d (a .own-ok) in
+adjust-keeps-day o k d e t w p q z h =
+    let a = adjusted-by k d e t w z h in
     let i : ℕ = instantAt (localOf d) w in
     let l : ℕ = localAt i (zoneOf t) in
-    let y = given-in-years KV.Date l (At (zoneOf t)) (VV.Date e) (a .placed) in
-    let f : gives (VV.Date (kept KV.Date (atLocal l (At (zoneOf t))))) ≡ gives (VV.Date e) = sym (placed-gives KV.Date l (At (zoneOf t)) y) ∙ a .placed in
-    let x : kept KV.Date (atLocal l (At (zoneOf t))) ≡ e = cc in
-    let r = instant-reaches d w g (own-zone d w g z) in
+    let x : kept k (atLocal l (At (zoneOf t))) ≡ e = a .is-kept in
     let n : e .zone ≡ At (zoneOf t) = ap (λ (s : DateTime). s .zone) (sym x) in
-    let k : okDateTime (kept KV.Date (atLocal l (At (zoneOf t)))) ≡ true = ap okDateTime x ∙ moment-ok KV.Date e (adjust-within (VV.Date d) (VV.DayTime t) (VV.Date e) h) in
-    let q = timed (kept KV.Date (atLocal l (At (zoneOf t)))) k .local-from in
-    let m : localOf (kept KV.Date (atLocal l (At (zoneOf t)))) + l % dayTicks ≡ l = ap (λ (u : ℕ). localOf (kept KV.Date (atLocal l (At (zoneOf t)))) + u) (sym (clock-placed l (At (zoneOf t)))) ∙ start-of-day (atLocal l (At (zoneOf t))) ∙ local-of-placed l (At (zoneOf t)) in
-    let b = within-day l i (localOf (kept KV.Date (atLocal l (At (zoneOf t))))) (east (zoneOf t)) (west (zoneOf t)) (east-to (zoneOf t) (a .zone-good)) (west-to (zoneOf t) (a .zone-good)) (r .from) q refl m in
-    let c : instantOf o e ≡ instantAt (localOf (kept KV.Date (atLocal l (At (zoneOf t))))) (zoneOf t) = own-instant o e (zoneOf t) n ∙ ap (λ (s : DateTime). instantAt (localOf s) (zoneOf t)) (sym x) in
+    let g : okDateTime e ≡ true = moment-good (VV.Moment k e) (adjust-within (VV.Moment k d) (VV.DayTime t) (VV.Moment k e) h) k e refl .1 in
+    let m : localOf e + l % dayTicks ≡ l = (λ j. localOf (sym x j) + sym (clock-placed l (At (zoneOf t))) j) ∙ start-of-day k (atLocal l (At (zoneOf t))) p q ∙ local-of-placed l (At (zoneOf t)) in
+    let b = within-day l i (localOf e) (east (zoneOf t)) (west (zoneOf t)) (east-to (zoneOf t) (a .zone-good)) (west-to (zoneOf t) (a .zone-good)) (a .own-from) (timed e g .local-from) refl m in
+    let c : instantOf o e ≡ instantAt (localOf e) (zoneOf t) = own-instant o e (zoneOf t) n in
     let u : instantOf o d ≡ i = own-instant o d w z in
     (omega (arith, b .0), omega (arith, b .1), n)

@@ -1,13 +1,14 @@
 -- The numbers that each call refuses with: comparing, casting and removing a zone 16 and 9; adjustment 16, 9, 5 and 4.
 -- (Those of plus, minus and times are in crate `operation_arithmetic`.)
 use mathlib.Core.Path.{_≡_, refl}
-use mathlib.Core.Bool.{Bool, true, false}
+use mathlib.Core.Bool.{true}
 use mathlib.Core.List.{List, [], _∷_}
 use Prim.Native.Nat.{ℕ}
 use Rattle.basis.specs.Choice.{pick, both, among}
-use Rattle.basis.specs.Answer.{Reason, Answer, gives, refusesFor, refuses}
+use Rattle.basis.specs.Answer.{Reason, gives, refusesFor, refuses}
 use Rattle.value.specs.Refusals.{outside, wrongKind, badZone, beyondResult}
 use Rattle.value.specs.Values.{okOffset}
+use Rattle.value.specs.Rows.{sameKind}
 use Rattle.value.specs.Kinds.{kindOf, okValue}
 use Rattle.value_instants.specs.Ticks.{localOf, instantAt}
 use Rattle.value.specs.declared.Offset.{Offset}
@@ -16,14 +17,12 @@ use Rattle.value.specs.declared.Zone.the-variants.{Absent, At}
 use Rattle.value.specs.declared.DateTime.{DateTime}
 use Rattle.value.specs.declared.Kind.{Kind}
 use Rattle.value.specs.declared.Value.{Value}
+use Rattle.value.specs.declared.Value.the-variants.{Moment, DayTime, YearMonth}
 use Rattle.value.proofs.Numbers.{only, only-either, only-refused}
-use Rattle.operation_quantities.specs.Operands.{operandOf, sameKind}
-use Rattle.operation_quantities.specs.declared.Operand.{Operand}
-use Rattle.operation_quantities.specs.declared.Operand.the-variants.{Moment, DayTime, YearMonth}
 use Rattle.operation_quantities.proofs.Numbers.{placed-numbers}
-use Rattle.operation_ordering.specs.Order.{operandOrder, orderIn, orderFor}
+use Rattle.operation_ordering.specs.Order.{valueOrder, orderIn, orderFor}
 use Rattle.operation_casting.specs.Casts.{castsTo, castTo, castOf}
-use Rattle.operation_adjusting.specs.Adjustment.{isZone, zoneOf, localAt, adjustedFrom, momentTo, operandTo, adjustOf, withoutZone, unzoneOf}
+use Rattle.operation_adjusting.specs.Adjustment.{isZone, zoneOf, localAt, adjustedFrom, momentTo, valueTo, adjustOf, withoutZone, unzoneOf}
 
 abbrev pub kindNumbers : List ℕ
 kindNumbers = outside ∷ wrongKind ∷ []
@@ -35,8 +34,8 @@ order-numbers : (o : Offset) (a b : Value) → only kindNumbers (orderIn o a b) 
 unfolding orderIn
 order-numbers o a b =
     only-either kindNumbers (both (okValue a) (okValue b))
-    (pick (sameKind (kindOf a) (kindOf b)) (gives (operandOrder o (operandOf a) (operandOf b))) (refuses wrongKind)) (refuses outside)
-    (only-either kindNumbers (sameKind (kindOf a) (kindOf b)) (gives (operandOrder o (operandOf a) (operandOf b))) (refuses wrongKind) refl refl) refl
+    (pick (sameKind (kindOf a) (kindOf b)) (gives (valueOrder o a b)) (refuses wrongKind)) (refuses outside)
+    (only-either kindNumbers (sameKind (kindOf a) (kindOf b)) (gives (valueOrder o a b)) (refuses wrongKind) refl refl) refl
 
 pub compare-refuses : (o : Offset) (a b : Value) (r : Reason) → orderIn o a b ≡ refusesFor r → among kindNumbers (r .number) ≡ true
 compare-refuses o a b r e = only-refused kindNumbers (orderIn o a b) r (order-numbers o a b) e
@@ -52,11 +51,11 @@ pub cast-refuses : (a : Value) (k : Kind) (r : Reason) → castOf a k ≡ refuse
 unfolding castOf
 cast-refuses a k r e =
     only-refused kindNumbers (castOf a k) r
-    (only-either kindNumbers (okValue a) (pick (castsTo (kindOf a) k) (gives (castTo k (operandOf a))) (refuses wrongKind)) (refuses outside)
-    (only-either kindNumbers (castsTo (kindOf a) k) (gives (castTo k (operandOf a))) (refuses wrongKind) refl refl) refl)
+    (only-either kindNumbers (okValue a) (pick (castsTo (kindOf a) k) (gives (castTo k a)) (refuses wrongKind)) (refuses outside)
+    (only-either kindNumbers (castsTo (kindOf a) k) (gives (castTo k a)) (refuses wrongKind) refl refl) refl)
     e
 
-without-numbers : (x : Operand) → only kindNumbers (withoutZone x) ≡ true
+without-numbers : (x : Value) → only kindNumbers (withoutZone x) ≡ true
 unfolding withoutZone
 without-numbers (Moment k d) = refl
 without-numbers (DayTime t) = refl
@@ -66,7 +65,7 @@ pub unzone-refuses : (a : Value) (r : Reason) → unzoneOf a ≡ refusesFor r �
 unfolding unzoneOf
 unzone-refuses a r e =
     only-refused kindNumbers (unzoneOf a) r
-    (only-either kindNumbers (okValue a) (withoutZone (operandOf a)) (refuses outside) (without-numbers (operandOf a)) refl)
+    (only-either kindNumbers (okValue a) (withoutZone a) (refuses outside) (without-numbers a) refl)
     e
 
 adjusted-numbers : (k : Kind) (d : DateTime) (x : Zone) (z : Offset) → only adjustNumbers (adjustedFrom k d x z) ≡ true
@@ -74,23 +73,23 @@ unfolding adjustedFrom
 adjusted-numbers k d Absent z = refl
 adjusted-numbers k d (At w) z = placed-numbers adjustNumbers refl k (localAt (instantAt (localOf d) w) z) (At z)
 
-moment-numbers : (k : Kind) (d : DateTime) (y : Operand) → only adjustNumbers (momentTo k d y) ≡ true
+moment-numbers : (k : Kind) (d : DateTime) (y : Value) → only adjustNumbers (momentTo k d y) ≡ true
 unfolding momentTo
 moment-numbers k d (Moment j e) = refl
 moment-numbers k d (DayTime t) =
     only-either adjustNumbers (isZone t) (adjustedFrom k d (d .zone) (zoneOf t)) (refuses badZone) (adjusted-numbers k d (d .zone) (zoneOf t)) refl
 moment-numbers k d (YearMonth m) = refl
 
-operand-numbers : (x y : Operand) → only adjustNumbers (operandTo x y) ≡ true
-unfolding operandTo
-operand-numbers (Moment k d) y = moment-numbers k d y
-operand-numbers (DayTime t) y = refl
-operand-numbers (YearMonth m) y = refl
+value-numbers : (x y : Value) → only adjustNumbers (valueTo x y) ≡ true
+unfolding valueTo
+value-numbers (Moment k d) y = moment-numbers k d y
+value-numbers (DayTime t) y = refl
+value-numbers (YearMonth m) y = refl
 
 pub adjust-refuses : (a z : Value) (r : Reason) → adjustOf a z ≡ refusesFor r → among adjustNumbers (r .number) ≡ true
 unfolding adjustOf
 adjust-refuses a z r e =
     only-refused adjustNumbers (adjustOf a z) r
-    (only-either adjustNumbers (both (okValue a) (okValue z)) (operandTo (operandOf a) (operandOf z)) (refuses outside)
-    (operand-numbers (operandOf a) (operandOf z)) refl)
+    (only-either adjustNumbers (both (okValue a) (okValue z)) (valueTo a z) (refuses outside)
+    (value-numbers a z) refl)
     e

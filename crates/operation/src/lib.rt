@@ -99,7 +99,7 @@ pub fn adjust(a: Value, zone: Value) -> Outcome
     if !valid::value_ok(zone) {
         return results::refused(Refusal::OUTSIDE);
     }
-    operation_adjusting::operand_to(a, zone)
+    operation_adjusting::value_to(a, zone)
 }
 
 // The zone removed; local fields stay.

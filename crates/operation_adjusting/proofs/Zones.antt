@@ -11,7 +11,7 @@ use Rattle.basis.proofs.Tests.{both-left, both-right, both-true}
 use Rattle.value.specs.Bounds.{maxYear, secondTicks, maxZone, maxDayTime, minuteTicks, dayTicks}
 use Rattle.value.specs.Clocks.{ticksIn}
 use Rattle.value.specs.Values.{okSigned, okDayTime, okOffset, okZone, okDateTime}
-use Rattle.value_instants.specs.Ticks.{utc, localOf, instantAt}
+use Rattle.value_instants.specs.Ticks.{localOf, instantAt}
 use Rattle.value.specs.Carried.{ticksOf, spanOf}
 use Rattle.value.specs.declared.Offset.{Offset}
 use Rattle.value.specs.declared.Offset.the-variants.{East, West}
@@ -20,13 +20,12 @@ use Rattle.value.specs.declared.Zone.the-variants.{Absent, At}
 use Rattle.value.specs.declared.DateTime.{DateTime}
 use Rattle.value.specs.declared.DayTime as D
 use Rattle.value.specs.declared.Kind.{Kind}
-use Rattle.value.specs.declared.Value.{Value}
+use Rattle.value.specs.declared.Value.the-variants.{Moment}
 use Rattle.value.specs.declared.Span.{Span}
 use Rattle.value.proofs.ClockLaws.{day-time-signed}
 use Rattle.value.proofs.Good.{good}
 use Rattle.value_instants.proofs.Within.{timed, east-to, west-to}
 use Rattle.value.proofs.Spans.{span-is}
-use Rattle.operation_quantities.specs.Operands.{valueOf}
 use Rattle.operation_quantities.specs.Results.{atTicks}
 use Rattle.operation_adjusting.specs.Adjustment.{isZone, zoneOf, localAt, withZone, adjustedFrom}
 use Rattle.operation_quantities.proofs.Spanned.{ticks-of, part-of, seconds-of}
@@ -113,9 +112,9 @@ pub local-span : (l s : Span) (n : ℕ) (o : Offset) → l ≡ spanOf n → s �
 local-span l s n o e f = f ∙ ap (λ (x : ℕ). spanOf (localAt x o)) (ticks-of l n e)
 
 -- one adjustment, by the zone that the record has
-pub adjusted-none : (k : Kind) (d r : DateTime) (v : Value) (x : Zone) (z : Offset) → x ≡ Absent → r ≡ withZone d (At z) → v ≡ valueOf k r → gives v ≡ adjustedFrom k d x z
+pub adjusted-none : (k : Kind) (d r : DateTime) (x : Zone) (z : Offset) → x ≡ Absent → r ≡ withZone d (At z) → gives (Moment k r) ≡ adjustedFrom k d x z
 unfolding adjustedFrom
-adjusted-none k d r v x z e f g = (λ i. gives (g i)) ∙ (λ i. gives (valueOf k (f i))) ∙ (λ i. adjustedFrom k d (sym e i) z)
+adjusted-none k d r x z e f = (λ i. gives (Moment k (f i))) ∙ (λ i. adjustedFrom k d (sym e i) z)
 
 pub adjusted-own : (k : Kind) (d : DateTime) (x : Zone) (w z : Offset) → x ≡ At w → atTicks k (localAt (instantAt (localOf d) w) z) (At z) ≡ adjustedFrom k d x z
 unfolding adjustedFrom

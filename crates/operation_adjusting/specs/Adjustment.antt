@@ -20,10 +20,8 @@ use Rattle.value.specs.declared.DateTime.{DateTime}
 use Rattle.value.specs.declared.DayTime as D
 use Rattle.value.specs.declared.Kind.{Kind}
 use Rattle.value.specs.declared.Value.{Value}
-use Rattle.operation_quantities.specs.Operands.{operandOf, valueOf}
+use Rattle.value.specs.declared.Value.the-variants.{Moment, DayTime, YearMonth}
 use Rattle.operation_quantities.specs.Results.{atTicks}
-use Rattle.operation_quantities.specs.declared.Operand.{Operand}
-use Rattle.operation_quantities.specs.declared.Operand.the-variants.{Moment, DayTime, YearMonth}
 
 -- Z is a number of whole minutes, within 14 hours
 unfoldable pub isZone : D.DayTime → Bool
@@ -41,30 +39,30 @@ abbrev pub withZone : DateTime → Zone → DateTime
 withZone d z = atClockOf (dateIn d) d z
 
 unfoldable pub adjustedFrom : Kind → DateTime → Zone → Offset → Answer Value
-adjustedFrom k d Absent z = gives (valueOf k (withZone d (At z)))
+adjustedFrom k d Absent z = gives (Moment k (withZone d (At z)))
 adjustedFrom k d (At w) z = atTicks k (localAt (instantAt (localOf d) w) z) (At z)
 
 abbrev pub adjustedTo : Kind → DateTime → D.DayTime → Answer Value
 adjustedTo k d z = pick (isZone z) (adjustedFrom k d (d .zone) (zoneOf z)) (refuses badZone)
 
 -- Z is a dayTimeDuration, and what is adjusted is none of the durations
-unfoldable pub momentTo : Kind → DateTime → Operand → Answer Value
+unfoldable pub momentTo : Kind → DateTime → Value → Answer Value
 momentTo k d (Moment j e) = refuses wrongKind
 momentTo k d (DayTime z) = adjustedTo k d z
 momentTo k d (YearMonth m) = refuses wrongKind
 
-unfoldable pub operandTo : Operand → Operand → Answer Value
-operandTo (Moment k d) z = momentTo k d z
-operandTo (DayTime t) z = refuses wrongKind
-operandTo (YearMonth m) z = refuses wrongKind
+unfoldable pub valueTo : Value → Value → Answer Value
+valueTo (Moment k d) z = momentTo k d z
+valueTo (DayTime t) z = refuses wrongKind
+valueTo (YearMonth m) z = refuses wrongKind
 
 unfoldable pub adjustOf : Value → Value → Answer Value
-adjustOf a z = pick (both (okValue a) (okValue z)) (operandTo (operandOf a) (operandOf z)) (refuses outside)
+adjustOf a z = pick (both (okValue a) (okValue z)) (valueTo a z) (refuses outside)
 
-unfoldable pub withoutZone : Operand → Answer Value
-withoutZone (Moment k d) = gives (valueOf k (withZone d Absent))
+unfoldable pub withoutZone : Value → Answer Value
+withoutZone (Moment k d) = gives (Moment k (withZone d Absent))
 withoutZone (DayTime t) = refuses wrongKind
 withoutZone (YearMonth m) = refuses wrongKind
 
 unfoldable pub unzoneOf : Value → Answer Value
-unzoneOf a = pick (okValue a) (withoutZone (operandOf a)) (refuses outside)
+unzoneOf a = pick (okValue a) (withoutZone a) (refuses outside)

@@ -1,7 +1,5 @@
 // A value in another zone, or in none.
 use calendar::Date;
-use operation_quantities::Operand;
-use operation_quantities::operands;
 use operation_quantities::results;
 use value::DateTime;
 use value::DayTime;
@@ -21,7 +19,6 @@ ghost use Rattle.value.specs.Bounds.{secondTicks, minuteSeconds, maxZone};
 ghost use Rattle.value.specs.Values.{okOffset, okDateTime, okDayTime};
 ghost use Rattle.value.specs.Kinds.{okValue, meaning};
 ghost use Rattle.value.specs.Carried.{spanOf, ticksOf};
-ghost use Rattle.operation_quantities.specs.Operands.{operandOf};
 ghost use Rattle.operation_adjusting.specs.Adjustment as the;
 
 fn is_zone(z: DayTime) -> bool
@@ -86,7 +83,7 @@ fn adjusted_from(kind: Kind, d: DateTime, z: Offset) -> Outcome
 {
     let own = d.zone;
     match own {
-        Zone::Absent => Outcome::Is(operands::value_of(kind, with_zone(d, Zone::At(z)))),
+        Zone::Absent => Outcome::Is(Value::Moment(kind, with_zone(d, Zone::At(z)))),
         Zone::At(w) => {
             let i = ticks::instant_at(ticks::local(d), w);
             results::at_ticks(kind, local_at(i, z), Zone::At(z))
@@ -106,38 +103,32 @@ fn adjusted_to(kind: Kind, d: DateTime, z: DayTime) -> Outcome
 
 fn moment_to(kind: Kind, d: DateTime, z: Value) -> Outcome
     requires { ⌜ (okDateTime d ≡ true) × (okValue z ≡ true) ⌝ }
-    ensures { λ r. ⌜ meaning r ≡ the.momentTo kind d (operandOf z) ⌝ }
+    ensures { λ r. ⌜ meaning r ≡ the.momentTo kind d z ⌝ }
 {
-    let y = operands::operand(z);
-    match y {
-        Operand::Moment(_, _) => results::refused(Refusal::WRONG_KIND),
-        Operand::DayTime(t) => adjusted_to(kind, d, t),
-        Operand::YearMonth(_) => results::refused(Refusal::WRONG_KIND),
+    match z {
+        Value::Moment(_, _) => results::refused(Refusal::WRONG_KIND),
+        Value::DayTime(t) => adjusted_to(kind, d, t),
+        Value::YearMonth(_) => results::refused(Refusal::WRONG_KIND),
     }
 }
 
-pub fn operand_to(a: Value, z: Value) -> Outcome
+pub fn value_to(a: Value, z: Value) -> Outcome
     requires { ⌜ (okValue a ≡ true) × (okValue z ≡ true) ⌝ }
-    ensures { λ r. ⌜ meaning r ≡ the.operandTo (operandOf a) (operandOf z) ⌝ }
+    ensures { λ r. ⌜ meaning r ≡ the.valueTo a z ⌝ }
 {
-    let x = operands::operand(a);
-    match x {
-        Operand::Moment(kind, d) => moment_to(kind, d, z),
-        Operand::DayTime(_) => results::refused(Refusal::WRONG_KIND),
-        Operand::YearMonth(_) => results::refused(Refusal::WRONG_KIND),
+    match a {
+        Value::Moment(kind, d) => moment_to(kind, d, z),
+        Value::DayTime(_) => results::refused(Refusal::WRONG_KIND),
+        Value::YearMonth(_) => results::refused(Refusal::WRONG_KIND),
     }
 }
 
 pub fn without_zone(a: Value) -> Outcome
-    ensures { λ r. ⌜ meaning r ≡ the.withoutZone (operandOf a) ⌝ }
+    ensures { λ r. ⌜ meaning r ≡ the.withoutZone a ⌝ }
 {
-    let x = operands::operand(a);
-    match x {
-        Operand::Moment(kind, d) => Outcome::Is(operands::value_of(
-            kind,
-            with_zone(d, Zone::Absent),
-        )),
-        Operand::DayTime(_) => results::refused(Refusal::WRONG_KIND),
-        Operand::YearMonth(_) => results::refused(Refusal::WRONG_KIND),
+    match a {
+        Value::Moment(kind, d) => Outcome::Is(Value::Moment(kind, with_zone(d, Zone::Absent))),
+        Value::DayTime(_) => results::refused(Refusal::WRONG_KIND),
+        Value::YearMonth(_) => results::refused(Refusal::WRONG_KIND),
     }
 }

@@ -9,10 +9,8 @@ use Rattle.value.specs.Refusals.{outside}
 use Rattle.value.specs.Durations.{plusHalf, minusHalf, plusTicks, minusTicks}
 use Rattle.value.specs.Kinds.{okValue}
 use Rattle.value.specs.declared.Value.{Value}
-use Rattle.operation_quantities.specs.Operands.{operandOf}
+use Rattle.value.specs.declared.Value.the-variants.{Moment, DayTime, YearMonth}
 use Rattle.operation_quantities.specs.Results.{inTicks, inMonths}
-use Rattle.operation_quantities.specs.declared.Operand.{Operand}
-use Rattle.operation_quantities.specs.declared.Operand.the-variants.{Moment, DayTime, YearMonth}
 use Rattle.operation_arithmetic.specs.Sums.{sumOf, plusOf}
 
 added-turned : (p q : ℕ) → p + q ≡ q + p
@@ -25,7 +23,7 @@ tests-turned true false = refl
 tests-turned false true = refl
 tests-turned false false = refl
 
-sum-turned : (x y : Operand) → sumOf x y ≡ sumOf y x
+sum-turned : (x y : Value) → sumOf x y ≡ sumOf y x
 unfolding sumOf
 sum-turned (Moment k d) (Moment j e) = refl
 sum-turned (Moment k d) (DayTime t) = refl
@@ -43,4 +41,4 @@ sum-turned (YearMonth m) (YearMonth n) =
 
 pub plus-turned : (a b : Value) → plusOf a b ≡ plusOf b a
 unfolding plusOf
-plus-turned a b = λ i. pick (tests-turned (okValue a) (okValue b) i) (sum-turned (operandOf a) (operandOf b) i) (refuses outside)
+plus-turned a b = λ i. pick (tests-turned (okValue a) (okValue b) i) (sum-turned a b i) (refuses outside)

@@ -8,10 +8,8 @@ use Rattle.value.specs.Refusals.{wrongKind, outside}
 use Rattle.value.specs.Durations.{plusHalf, minusHalf, plusTicks, minusTicks}
 use Rattle.value.specs.Kinds.{okValue}
 use Rattle.value.specs.declared.Value.{Value}
-use Rattle.operation_quantities.specs.Operands.{operandOf}
+use Rattle.value.specs.declared.Value.the-variants.{Moment, DayTime, YearMonth}
 use Rattle.operation_quantities.specs.Results.{inTicks, inMonths}
-use Rattle.operation_quantities.specs.declared.Operand.{Operand}
-use Rattle.operation_quantities.specs.declared.Operand.the-variants.{Moment, DayTime, YearMonth}
 
 abbrev pub maxFactor : ℕ
 maxFactor = 999_999
@@ -20,10 +18,10 @@ maxFactor = 999_999
 abbrev pub signedTimes : (ℕ → ℕ → Answer Value) → Bool → ℕ → ℕ → ℕ → Answer Value
 signedTimes result negative n p q = pick negative (result (q * n) (p * n)) (result (p * n) (q * n))
 
-unfoldable pub productOf : Operand → Bool → ℕ → Answer Value
+unfoldable pub productOf : Value → Bool → ℕ → Answer Value
 productOf (Moment k d) negative n = refuses wrongKind
 productOf (DayTime t) negative n = signedTimes inTicks negative n (plusTicks t) (minusTicks t)
 productOf (YearMonth m) negative n = signedTimes inMonths negative n (plusHalf (m .negative) (m .months)) (minusHalf (m .negative) (m .months))
 
 unfoldable pub timesOf : Value → Bool → ℕ → Answer Value
-timesOf a negative n = pick (both (okValue a) (leb n maxFactor)) (productOf (operandOf a) negative n) (refuses outside)
+timesOf a negative n = pick (both (okValue a) (leb n maxFactor)) (productOf a negative n) (refuses outside)

@@ -1,6 +1,5 @@
 // A duration times a whole number, which is a sign and a magnitude.
-use operation_quantities::Operand;
-use operation_quantities::operands;
+use operation_quantities::halves;
 use operation_quantities::results;
 use value::DayTime;
 use value::Outcome;
@@ -13,9 +12,8 @@ ghost use mathlib.Core.Bool.{true};
 ghost use Prim.Native.Nat.{_≤_};
 ghost use Rattle.value.specs.Values.{okDayTime};
 ghost use Rattle.value.specs.Kinds.{okValue, meaning};
-ghost use Rattle.operation_quantities.specs.Operands.{operandOf};
 ghost use Rattle.operation_arithmetic.specs.Products as the;
-ghost use Rattle.operation_quantities.specs.declared.Operand.the-variants as X;
+ghost use Rattle.value.specs.declared.Value.the-variants as VV;
 
 pub const MAX_FACTOR: u32 = 999_999;
 
@@ -27,10 +25,10 @@ pub fn max_factor() -> u32
 
 fn day_time_times(t: DayTime, negative: bool, n: u32) -> Outcome
     requires { ⌜ (okDayTime t ≡ true) × (n ≤ the.maxFactor) ⌝ }
-    ensures { λ r. ⌜ meaning r ≡ the.productOf (X.DayTime t) negative n ⌝ }
+    ensures { λ r. ⌜ meaning r ≡ the.productOf (VV.DayTime t) negative n ⌝ }
 {
-    let p = spans::times(operands::plus_ticks(t), n);
-    let q = spans::times(operands::minus_ticks(t), n);
+    let p = spans::times(halves::plus_ticks(t), n);
+    let q = spans::times(halves::minus_ticks(t), n);
     if negative {
         return results::in_ticks(q, p);
     }
@@ -39,10 +37,10 @@ fn day_time_times(t: DayTime, negative: bool, n: u32) -> Outcome
 
 fn year_month_times(m: YearMonth, negative: bool, n: u32) -> Outcome
     requires { ⌜ n ≤ the.maxFactor ⌝ }
-    ensures { λ r. ⌜ meaning r ≡ the.productOf (X.YearMonth m) negative n ⌝ }
+    ensures { λ r. ⌜ meaning r ≡ the.productOf (VV.YearMonth m) negative n ⌝ }
 {
-    let p = operands::plus_half(m.negative, m.months as u64) * n as u64;
-    let q = operands::minus_half(m.negative, m.months as u64) * n as u64;
+    let p = halves::plus_half(m.negative, m.months as u64) * n as u64;
+    let q = halves::minus_half(m.negative, m.months as u64) * n as u64;
     if negative {
         return results::in_months(q, p);
     }
@@ -51,12 +49,11 @@ fn year_month_times(m: YearMonth, negative: bool, n: u32) -> Outcome
 
 pub fn product(a: Value, negative: bool, n: u32) -> Outcome
     requires { ⌜ (okValue a ≡ true) × (n ≤ the.maxFactor) ⌝ }
-    ensures { λ r. ⌜ meaning r ≡ the.productOf (operandOf a) negative n ⌝ }
+    ensures { λ r. ⌜ meaning r ≡ the.productOf a negative n ⌝ }
 {
-    let x = operands::operand(a);
-    match x {
-        Operand::Moment(_, _) => results::refused(Refusal::WRONG_KIND),
-        Operand::DayTime(t) => day_time_times(t, negative, n),
-        Operand::YearMonth(m) => year_month_times(m, negative, n),
+    match a {
+        Value::Moment(_, _) => results::refused(Refusal::WRONG_KIND),
+        Value::DayTime(t) => day_time_times(t, negative, n),
+        Value::YearMonth(m) => year_month_times(m, negative, n),
     }
 }

@@ -1,6 +1,5 @@
 // Sums and differences, by the kinds of both sides.
-use operation_quantities::Operand;
-use operation_quantities::operands;
+use operation_quantities::halves;
 use operation_quantities::results;
 use operation_shifting::months;
 use operation_shifting::shifts;
@@ -14,6 +13,7 @@ use value::Span;
 use value::Value;
 use value::YearMonth;
 use value::clocks;
+use value::kinds;
 use value::valid;
 use value_instants::spans;
 use value_instants::ticks;
@@ -22,83 +22,78 @@ ghost use mathlib.Core.Bool.{true};
 ghost use Prim.Native.Nat.{_+_, _≤_};
 ghost use lib.Dec.{ltb};
 ghost use Rattle.value.specs.Bounds.{maxYearMonth};
-ghost use Rattle.value.specs.Durations as halves;
+ghost use Rattle.value.specs.Durations as signed;
 ghost use Rattle.value.specs.Values.{okOffset, okDateTime, okDayTime};
 ghost use Rattle.value.specs.Kinds.{okValue, meaning};
 ghost use Rattle.value.specs.Carried.{spanOf};
-ghost use Rattle.operation_quantities.specs.Operands.{operandOf};
 ghost use Rattle.operation_arithmetic.specs.Sums as the;
-ghost use Rattle.operation_quantities.specs.declared.Operand.the-variants as X;
+ghost use Rattle.value.specs.declared.Value.the-variants as VV;
 
 fn moment_plus(kind: Kind, d: DateTime, b: Value) -> Outcome
     requires { ⌜ (okDateTime d ≡ true) × (okValue b ≡ true) ⌝ }
-    ensures { λ r. ⌜ meaning r ≡ the.sumOf (X.Moment kind d) (operandOf b) ⌝ }
+    ensures { λ r. ⌜ meaning r ≡ the.sumOf (VV.Moment kind d) b ⌝ }
 {
-    let y = operands::operand(b);
-    match y {
-        Operand::Moment(_, _) => results::refused(Refusal::WRONG_KIND),
-        Operand::DayTime(t) => shifts::shifted(kind, d, t),
-        Operand::YearMonth(m) => months::moved(kind, d, m),
+    match b {
+        Value::Moment(_, _) => results::refused(Refusal::WRONG_KIND),
+        Value::DayTime(t) => shifts::shifted(kind, d, t),
+        Value::YearMonth(m) => months::moved(kind, d, m),
     }
 }
 
 fn plus_halves(a: DayTime, b: DayTime) -> Span
     requires { ⌜ (okDayTime a ≡ true) × (okDayTime b ≡ true) ⌝ }
-    ensures { λ r. ⌜ r ≡ spanOf (halves.plusTicks a + halves.plusTicks b) ⌝ }
+    ensures { λ r. ⌜ r ≡ spanOf (signed.plusTicks a + signed.plusTicks b) ⌝ }
 {
-    spans::plus(operands::plus_ticks(a), operands::plus_ticks(b))
+    spans::plus(halves::plus_ticks(a), halves::plus_ticks(b))
 }
 
 fn minus_halves(a: DayTime, b: DayTime) -> Span
     requires { ⌜ (okDayTime a ≡ true) × (okDayTime b ≡ true) ⌝ }
-    ensures { λ r. ⌜ r ≡ spanOf (halves.minusTicks a + halves.minusTicks b) ⌝ }
+    ensures { λ r. ⌜ r ≡ spanOf (signed.minusTicks a + signed.minusTicks b) ⌝ }
 {
-    spans::plus(operands::minus_ticks(a), operands::minus_ticks(b))
+    spans::plus(halves::minus_ticks(a), halves::minus_ticks(b))
 }
 
 fn day_time_plus(t: DayTime, b: Value) -> Outcome
     requires { ⌜ (okDayTime t ≡ true) × (okValue b ≡ true) ⌝ }
-    ensures { λ r. ⌜ meaning r ≡ the.sumOf (X.DayTime t) (operandOf b) ⌝ }
+    ensures { λ r. ⌜ meaning r ≡ the.sumOf (VV.DayTime t) b ⌝ }
 {
-    let y = operands::operand(b);
-    match y {
-        Operand::Moment(kind, d) => shifts::shifted(kind, d, t),
-        Operand::DayTime(s) => results::in_ticks(plus_halves(t, s), minus_halves(t, s)),
-        Operand::YearMonth(_) => results::refused(Refusal::WRONG_KIND),
+    match b {
+        Value::Moment(kind, d) => shifts::shifted(kind, d, t),
+        Value::DayTime(s) => results::in_ticks(plus_halves(t, s), minus_halves(t, s)),
+        Value::YearMonth(_) => results::refused(Refusal::WRONG_KIND),
     }
 }
 
 fn months_sum(a: YearMonth, b: YearMonth) -> Outcome
-    ensures { λ r. ⌜ meaning r ≡ the.sumOf (X.YearMonth a) (X.YearMonth b) ⌝ }
+    ensures { λ r. ⌜ meaning r ≡ the.sumOf (VV.YearMonth a) (VV.YearMonth b) ⌝ }
 {
-    let p = operands::plus_half(a.negative, a.months as u64);
-    let q = operands::minus_half(a.negative, a.months as u64);
-    let r = operands::plus_half(b.negative, b.months as u64);
-    let s = operands::minus_half(b.negative, b.months as u64);
+    let p = halves::plus_half(a.negative, a.months as u64);
+    let q = halves::minus_half(a.negative, a.months as u64);
+    let r = halves::plus_half(b.negative, b.months as u64);
+    let s = halves::minus_half(b.negative, b.months as u64);
     results::in_months(p + r, q + s)
 }
 
 fn year_month_plus(m: YearMonth, b: Value) -> Outcome
     requires { ⌜ (m .months ≤ maxYearMonth) × (okValue b ≡ true) ⌝ }
-    ensures { λ r. ⌜ meaning r ≡ the.sumOf (X.YearMonth m) (operandOf b) ⌝ }
+    ensures { λ r. ⌜ meaning r ≡ the.sumOf (VV.YearMonth m) b ⌝ }
 {
-    let y = operands::operand(b);
-    match y {
-        Operand::Moment(kind, d) => months::moved(kind, d, m),
-        Operand::DayTime(_) => results::refused(Refusal::WRONG_KIND),
-        Operand::YearMonth(n) => months_sum(m, n),
+    match b {
+        Value::Moment(kind, d) => months::moved(kind, d, m),
+        Value::DayTime(_) => results::refused(Refusal::WRONG_KIND),
+        Value::YearMonth(n) => months_sum(m, n),
     }
 }
 
 pub fn sum(a: Value, b: Value) -> Outcome
     requires { ⌜ (okValue a ≡ true) × (okValue b ≡ true) ⌝ }
-    ensures { λ r. ⌜ meaning r ≡ the.sumOf (operandOf a) (operandOf b) ⌝ }
+    ensures { λ r. ⌜ meaning r ≡ the.sumOf a b ⌝ }
 {
-    let x = operands::operand(a);
-    match x {
-        Operand::Moment(kind, d) => moment_plus(kind, d, b),
-        Operand::DayTime(t) => day_time_plus(t, b),
-        Operand::YearMonth(m) => year_month_plus(m, b),
+    match a {
+        Value::Moment(kind, d) => moment_plus(kind, d, b),
+        Value::DayTime(t) => day_time_plus(t, b),
+        Value::YearMonth(m) => year_month_plus(m, b),
     }
 }
 
@@ -107,14 +102,14 @@ fn opposite(t: DayTime) -> DayTime
     requires { ⌜ okDayTime t ≡ true ⌝ }
     ensures { λ r. ⌜ r ≡ the.opposite t ⌝ }
 {
-    let p = operands::plus_ticks(t);
-    let q = operands::minus_ticks(t);
+    let p = halves::plus_ticks(t);
+    let q = halves::minus_ticks(t);
     clocks::lasting(spans::is_less(q, p), clocks::size(t))
 }
 
 // Zero has no sign.
 fn opposite_sign(negative: bool, n: u64) -> bool
-    ensures { λ r. ⌜ r ≡ ltb (halves.minusHalf negative n) (halves.plusHalf negative n) ⌝ }
+    ensures { λ r. ⌜ r ≡ ltb (signed.minusHalf negative n) (signed.plusHalf negative n) ⌝ }
 {
     if negative { false } else { 0 < n }
 }
@@ -130,30 +125,28 @@ fn opposite_months(m: YearMonth) -> YearMonth
 
 fn less_moment(a: Value, kind: Kind, e: DateTime, given: Offset) -> Outcome
     requires { ⌜ (okValue a ≡ true) × (okDateTime e ≡ true) × (okOffset given ≡ true) ⌝ }
-    ensures { λ r. ⌜ meaning r ≡ the.lessMoment given (operandOf a) kind e ⌝ }
+    ensures { λ r. ⌜ meaning r ≡ the.lessMoment given a kind e ⌝ }
 {
-    let x = operands::operand(a);
-    match x {
-        Operand::Moment(own, d) => {
-            if !operands::same_kind(own, kind) {
+    match a {
+        Value::Moment(own, d) => {
+            if !kinds::same(own, kind) {
                 return results::refused(Refusal::WRONG_KIND);
             }
             results::in_ticks(ticks::instant(d, given), ticks::instant(e, given))
         }
-        Operand::DayTime(_) => results::refused(Refusal::WRONG_KIND),
-        Operand::YearMonth(_) => results::refused(Refusal::WRONG_KIND),
+        Value::DayTime(_) => results::refused(Refusal::WRONG_KIND),
+        Value::YearMonth(_) => results::refused(Refusal::WRONG_KIND),
     }
 }
 
 fn difference(a: Value, b: Value, given: Offset) -> Outcome
     requires { ⌜ (okValue a ≡ true) × (okValue b ≡ true) × (okOffset given ≡ true) ⌝ }
-    ensures { λ r. ⌜ meaning r ≡ the.differenceIn given (operandOf a) (operandOf b) ⌝ }
+    ensures { λ r. ⌜ meaning r ≡ the.differenceIn given a b ⌝ }
 {
-    let y = operands::operand(b);
-    match y {
-        Operand::Moment(kind, e) => less_moment(a, kind, e, given),
-        Operand::DayTime(t) => sum(a, Value::DayTime(opposite(t))),
-        Operand::YearMonth(m) => sum(a, Value::YearMonth(opposite_months(m))),
+    match b {
+        Value::Moment(kind, e) => less_moment(a, kind, e, given),
+        Value::DayTime(t) => sum(a, Value::DayTime(opposite(t))),
+        Value::YearMonth(m) => sum(a, Value::YearMonth(opposite_months(m))),
     }
 }
 

@@ -14,6 +14,7 @@ use Rattle.value.specs.Refusals.{outside, wrongKind}
 use Rattle.value.specs.Clocks.{ticksIn}
 use Rattle.value.specs.Durations.{plusHalf, minusHalf}
 use Rattle.value.specs.Values.{okSigned, okOffset}
+use Rattle.value.specs.Rows.{kindNumber, sameKind}
 use Rattle.value.specs.Kinds.{kindOf, okValue}
 use Rattle.value_instants.specs.Ticks.{instantOf}
 use Rattle.value.specs.declared.Offset.{Offset}
@@ -25,10 +26,8 @@ use Rattle.value.specs.declared.Value.{Value}
 use Rattle.value.specs.declared.Value.the-variants as VV
 use Rattle.value.proofs.ClockLaws.{one-duration, day-time-signed}
 use Rattle.value.proofs.Signs.{same-difference, signed-back}
-use Rattle.operation_quantities.specs.Operands.{operandOf, kindNumber, sameKind}
-use Rattle.operation_quantities.specs.declared.Operand.the-variants.{Moment}
 use Rattle.operation_quantities.proofs.Given.{given-test, given-rest, gives-same}
-use Rattle.operation_ordering.specs.Order.{Order, less, equal, greater, up, down, order, operandOrder, orderIn, orderFor}
+use Rattle.operation_ordering.specs.Order.{Order, less, equal, greater, up, down, order, valueOrder, orderIn, orderFor}
 
 -- a zone within the bounds is the one that values without zone count in
 pub order-in-zone : (zone : Offset) (a b : Value) → okOffset zone ≡ true → orderFor zone a b ≡ orderIn zone a b
@@ -95,26 +94,26 @@ pub record Comparable (a b : Value) : Type 0 where
 
 module _ (o : Offset) where
   -- any two values of a kind have exactly one of the three orders
-  pub ordered : (a b : Value) → Comparable a b → orderIn o a b ≡ gives (operandOrder o (operandOf a) (operandOf b))
+  pub ordered : (a b : Value) → Comparable a b → orderIn o a b ≡ gives (valueOrder o a b)
   unfolding orderIn
   ordered a b c =
       let t : both (okValue a) (okValue b) ≡ true = both-true _ _ (c .left-ok) (c .right-ok) in
-      (λ i. pick (t i) (pick (sameKind (kindOf a) (kindOf b)) (gives (operandOrder o (operandOf a) (operandOf b))) (refuses wrongKind)) (refuses outside))
-      ∙ (λ i. pick (c .same i) (gives (operandOrder o (operandOf a) (operandOf b))) (refuses wrongKind))
+      (λ i. pick (t i) (pick (sameKind (kindOf a) (kindOf b)) (gives (valueOrder o a b)) (refuses wrongKind)) (refuses outside))
+      ∙ (λ i. pick (c .same i) (gives (valueOrder o a b)) (refuses wrongKind))
 
   module _ (a b : Value) (r : Order) (e : orderIn o a b ≡ gives r) where
     pub comparable : Comparable a b
     unfolding orderIn
     comparable =
-        let t = given-test (both (okValue a) (okValue b)) (pick (sameKind (kindOf a) (kindOf b)) (gives (operandOrder o (operandOf a) (operandOf b))) (refuses wrongKind)) outside r e in
-        let f = given-rest (both (okValue a) (okValue b)) (pick (sameKind (kindOf a) (kindOf b)) (gives (operandOrder o (operandOf a) (operandOf b))) (refuses wrongKind)) outside r e in
+        let t = given-test (both (okValue a) (okValue b)) (pick (sameKind (kindOf a) (kindOf b)) (gives (valueOrder o a b)) (refuses wrongKind)) outside r e in
+        let f = given-rest (both (okValue a) (okValue b)) (pick (sameKind (kindOf a) (kindOf b)) (gives (valueOrder o a b)) (refuses wrongKind)) outside r e in
         record {
           left-ok = both-left _ _ t;
           right-ok = both-right _ _ t;
-          same = given-test (sameKind (kindOf a) (kindOf b)) (gives (operandOrder o (operandOf a) (operandOf b))) wrongKind r f;
+          same = given-test (sameKind (kindOf a) (kindOf b)) (gives (valueOrder o a b)) wrongKind r f;
         }
 
-    order-of : operandOrder o (operandOf a) (operandOf b) ≡ r
+    order-of : valueOrder o a b ≡ r
     order-of = gives-same _ _ (sym (ordered a b comparable) ∙ e)
 
   over : (a b c : Value) → Comparable a b → Comparable b c → Comparable a c
@@ -135,7 +134,7 @@ module _ (o : Offset) where
 
   -- the sides that are compared
   abbrev side : Value → Value → ℕ
-  side a b = up o (operandOf a) + down o (operandOf b)
+  side a b = up o a + down o b
 
   pub equal-itself : (a : Value) → okValue a ≡ true → orderIn o a a ≡ gives equal
   equal-itself a g =
@@ -182,14 +181,14 @@ module _ (o : Offset) where
       ordered a c (over a b c (comparable a b equal e) (comparable b c less f)) ∙ ap gives (less-order (side a c) (side c a) (omega arith))
 
   -- equal dates, times and dateTimes have one instant, and values of one kind and instant are equal
-  module _ (a b : Value) (k : Kind) (d e : DateTime) (ea : operandOf a ≡ Moment k d) (eb : operandOf b ≡ Moment k e) where
+  module _ (a b : Value) (k : Kind) (d e : DateTime) (ea : a ≡ VV.Moment k d) (eb : b ≡ VV.Moment k e) where
     sides : (side a b ≡ instantOf o d) × (side b a ≡ instantOf o e)
     unfolding up down
     sides =
-        let pa : up o (operandOf a) ≡ instantOf o d = ap (up o) ea in
-        let qa : down o (operandOf a) ≡ 0 = ap (down o) ea in
-        let pb : up o (operandOf b) ≡ instantOf o e = ap (up o) eb in
-        let qb : down o (operandOf b) ≡ 0 = ap (down o) eb in
+        let pa : up o a ≡ instantOf o d = ap (up o) ea in
+        let qa : down o a ≡ 0 = ap (down o) ea in
+        let pb : up o b ≡ instantOf o e = ap (up o) eb in
+        let qb : down o b ≡ 0 = ap (down o) eb in
         (omega arith, omega arith)
 
     pub equal-instants : orderIn o a b ≡ gives equal → instantOf o d ≡ instantOf o e

@@ -9,13 +9,12 @@ use Rattle.value.specs.Reasons.{reasonOf}
 use Rattle.value.specs.Refusals.{outside, wrongKind}
 use Rattle.value.specs.Durations.{plusHalf, minusHalf, plusTicks, minusTicks}
 use Rattle.value.specs.Values.{okOffset}
+use Rattle.value.specs.Rows.{sameKind}
 use Rattle.value.specs.Kinds.{kindOf, okValue}
 use Rattle.value_instants.specs.Ticks.{instantOf}
 use Rattle.value.specs.declared.Offset.{Offset}
 use Rattle.value.specs.declared.Value.{Value}
-use Rattle.operation_quantities.specs.Operands.{operandOf, sameKind}
-use Rattle.operation_quantities.specs.declared.Operand.{Operand}
-use Rattle.operation_quantities.specs.declared.Operand.the-variants.{Moment, DayTime, YearMonth}
+use Rattle.value.specs.declared.Value.the-variants.{Moment, DayTime, YearMonth}
 use Rattle.operation_ordering.specs.declared.Compared.{Compared}
 use Rattle.operation_ordering.specs.declared.Compared.the-variants as CV
 
@@ -33,12 +32,12 @@ comparedMeaning (CV.Refused r) = refusesFor (reasonOf r)
 
 -- what a value is ordered by, as the whole number up - down: its instant (a date is at 00:00:00, a time on 1972-12-31),
 -- or a duration's number
-unfoldable pub up : Offset → Operand → ℕ
+unfoldable pub up : Offset → Value → ℕ
 up o (Moment k d) = instantOf o d
 up o (DayTime t) = plusTicks t
 up o (YearMonth m) = plusHalf (m .negative) (m .months)
 
-unfoldable pub down : Offset → Operand → ℕ
+unfoldable pub down : Offset → Value → ℕ
 down o (Moment k d) = 0
 down o (DayTime t) = minusTicks t
 down o (YearMonth m) = minusHalf (m .negative) (m .months)
@@ -46,15 +45,15 @@ down o (YearMonth m) = minusHalf (m .negative) (m .months)
 abbrev pub order : ℕ → ℕ → Order
 order p q = pick (ltb p q) less (pick (ltb q p) greater equal)
 
--- the order of two operands: that of up - down
-abbrev pub operandOrder : Offset → Operand → Operand → Order
-operandOrder o x y = order (up o x + down o y) (up o y + down o x)
+-- the order of two values of one kind: that of up - down
+abbrev pub valueOrder : Offset → Value → Value → Order
+valueOrder o x y = order (up o x + down o y) (up o y + down o x)
 
 unfoldable pub orderIn : Offset → Value → Value → Answer Order
 orderIn o a b =
     pick
     (both (okValue a) (okValue b))
-    (pick (sameKind (kindOf a) (kindOf b)) (gives (operandOrder o (operandOf a) (operandOf b))) (refuses wrongKind))
+    (pick (sameKind (kindOf a) (kindOf b)) (gives (valueOrder o a b)) (refuses wrongKind))
     (refuses outside)
 
 -- in any zone: one beyond its bounds is 16

@@ -1,11 +1,11 @@
 // What a value is ordered by: a whole number, as one span less another.
-use operation_quantities::Operand;
-use operation_quantities::operands;
+use operation_quantities::halves;
 use value::Offset;
 use value::Refusal;
 use value::Span;
 use value::Value;
 use value::clocks;
+use value::kinds;
 use value::valid;
 use value_instants::spans;
 use value_instants::ticks;
@@ -16,7 +16,6 @@ ghost use Rattle.basis.specs.Answer.{gives, refuses};
 ghost use Rattle.value.specs.Values.{okOffset};
 ghost use Rattle.value.specs.Kinds.{okValue};
 ghost use Rattle.value.specs.Carried.{spanOf};
-ghost use Rattle.operation_quantities.specs.Operands.{operandOf};
 ghost use Rattle.operation_ordering.specs.Order as the;
 
 // What a call that compares answers.
@@ -30,32 +29,30 @@ pub enum Compared {
 // Months stand as so many ticks: only durations of one kind are compared.
 fn up(v: Value, given: Offset) -> Span
     requires { ⌜ (okValue v ≡ true) × (okOffset given ≡ true) ⌝ }
-    ensures { λ r. ⌜ r ≡ spanOf (the.up given (operandOf v)) ⌝ }
+    ensures { λ r. ⌜ r ≡ spanOf (the.up given v) ⌝ }
 {
-    let x = operands::operand(v);
-    match x {
-        Operand::Moment(_, d) => ticks::instant(d, given),
-        Operand::DayTime(t) => operands::plus_ticks(t),
-        Operand::YearMonth(m) => clocks::span(operands::plus_half(m.negative, m.months as u64)),
+    match v {
+        Value::Moment(_, d) => ticks::instant(d, given),
+        Value::DayTime(t) => halves::plus_ticks(t),
+        Value::YearMonth(m) => clocks::span(halves::plus_half(m.negative, m.months as u64)),
     }
 }
 
 fn down(v: Value, given: Offset) -> Span
     requires { ⌜ okValue v ≡ true ⌝ }
-    ensures { λ r. ⌜ r ≡ spanOf (the.down given (operandOf v)) ⌝ }
+    ensures { λ r. ⌜ r ≡ spanOf (the.down given v) ⌝ }
 {
-    let x = operands::operand(v);
-    match x {
-        Operand::Moment(_, _) => clocks::span(0),
-        Operand::DayTime(t) => operands::minus_ticks(t),
-        Operand::YearMonth(m) => clocks::span(operands::minus_half(m.negative, m.months as u64)),
+    match v {
+        Value::Moment(_, _) => clocks::span(0),
+        Value::DayTime(t) => halves::minus_ticks(t),
+        Value::YearMonth(m) => clocks::span(halves::minus_half(m.negative, m.months as u64)),
     }
 }
 
 // One side of the comparison: a is less than b where a's up and b's down are less than b's up and a's down.
 fn side(a: Value, b: Value, given: Offset) -> Span
     requires { ⌜ (okValue a ≡ true) × (okValue b ≡ true) × (okOffset given ≡ true) ⌝ }
-    ensures { λ r. ⌜ r ≡ spanOf (the.up given (operandOf a) + the.down given (operandOf b)) ⌝ }
+    ensures { λ r. ⌜ r ≡ spanOf (the.up given a + the.down given b) ⌝ }
 {
     let p = up(a, given);
     let q = down(b, given);
@@ -64,7 +61,7 @@ fn side(a: Value, b: Value, given: Offset) -> Span
 
 fn order_of(a: Value, b: Value, given: Offset) -> Compared
     requires { ⌜ (okValue a ≡ true) × (okValue b ≡ true) × (okOffset given ≡ true) ⌝ }
-    ensures { λ r. ⌜ the.comparedMeaning r ≡ gives (the.operandOrder given (operandOf a) (operandOf b)) ⌝ }
+    ensures { λ r. ⌜ the.comparedMeaning r ≡ gives (the.valueOrder given a b) ⌝ }
 {
     let p = side(a, b, given);
     let q = side(b, a, given);
@@ -94,7 +91,7 @@ pub fn compare_in(a: Value, b: Value, given: Offset) -> Compared
     if !valid::value_ok(b) {
         return refused(Refusal::OUTSIDE);
     }
-    if !operands::same_kind(a.kind(), b.kind()) {
+    if !kinds::same(a.kind(), b.kind()) {
         return refused(Refusal::WRONG_KIND);
     }
     order_of(a, b, given)

@@ -1,4 +1,3 @@
-pub mod Shapes
 pub mod Spanned
 pub mod Bounded
 pub mod Given

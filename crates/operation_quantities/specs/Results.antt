@@ -5,7 +5,7 @@ use Rattle.basis.specs.Answer.{Answer, gives, refuses}
 use Rattle.value.specs.Refusals.{beyondResult}
 use Rattle.value.specs.Values.{okDayTime, okYearMonth}
 use Rattle.value.specs.Durations.{lessTicks, lessMonths}
-use Rattle.value.specs.Kinds.{kept}
+use Rattle.value.specs.Rows.{kept}
 use Rattle.value_instants.specs.Ticks.{placedAt}
 use Rattle.value.specs.declared.Zone.{Zone}
 use Rattle.value.specs.declared.Kind.{Kind}
@@ -13,7 +13,6 @@ use Rattle.value.specs.declared.Value.{Value}
 use Rattle.value.specs.declared.Value.the-variants as VV
 use Rattle.value_instants.specs.declared.Placed.{Placed}
 use Rattle.value_instants.specs.declared.Placed.the-variants as PV
-use Rattle.operation_quantities.specs.Operands.{valueOf}
 
 -- the dayTimeDuration of p - q ticks, and the yearMonthDuration of p - q months
 unfoldable pub inTicks : ℕ → ℕ → Answer Value
@@ -24,7 +23,7 @@ inMonths p q = pick (okYearMonth (lessMonths p q)) (gives (VV.YearMonth (lessMon
 
 -- what a kind keeps of the record with a local time
 abbrev pub ofPlaced : Kind → Placed → Answer Value
-ofPlaced k (PV.At d) = gives (valueOf k (kept k d))
+ofPlaced k (PV.At d) = gives (VV.Moment k (kept k d))
 ofPlaced k PV.Beyond = refuses beyondResult
 
 unfoldable pub atTicks : Kind → ℕ → Zone → Answer Value

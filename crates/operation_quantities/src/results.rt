@@ -1,5 +1,4 @@
 // Results: a value, or that it is beyond its kind's bounds.
-use crate::operands;
 use value::Kind;
 use value::Outcome;
 use value::Refusal;
@@ -82,7 +81,7 @@ pub fn at_ticks(kind: Kind, t: Span, zone: Zone) -> Outcome
 {
     let found = ticks::placed(t, zone);
     match found {
-        Placed::At(d) => Outcome::Is(operands::value_of(kind, kinds::kept(kind, d))),
+        Placed::At(d) => Outcome::Is(Value::Moment(kind, kinds::kept(kind, d))),
         Placed::Beyond => refused(Refusal::BEYOND_RESULT),
     }
 }

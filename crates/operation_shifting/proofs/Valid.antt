@@ -5,34 +5,33 @@ use Prim.Native.Nat.{ℕ, _+_, _-_, _/_, _%_, _≤_}
 use native.Mathlib.Omega.{arith}
 use lib.Dec.{leb}
 use borrow.Author.Tests.{leb-true}
-use Rattle.basis.specs.Choice.{pick, both, every}
-use Rattle.basis.proofs.Tests.{both-left, both-right, both-true}
+use Rattle.basis.specs.Choice.{pick, both}
+use Rattle.basis.specs.Answer.{gives, refuses}
+use Rattle.basis.proofs.Tests.{both-left, both-right}
 use Rattle.calendar.specs.Calendar.{monthDays, monthCount}
 use Rattle.value.specs.Bounds.{minYear, maxYear}
-use Rattle.value.specs.Clocks.{clockOf, atClock, atClockOf}
-use Rattle.value.specs.Refusals.{beyondResult}
-use Rattle.value.specs.Values.{okDate, okZone, okTimePart, okDateTime, okDayTime, okYearMonth}
+use Rattle.value.specs.Clocks.{clockOf}
+use Rattle.value.specs.Refusals.{beyondResult, wrongKind}
+use Rattle.value.specs.Values.{okZone, okDateTime, okDayTime, okYearMonth, dateIn}
 use Rattle.value.specs.Durations.{lessTicks, lessMonths}
-use Rattle.value.specs.Values.{dateIn}
-use Rattle.value.specs.Kinds.{template, kept, ofKind, okValue}
+use Rattle.value.specs.Rows.{isMoment, isDated, isClocked, kept}
+use Rattle.value.specs.Kinds.{okValue}
 use Rattle.value.specs.Carried.{valid}
 use Rattle.value_instants.specs.Ticks.{localOf, atLocal, inYears, placedAt}
 use Rattle.value.specs.declared.Zone.{Zone}
 use Rattle.value.specs.declared.DateTime.{DateTime}
 use Rattle.value.specs.declared.Kind.{Kind}
-use Rattle.value.specs.declared.Kind.the-variants as KV
 use Rattle.value.specs.declared.Value.the-variants as VV
 use Rattle.value_instants.specs.declared.Placed.the-variants as PV
-use Rattle.value.proofs.Good.{good, good-day, record-ok}
+use Rattle.value.proofs.Good.{good, record-ok}
 use Rattle.value.proofs.ClockLaws.{time-part-at, time-part-kept}
 use Rattle.value_instants.proofs.Locals.{placed-ok}
-use Rattle.value.proofs.KindParts.{of-kind-kept, kept-of-kind, kept-again}
-use Rattle.operation_quantities.specs.Operands.{valueOf}
+use Rattle.value.proofs.KindParts.{moment-good, moment-ok}
+use Rattle.value.proofs.RowLaws.{cast-good, cast-of-kind, of-kind-dated, of-kind-clocked}
 use Rattle.operation_quantities.specs.Results.{inTicks, inMonths, atTicks, ofPlaced}
 use Rattle.operation_shifting.specs.Shifts.{monthOf, inMonth, movedTo, moved, wrappedClock, wrapped, shifted}
 use Rattle.operation_shifting.proofs.Lengths.{month-has-day}
-use Rattle.operation_quantities.proofs.Given.{valid-test}
-use Rattle.operation_quantities.proofs.Shapes.{moment-ok}
+use Rattle.operation_quantities.proofs.Given.{valid-pick, valid-test}
 
 pub ticks-valid : (p q : ℕ) → valid (inTicks p q) ≡ true
 unfolding inTicks okValue
@@ -42,54 +41,16 @@ pub months-valid : (p q : ℕ) → valid (inMonths p q) ≡ true
 unfolding inMonths okValue
 months-valid p q = valid-test (okYearMonth (lessMonths p q)) (VV.YearMonth (lessMonths p q)) beyondResult (λ e. e)
 
--- what a kind keeps of a record within the bounds is one too
-reference-day : okDate 1972 12 31 ≡ true
-unfolding okDate every both
-reference-day = refl
+-- what a kind that is a moment keeps of a record within the bounds is a value within them
+kept-valid : (k : Kind) (d : DateTime) → isMoment k ≡ true → okDateTime d ≡ true → okValue (VV.Moment k (kept k d)) ≡ true
+kept-valid k d m g = moment-ok k (kept k d) m (cast-good k d g) (cast-of-kind k d)
 
-template-time : (k : Kind) → okTimePart (template k) ≡ true
-template-time k = time-part-at (dateIn (template k)) 0 (template k .zone) (omega arith)
-
-at-reference : (d : DateTime) → okDateTime d ≡ true → okDateTime (kept KV.DayTimeDuration d) ≡ true
-at-reference d g =
-    record-ok (kept KV.DayTimeDuration d)
-    (record {
-      day = good-day (dateIn (template KV.DayTimeDuration)) reference-day;
-      time = time-part-kept (dateIn (template KV.DayTimeDuration)) (template KV.DayTimeDuration) (d .zone) (template-time KV.DayTimeDuration);
-      zone = good d g .zone;
-    })
-
-kept-ok : (k : Kind) (d : DateTime) → okDateTime d ≡ true → okDateTime (kept k d) ≡ true
-kept-ok KV.Date d g =
-    let h = good d g in
-    record-ok (kept KV.Date d)
-    (record { day = h .day; time = time-part-kept (dateIn d) (template KV.Date) (d .zone) (template-time KV.Date); zone = h .zone })
-kept-ok KV.Time d g =
-    let h = good d g in
-    record-ok (kept KV.Time d)
-    (record {
-      day = good-day (dateIn (template KV.Time)) reference-day;
-      time = time-part-kept (dateIn (template KV.Time)) d (d .zone) (h .time);
-      zone = h .zone;
-    })
-kept-ok KV.DateTime d g = g
-kept-ok KV.DayTimeDuration d g = at-reference d g
-kept-ok KV.YearMonthDuration d g = at-reference d g
-
-pub kept-valid : (k : Kind) (d : DateTime) → okDateTime d ≡ true → okValue (valueOf k (kept k d)) ≡ true
-unfolding okValue
-kept-valid KV.Date d g = both-true _ _ (kept-ok KV.Date d g) (kept-of-kind KV.Date (kept KV.Date d) (kept-again KV.Date d))
-kept-valid KV.Time d g = both-true _ _ (kept-ok KV.Time d g) (kept-of-kind KV.Time (kept KV.Time d) (kept-again KV.Time d))
-kept-valid KV.DateTime d g = g
-kept-valid KV.DayTimeDuration d g = both-true _ _ (kept-ok KV.DayTimeDuration d g) (kept-of-kind KV.Time (kept KV.DayTimeDuration d) refl)
-kept-valid KV.YearMonthDuration d g = both-true _ _ (kept-ok KV.YearMonthDuration d g) (kept-of-kind KV.Time (kept KV.YearMonthDuration d) refl)
-
-pub placed-valid : (k : Kind) (t : ℕ) (z : Zone) → okZone z ≡ true → valid (atTicks k t z) ≡ true
+pub placed-valid : (k : Kind) (t : ℕ) (z : Zone) → isMoment k ≡ true → okZone z ≡ true → valid (atTicks k t z) ≡ true
 unfolding atTicks placedAt
-placed-valid k t z g = go (inYears t) refl
+placed-valid k t z m g = go (inYears t) refl
   where
     go : (b : Bool) → inYears t ≡ b → valid (ofPlaced k (pick b (PV.At (atLocal t z)) PV.Beyond)) ≡ true
-    go true e = kept-valid k (atLocal t z) (placed-ok t z e g)
+    go true e = kept-valid k (atLocal t z) m (placed-ok t z e g)
     go false e = refl
 
 -- a record in another month
@@ -116,23 +77,16 @@ month-ok d t g e =
       zone = h .zone;
     })
 
--- a record that differs from a date's only in its day is a date's
-month-date : (d : DateTime) (t : ℕ) → ofKind KV.Date d ≡ true → ofKind KV.Date (inMonth d t) ≡ true
-month-date d t e =
-    let h = of-kind-kept KV.Date d e in
-    kept-of-kind KV.Date (inMonth d t) (λ i. atClockOf (dateIn (inMonth d t)) (h i) (d .zone))
-
-pub moved-valid : (k : Kind) (d : DateTime) (p q : ℕ) → okValue (valueOf k d) ≡ true → valid (moved k d p q) ≡ true
-unfolding moved movedTo okValue
-moved-valid KV.Date d p q g =
+pub moved-valid : (k : Kind) (d : DateTime) (p q : ℕ) → okValue (VV.Moment k d) ≡ true → valid (moved k d p q) ≡ true
+unfolding moved movedTo
+moved-valid k d p q g =
     let t : ℕ = monthOf d + p - q in
-    valid-test _ (VV.Date (inMonth d t)) beyondResult (λ e. both-true _ _ (month-ok d t (both-left _ _ g) e) (month-date d t (both-right _ _ g)))
-moved-valid KV.Time d p q g = refl
-moved-valid KV.DateTime d p q g =
-    let t : ℕ = monthOf d + p - q in
-    valid-test _ (VV.DateTime (inMonth d t)) beyondResult (λ e. month-ok d t g e)
-moved-valid KV.DayTimeDuration d p q g = refl
-moved-valid KV.YearMonthDuration d p q g = refl
+    let h = moment-good (VV.Moment k d) g k d refl in
+    valid-pick (isDated k) (movedTo k d t) (refuses wrongKind)
+    (λ n.
+    valid-test (both (leb minYear (t / monthCount)) (leb (t / monthCount) maxYear)) (VV.Moment k (inMonth d t)) beyondResult
+    (λ e. moment-ok k (inMonth d t) (h .0) (month-ok d t (h .1) e) (of-kind-dated k d (dateIn (inMonth d t)) (d .zone) n (h .2))))
+    refl
 
 -- a time round the day
 wrapped-ok : (d : DateTime) (p q : ℕ) → okDateTime d ≡ true → okDateTime (wrapped d p q) ≡ true
@@ -141,19 +95,11 @@ wrapped-ok d p q g =
     record-ok (wrapped d p q)
     (record { day = h .day; time = time-part-at (dateIn d) (wrappedClock (clockOf d) p q) (d .zone) (omega arith); zone = h .zone })
 
-wrapped-time : (d : DateTime) (p q : ℕ) → ofKind KV.Time d ≡ true → ofKind KV.Time (wrapped d p q) ≡ true
-wrapped-time d p q e =
-    let h = of-kind-kept KV.Time d e in
-    kept-of-kind KV.Time (wrapped d p q) (λ i. atClock (dateIn (h i)) (wrappedClock (clockOf d) p q) (d .zone))
-
-time-valid : (d : DateTime) (p q : ℕ) → okValue (VV.Time d) ≡ true → okValue (VV.Time (wrapped d p q)) ≡ true
-unfolding okValue
-time-valid d p q g = both-true _ _ (wrapped-ok d p q (both-left _ _ g)) (wrapped-time d p q (both-right _ _ g))
-
-pub shifted-valid : (k : Kind) (d : DateTime) (p q : ℕ) → okValue (valueOf k d) ≡ true → valid (shifted k d p q) ≡ true
+pub shifted-valid : (k : Kind) (d : DateTime) (p q : ℕ) → okValue (VV.Moment k d) ≡ true → valid (shifted k d p q) ≡ true
 unfolding shifted
-shifted-valid KV.Date d p q g = placed-valid KV.Date (localOf d + p - q) (d .zone) (good d (moment-ok KV.Date d g) .zone)
-shifted-valid KV.Time d p q g = time-valid d p q g
-shifted-valid KV.DateTime d p q g = placed-valid KV.DateTime (localOf d + p - q) (d .zone) (good d (moment-ok KV.DateTime d g) .zone)
-shifted-valid KV.DayTimeDuration d p q g = time-valid d p q g
-shifted-valid KV.YearMonthDuration d p q g = time-valid d p q g
+shifted-valid k d p q g =
+    let h = moment-good (VV.Moment k d) g k d refl in
+    valid-pick (isDated k) (atTicks k (localOf d + p - q) (d .zone)) (pick (isClocked k) (gives (VV.Moment k (wrapped d p q))) (refuses wrongKind))
+    (λ n. placed-valid k (localOf d + p - q) (d .zone) (h .0) (good d (h .1) .zone))
+    (valid-test (isClocked k) (VV.Moment k (wrapped d p q)) wrongKind
+    (λ c. moment-ok k (wrapped d p q) (h .0) (wrapped-ok d p q (h .1)) (of-kind-clocked k d (wrappedClock (clockOf d) p q) (d .zone) c (h .2))))

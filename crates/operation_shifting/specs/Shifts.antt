@@ -10,18 +10,19 @@ use Rattle.value.specs.Clocks.{clockOf, atClock, atClockOf}
 use Rattle.value.specs.Refusals.{beyondResult, wrongKind}
 use Rattle.value.specs.Durations.{plusHalf, minusHalf, plusTicks, minusTicks}
 use Rattle.value.specs.Values.{dateIn}
-use Rattle.value.specs.Kinds.{hasDate}
+use Rattle.value.specs.Rows.{isDated, isClocked}
 use Rattle.value_instants.specs.Ticks.{localOf}
 use Rattle.value.specs.declared.DateTime.{DateTime}
 use Rattle.value.specs.declared.DayTime as D
 use Rattle.value.specs.declared.YearMonth as Y
 use Rattle.value.specs.declared.Kind.{Kind}
 use Rattle.value.specs.declared.Value.{Value}
-use Rattle.operation_quantities.specs.Operands.{valueOf}
+use Rattle.value.specs.declared.Value.the-variants.{Moment}
 use Rattle.operation_quantities.specs.Results.{atTicks}
 
 -- dateTime ± yearMonthDuration: months move, the day is cut to the new month's last day, time and zone stay.
--- Dates likewise. Months are counted from January of year 0; before it there is 0, which is beyond the years too.
+-- Dates likewise: a kind with year, month and day. Months are counted from January of year 0; before it there is 0,
+-- which is beyond the years too.
 abbrev pub monthOf : DateTime → ℕ
 monthOf d = d .year * monthCount + (d .month - 1)
 
@@ -38,10 +39,10 @@ inMonth d t =
 
 unfoldable pub movedTo : Kind → DateTime → ℕ → Answer Value
 movedTo k d t =
-    pick (both (leb minYear (t / monthCount)) (leb (t / monthCount) maxYear)) (gives (valueOf k (inMonth d t))) (refuses beyondResult)
+    pick (both (leb minYear (t / monthCount)) (leb (t / monthCount) maxYear)) (gives (Moment k (inMonth d t))) (refuses beyondResult)
 
 unfoldable pub moved : Kind → DateTime → ℕ → ℕ → Answer Value
-moved k d p q = pick (hasDate k) (movedTo k d (monthOf d + p - q)) (refuses wrongKind)
+moved k d p q = pick (isDated k) (movedTo k d (monthOf d + p - q)) (refuses wrongKind)
 
 -- dateTime ± dayTimeDuration: local arithmetic, zone kept. A date does so from its 00:00:00 and drops the time.
 -- A time wraps modulo 24 hours and is never refused. (Before 0000-01-01 there is 0, which is beyond the years too.)
@@ -52,7 +53,8 @@ abbrev pub wrapped : DateTime → ℕ → ℕ → DateTime
 wrapped d p q = atClock (dateIn d) (wrappedClock (clockOf d) p q) (d .zone)
 
 unfoldable pub shifted : Kind → DateTime → ℕ → ℕ → Answer Value
-shifted k d p q = pick (hasDate k) (atTicks k (localOf d + p - q) (d .zone)) (gives (valueOf k (wrapped d p q)))
+shifted k d p q =
+    pick (isDated k) (atTicks k (localOf d + p - q) (d .zone)) (pick (isClocked k) (gives (Moment k (wrapped d p q))) (refuses wrongKind))
 
 -- a date, time or dateTime and a duration
 abbrev pub shiftedBy : Kind → DateTime → D.DayTime → Answer Value

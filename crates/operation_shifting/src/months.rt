@@ -1,11 +1,11 @@
 // A yearMonthDuration added to a date or a dateTime: months move, the day is cut to the new month's last day.
 use calendar::Date;
-use operation_quantities::operands;
 use operation_quantities::results;
 use value::DateTime;
 use value::Kind;
 use value::Outcome;
 use value::Refusal;
+use value::Value;
 use value::YearMonth;
 use value::clocks;
 use value::kinds;
@@ -44,14 +44,14 @@ fn moved_to(kind: Kind, d: DateTime, t: u32) -> Outcome
         month,
         day: lesser(d.day, last),
     };
-    Outcome::Is(operands::value_of(kind, clocks::at_clock_of(e, d, zone)))
+    Outcome::Is(Value::Moment(kind, clocks::at_clock_of(e, d, zone)))
 }
 
 pub fn moved(kind: Kind, d: DateTime, m: YearMonth) -> Outcome
     requires { ⌜ (okDateTime d ≡ true) × (m .months ≤ maxYearMonth) ⌝ }
     ensures { λ r. ⌜ meaning r ≡ the.movedBy kind d m ⌝ }
 {
-    if !kinds::has_date(kind) {
+    if !kinds::is_dated(kind) {
         return results::refused(Refusal::WRONG_KIND);
     }
     let t = d.year as u32 * MONTHS + (d.month - 1) as u32;

@@ -1,6 +1,5 @@
 // A dayTimeDuration added to a date, time or dateTime, in local time.
 use calendar::Date;
-use operation_quantities::operands;
 use operation_quantities::results;
 use value::DateTime;
 use value::DayTime;
@@ -8,6 +7,7 @@ use value::Kind;
 use value::Outcome;
 use value::Refusal;
 use value::Span;
+use value::Value;
 use value::clocks;
 use value::kinds;
 use value_instants::spans;
@@ -88,8 +88,11 @@ pub fn shifted(kind: Kind, d: DateTime, t: DayTime) -> Outcome
     requires { ⌜ (okDateTime d ≡ true) × (okDayTime t ≡ true) ⌝ }
     ensures { λ r. ⌜ meaning r ≡ the.shiftedBy kind d t ⌝ }
 {
-    if kinds::has_date(kind) {
+    if kinds::is_dated(kind) {
         return local_shifted(kind, d, t);
     }
-    Outcome::Is(operands::value_of(kind, wrapped(d, t)))
+    if kinds::is_clocked(kind) {
+        return Outcome::Is(Value::Moment(kind, wrapped(d, t)));
+    }
+    results::refused(Refusal::WRONG_KIND)
 }

@@ -13,12 +13,14 @@ use Rattle.value.specs.Reasons.{reasonOf}
 use Rattle.value.specs.Kinds.{okValue}
 use Rattle.value.specs.Values.{okDateTime}
 use Rattle.value.specs.declared.DateTime.{DateTime}
+use Rattle.value.specs.declared.Kind.the-variants as KV
 use Rattle.value.specs.declared.Offset.{Offset}
 use Rattle.value.specs.declared.Refusal.{Refusal}
 use Rattle.value.specs.declared.Value.the-variants as VV
 use Rattle.value.specs.declared.Zone.{Zone}
 use Rattle.value_instants.specs.Ticks.{atLocal, inYears, placedAt}
 use Rattle.value.specs.Carried.{ticksOf}
+use Rattle.value.proofs.RowLaws.{date-time-ok}
 use Rattle.value_instants.specs.declared.Placed.the-variants as PV
 use Rattle.value_instants.proofs.Locals.{placed-there, placed-ok}
 use Rattle.value_instants.proofs.Years.{later-in-years}
@@ -33,9 +35,9 @@ use Rattle.run_times.specs.Occurrences.{countOf, localAtPlace, runChecked}
 use Rattle.run_times.specs.Laws.{GoodTimes}
 use Rattle.run_times.specs.Carried.{spanTimes}
 use Rattle.run_times.specs.declared.Run.{Run}
-use Rattle.run_cases.specs.Cases.{Case, rowCase, missCase, refusalCase, caseAt}
-use Rattle.run_cases.specs.StandsFor.{isRun, RunFields, fieldsRead, timesIn, occurrenceAt, occurrenceCase, occurrences, orMiss, runCases, standsFor}
-use Rattle.run_cases.specs.Carried.{Shows, Alone, spansIn, spansRead, GoodSpans, ShowsOccurrence, ShowsRun}
+use Rattle.run_cases.specs.Cases.{Case, rowCase, refusalCase, caseAt}
+use Rattle.run_cases.specs.StandsFor.{isRun, fieldsRead, timesIn, occurrenceAt, occurrences, orMiss, runCases, standsFor}
+use Rattle.run_cases.specs.Carried.{Shows, Alone, spansRead, GoodSpans, ShowsOccurrence, ShowsRun}
 use Rattle.run_cases.specs.declared.CaseRead.the-variants as SV
 use Rattle.run_cases.specs.declared.CaseAtPlace.{CaseAtPlace}
 use Rattle.run_cases.specs.declared.RunSpans.{RunSpans}
@@ -63,7 +65,7 @@ module _ (run : Run) (own : Zone) (p : ℕ) (g : GoodSpans run own) (t : GoodTim
 
   -- the row with the written text of the occurrence
   pub there-shown : (d : DateTime) (made : Text) (more : Bool) → d ≡ atLocal (localAtPlace (spanTimes run) p) own
-      → Holds (made .bytes) (made .len) (textOf (VV.DateTime d)) → more ≡ ltb (p + 1) (countOf (spanTimes run))
+      → Holds (made .bytes) (made .len) (textOf (VV.Moment KV.DateTime d)) → more ≡ ltb (p + 1) (countOf (spanTimes run))
       → ShowsOccurrence (record { read = SV.Row; made = made; more = more }) run own p
   unfolding okValue
   there-shown d made more q w m zone line f e =
@@ -71,12 +73,12 @@ module _ (run : Run) (own : Zone) (p : ℕ) (g : GoodSpans run own) (t : GoodTim
       let n : countOf (spanTimes run) ≡ countOf (timesIn zone f) = ap countOf ts in
       let z : own ≡ f .first .zone = ap (λ (x : RunSpans). x .zone) e in
       let o : d ≡ occurrenceAt f p = q ∙ (λ i. atLocal (localAtPlace (ts i) p) (z i)) in
-      let long : 0 < length (textOf (VV.DateTime d)) = written-some (VV.DateTime d) (ap okDateTime q ∙ record-good) in
+      let long : 0 < length (textOf (VV.Moment KV.DateTime d)) = written-some (VV.Moment KV.DateTime d) (date-time-ok d (ap okDateTime q ∙ record-good)) in
       record {
         what =
             ap (λ (s : List ℕ). rowCase (rowWith line s)) (w .text)
-            ∙ ap rowCase (with-some line (textOf (VV.DateTime d)) long)
-            ∙ ap (λ (x : DateTime). rowCase (withSecond (textOf (VV.DateTime x)) (rowOf line))) o
+            ∙ ap rowCase (with-some line (textOf (VV.Moment KV.DateTime d)) long)
+            ∙ ap (λ (x : DateTime). rowCase (withSecond (textOf (VV.Moment KV.DateTime x)) (rowOf line))) o
             ∙ sym (run-there line f (countOf (timesIn zone f)) p (omega arith));
         more = m ∙ ap (ltb (p + 1)) n ∙ sym (run-more line f (countOf (timesIn zone f)) p);
         fits = holds-fits w;

@@ -55,7 +55,7 @@ occurrenceAt r p = atLocal (localOf (r .first) + p * r .step) (r .first .zone)
 
 -- "`$2` is then its written text, other fields stay as they are"
 abbrev pub occurrenceCase : List ℕ → RunFields → ℕ → Case
-occurrenceCase line r p = rowCase (withSecond (textOf (VV.DateTime (occurrenceAt r p))) (rowOf line))
+occurrenceCase line r p = rowCase (withSecond (textOf (VV.Moment KV.DateTime (occurrenceAt r p))) (rowOf line))
 
 -- so many occurrences, the first at a place
 unfoldable pub occurrences : List ℕ → RunFields → ℕ → ℕ → List Case

@@ -99,9 +99,7 @@ fn moment(v: Value) -> DateTime
     ensures { λ r. ⌜ r ≡ momentOf v ⌝ }
 {
     match v {
-        Value::Date(d) => d,
-        Value::Time(d) => d,
-        Value::DateTime(d) => d,
+        Value::Moment(_, d) => d,
         Value::DayTime(_) => value::kinds::template(Kind::DayTimeDuration),
         Value::YearMonth(_) => value::kinds::template(Kind::YearMonthDuration),
     }
@@ -204,7 +202,7 @@ fn at_occurrence(run: Run, zone: Zone, place: u32) -> CaseAtPlace
         Placed::Beyond => alone(CaseRead::Miss),
         Placed::At(d) => CaseAtPlace {
             read: CaseRead::Row,
-            made: text::text_of(Value::DateTime(d)),
+            made: text::text_of(Value::Moment(Kind::DateTime, d)),
             more,
         },
     }

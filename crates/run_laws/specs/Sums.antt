@@ -21,7 +21,7 @@ use Rattle.run_cases.specs.StandsFor.{RunFields, timesIn, runOf, occurrenceAt}
 abbrev pub OccurrenceIsSum : Type 0
 OccurrenceIsSum =
     (zone : Offset) (line : List ℕ) (r : RunFields) (p : ℕ) → runOf zone line ≡ gives r → p < countOf (timesIn zone r)
-    → plusOf (VV.DateTime (r .first)) (VV.DayTime (lessTicks (p * r .step) 0)) ≡ gives (VV.DateTime (occurrenceAt r p))
+    → plusOf (VV.Moment KV.DateTime (r .first)) (VV.DayTime (lessTicks (p * r .step) 0)) ≡ gives (VV.Moment KV.DateTime (occurrenceAt r p))
 
 -- it is a dateTime within the bounds, its instant lies place x step after first's and is not past the last's, and what is written of it
 -- reads as the same value; proved as `occurrence-stands`
@@ -29,7 +29,7 @@ pub record OccurrenceStands (zone : Offset) (r : RunFields) (p : ℕ) : Type 0 w
   pub valid : okDateTime (occurrenceAt r p) ≡ true
   pub instant : instantOf zone (occurrenceAt r p) ≡ instantOf zone (r .first) + p * r .step
   pub not-past : instantOf zone (occurrenceAt r p) ≤ instantOf zone (r .last)
-  pub reads : readAs KV.DateTime (textOf (VV.DateTime (occurrenceAt r p))) ≡ gives (VV.DateTime (occurrenceAt r p))
+  pub reads : readAs KV.DateTime (textOf (VV.Moment KV.DateTime (occurrenceAt r p))) ≡ gives (VV.Moment KV.DateTime (occurrenceAt r p))
 
 abbrev pub OccurrencesStand : Type 0
 OccurrencesStand =

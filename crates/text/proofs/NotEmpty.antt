@@ -8,6 +8,7 @@ use lib.ListN.{length}
 use Rattle.basis.specs.Choice.{both}
 use Rattle.basis.specs.Answer.{gives, refuses}
 use Rattle.value.specs.Refusals.{badText}
+use Rattle.value.specs.Rows.{isMoment}
 use Rattle.value.specs.Kinds.{kindOf, okValue}
 use Rattle.value.specs.declared.Kind.{Kind}
 use Rattle.value.specs.declared.Kind.the-variants as KV
@@ -21,8 +22,9 @@ use Rattle.text.specs.Reading.{readBare}
 use Rattle.text.specs.Writing.{textOf}
 use Rattle.text.proofs.RoundTrip.{bytes-read-back}
 
+-- the rows: along none of them the empty text reads
 pub empty-refused : (k : Kind) → readBare k [] ≡ refuses badText
-unfolding readBare readLayout judge scanned partAt yearPart yearAt fourZeros zonePart zoneSigned fractionPart pairAt isPair withPair number isDigit both readBy counted shape shapeFrom components component
+unfolding readBare readLayout isMoment judge scanned partAt yearPart yearAt fourZeros zonePart zoneSigned fractionPart pairAt isPair withPair number isDigit both readBy counted shape shapeFrom components component
 empty-refused KV.Date = refl
 empty-refused KV.Time = refl
 empty-refused KV.DateTime = refl

@@ -1,8 +1,9 @@
 -- The numbers that reading refuses with are 1, 2 and 3; those of writing are 16 and 15.
 use mathlib.Core.Path.{_≡_, refl, sym, _∙_}
-use mathlib.Core.Bool.{Bool, true, false}
+use mathlib.Core.Bool.{Bool, true}
 use mathlib.Core.List.{List, [], _∷_}
 use Prim.Native.Nat.{ℕ, _+_}
+use Prim.Native.Char.{code}
 use lib.Dec.{eqb, leb}
 use lib.ListN.{length}
 use Rattle.basis.specs.Choice.{pick, among}
@@ -12,14 +13,12 @@ use Rattle.calendar.specs.declared.Dated.{Dated}
 use Rattle.calendar.specs.declared.Dated.the-variants.{On, Later}
 use Rattle.calendar.specs.Calendar.{dayOf, datedOf}
 use Rattle.value.specs.Bounds.{maxYear}
-use Rattle.value.specs.Clocks.{atClock}
 use Rattle.value.specs.Refusals.{badText, beyondBounds, longFraction, noRoom, outside}
-use Rattle.value.specs.Kinds.{hasDate, okValue}
+use Rattle.value.specs.Rows.{isMoment, hasPart}
+use Rattle.value.specs.Kinds.{okValue}
 use Rattle.value.specs.Values.{okDate}
 use Rattle.value.specs.declared.Zone.{Zone}
-use Rattle.value.specs.declared.DateTime.{DateTime}
 use Rattle.value.specs.declared.Kind.{Kind}
-use Rattle.value.specs.declared.Kind.the-variants as KV
 use Rattle.value.specs.declared.Value.{Value}
 use Rattle.value.proofs.Numbers.{only, only-either, only-refused}
 use Rattle.text_scan.specs.declared.FoundDate.{FoundDate}
@@ -30,7 +29,7 @@ use Rattle.text_scan.specs.Scanning.{uncapped, scannedParts}
 use Rattle.text_checks.specs.Reading as judging
 use Rattle.text_layouts.specs.Reading.{readLayout}
 use Rattle.text_durations.specs.Walks.{withinBounds, counted, readBy, shape, asValue}
-use Rattle.text_durations.specs.Forms.{Form, dayTime, yearMonth}
+use Rattle.text_forms.specs.Forms.{Form, durationForm}
 use Rattle.text_durations.specs.declared.Shape.{Shape}
 use Rattle.text_durations.specs.declared.Amount.{Amount}
 use Rattle.text_blanks.specs.Blanks.{bare}
@@ -51,24 +50,17 @@ either : {A : Type 0} (b : Bool) (x y : Answer A) → Reads x → Reads y → Re
 either b x y p q = only-either readingNumbers b x y p q
 
 -- dates, times and dateTimes
-valued-numbers : (k : Kind) (d : DateTime) → Reads (judging.valueGiven k d)
-valued-numbers KV.Date d = refl
-valued-numbers KV.Time d = refl
-valued-numbers KV.DateTime d = refl
-valued-numbers KV.DayTimeDuration d = refl
-valued-numbers KV.YearMonthDuration d = refl
-
 start-numbers : (k : Kind) (z : Zone) (d : Dated) → Reads (judging.startOfDay k z d)
-start-numbers k z (On d) = valued-numbers k (atClock d 0 z)
+start-numbers k z (On d) = refl
 start-numbers k z Later = refl
 
 next-numbers : (k : Kind) (d : Date) (z : Zone) → Reads (judging.nextDay k d z)
 unfolding judging.nextDay
-next-numbers k d z = either (hasDate k) _ _ (start-numbers k z (datedOf (dayOf d + 1) maxYear)) (valued-numbers k (atClock d 0 z))
+next-numbers k d z = either (hasPart k (code "D")) _ _ (start-numbers k z (datedOf (dayOf d + 1) maxYear)) refl
 
 clocked-numbers : (k : Kind) (d : Date) (c : FoundClock) (z : Zone) → Reads (judging.clocked k d c z)
 unfolding judging.clocked
-clocked-numbers k d c z = either (eqb (c .hour) judging.dayEnd) _ _ (next-numbers k d z) (valued-numbers k (atClock d (judging.clockTicks c) z))
+clocked-numbers k d c z = either (eqb (c .hour) judging.dayEnd) _ _ (next-numbers k d z) refl
 
 calendar-numbers : (k : Kind) (d : FoundDate) (c : FoundClock) (z : FoundZone) → Reads (judging.onCalendar k d c z)
 unfolding judging.onCalendar
@@ -100,11 +92,9 @@ duration-numbers f s = counted-numbers (shape (f .before) (f .after) s)
 
 read-numbers : (k : Kind) (s : List ℕ) → Reads (readBare k s)
 unfolding readBare readLayout
-read-numbers KV.Date s = judge-numbers KV.Date (length s) (scannedParts uncapped KV.Date s)
-read-numbers KV.Time s = judge-numbers KV.Time (length s) (scannedParts uncapped KV.Time s)
-read-numbers KV.DateTime s = judge-numbers KV.DateTime (length s) (scannedParts uncapped KV.DateTime s)
-read-numbers KV.DayTimeDuration s = value-numbers _ (readBy dayTime s) (duration-numbers dayTime s)
-read-numbers KV.YearMonthDuration s = value-numbers _ (readBy yearMonth s) (duration-numbers yearMonth s)
+read-numbers k s =
+    either (isMoment k) _ _ (either (isMoment k) _ _ (judge-numbers k (length s) (scannedParts uncapped k s)) refl)
+    (value-numbers _ (readBy (durationForm k) s) (duration-numbers (durationForm k) s))
 
 -- a text that does not read is refused with 1, 2 or 3
 pub read-refuses : (k : Kind) (s : List ℕ) (r : Reason) → readAs k s ≡ refusesFor r → among readingNumbers (r .number) ≡ true

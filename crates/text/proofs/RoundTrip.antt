@@ -2,58 +2,58 @@
 -- number, are written alike. One statement each over the five kinds.
 use mathlib.Core.Path.{_≡_, refl, ap, sym, _∙_}
 use mathlib.Core.Bool.{Bool, true, false}
-use mathlib.Core.List.{List, [], _∷_}
-use Prim.Native.Nat.{ℕ, _+_, _≤_, _<_}
+use mathlib.Core.List.{List}
+use Prim.Native.Nat.{ℕ, _≤_, _<_}
 use native.Mathlib.Omega.{arith}
 use lib.Dec.{ltb}
 use lib.ListN.{length}
-use Rattle.basis.specs.Choice.{both, every}
-use Rattle.basis.specs.Answer.{Answer, gives, refusesFor, refuses}
-use Rattle.basis.proofs.Tests.{both-left, both-right}
+use Rattle.basis.specs.Choice.{pick, both, every}
+use Rattle.basis.specs.Answer.{gives, refuses}
 use Rattle.value.specs.Bounds.{maxDayTime, maxYearMonth}
 use Rattle.value.specs.Refusals.{badText}
 use Rattle.value.specs.Clocks.{clockOf, ticksIn, durationOf}
 use Rattle.value.specs.Durations.{plusHalf, minusHalf, apart}
-use Rattle.value.specs.Kinds.{kindOf, okValue, template}
-use Rattle.value_instants.specs.Ticks.{utc, instantOf}
+use Rattle.value.specs.Kinds.{kindOf, okValue}
+use Rattle.value.specs.Rows.{isMoment, has}
+use Rattle.value_instants.specs.Ticks.{utc}
 use Rattle.value.specs.Values.{okDate, okTimePart, okZone, okDateTime}
 use Rattle.value.specs.declared.DateTime.{DateTime}
 use Rattle.value.specs.declared.DayTime.{DayTime}
 use Rattle.value.specs.declared.Kind.{Kind}
-use Rattle.value.specs.declared.Kind.the-variants as KV
 use Rattle.value.specs.declared.Value.{Value}
 use Rattle.value.specs.declared.Value.the-variants as VV
 use Rattle.value_instants.proofs.Instants.{utc-good, same-instant}
 use Rattle.value.proofs.ClockLaws.{duration-is, day-time-signed}
-use Rattle.value.proofs.KindParts.{kept-of-kind}
+use Rattle.value.proofs.KindParts.{moment-good}
 use Rattle.value.proofs.Signs.{signed-back, same-difference}
 use Rattle.numerals.specs.Writing.{longest}
 use Rattle.numerals.specs.Reading.{at}
 use Rattle.text_blanks.specs.Blanks.{isBlank, bare}
 use Rattle.text_blanks.proofs.Laws.{without-blanks}
+use Rattle.text_layouts.specs.Reading.{readLayout}
+use Rattle.text_layouts.specs.Writing.{kindText}
 use Rattle.text_layouts.proofs.OfKinds.{round-trip}
 use Rattle.text_layouts.proofs.Lengths.{text-fits}
 use Rattle.text_layouts.proofs.ReadsValid.{reads-valid}
 use Rattle.text_layouts.proofs.Valid.{Valid}
-use Rattle.text_durations.specs.declared.Amount.{Amount}
-use Rattle.text_durations.specs.Walks.{dayTimeOf, yearMonthOf, asDayTime, asYearMonth, readBy}
-use Rattle.text_durations.specs.Forms.{dayTime, yearMonth}
-use Rattle.text_durations.proofs.Round.{day-time-round-trip, year-month-round-trip, day-time-valid, year-month-valid}
-use Rattle.text_durations.proofs.Lengths.{day-time-length, year-month-length}
+use Rattle.text_durations.specs.Walks.{readDuration}
+use Rattle.text_forms.specs.Forms.{durationForm, formMonths}
+use Rattle.text_durations.proofs.Round.{duration-round-trip, duration-valid}
+use Rattle.text_durations.proofs.Lengths.{duration-length}
 use Rattle.text.specs.Reading.{readBare, readAs}
 use Rattle.text.specs.Writing.{textOf}
 use Rattle.text.specs.Alike.{Alike, momentOf, signOf, magnitudeOf}
-use Rattle.text.proofs.ReadsBare.{reads-bare}
+use Rattle.text.proofs.ReadsBare.{reads-bare, moment-reads}
 use Rattle.text.proofs.Strangers.{blank-among}
 
 -- for every valid value of each of the five kinds, the bytes that are written read as that value
 pub bytes-read-back : (v : Value) → okValue v ≡ true → readBare (kindOf v) (textOf v) ≡ gives v
-unfolding readBare textOf okValue
-bytes-read-back (VV.Date d) g = round-trip KV.Date d (both-left _ _ g) (both-right _ _ g)
-bytes-read-back (VV.Time d) g = round-trip KV.Time d (both-left _ _ g) (both-right _ _ g)
-bytes-read-back (VV.DateTime d) g = round-trip KV.DateTime d g (kept-of-kind KV.DateTime d refl)
-bytes-read-back (VV.DayTime d) g = day-time-round-trip d g
-bytes-read-back (VV.YearMonth d) g = year-month-round-trip d g
+unfolding readBare isMoment textOf
+bytes-read-back (VV.Moment k d) g =
+    let h = moment-good (VV.Moment k d) g k d refl in
+    moment-reads k (kindText k d) (h .0) ∙ round-trip k d (h .0) (h .1) (h .2)
+bytes-read-back (VV.DayTime d) g = duration-round-trip (VV.DayTime d) refl g
+bytes-read-back (VV.YearMonth d) g = duration-round-trip (VV.YearMonth d) refl g
 
 -- there is no blank among them
 pub no-blank-written : (v : Value) → okValue v ≡ true → (j : ℕ) → j < length (textOf v) → isBlank (at (textOf v) j) ≡ false
@@ -75,56 +75,41 @@ written-reads-back v g = reads-bare (kindOf v) (textOf v) ∙ ap (readBare (kind
 
 -- no text is longer than the longest
 pub text-within : (v : Value) → okValue v ≡ true → length (textOf v) ≤ longest
-unfolding textOf okValue
-text-within (VV.Date d) g = text-fits KV.Date d
-text-within (VV.Time d) g = text-fits KV.Time d
-text-within (VV.DateTime d) g = text-fits KV.DateTime d
-text-within (VV.DayTime d) g = day-time-length d g
-text-within (VV.YearMonth d) g = year-month-length d g
-
--- a duration that is read is of the kind that was asked for
-day-time-kind : (x : Answer Amount) (v : Value) → asDayTime x ≡ gives v → kindOf v ≡ KV.DayTimeDuration
-day-time-kind (gives a) v e = let k : dayTimeOf a ≡ v = cc in ap kindOf (sym k)
-day-time-kind (refusesFor r) v e = let z : _≡_ {A = ℕ} 0 1 = cc in cc
-
-year-month-kind : (x : Answer Amount) (v : Value) → asYearMonth x ≡ gives v → kindOf v ≡ KV.YearMonthDuration
-year-month-kind (gives a) v e = let k : yearMonthOf a ≡ v = cc in ap kindOf (sym k)
-year-month-kind (refusesFor r) v e = let z : _≡_ {A = ℕ} 0 1 = cc in cc
+unfolding textOf
+text-within (VV.Moment k d) g = text-fits k d
+text-within (VV.DayTime d) g = duration-length (VV.DayTime d) g
+text-within (VV.YearMonth d) g = duration-length (VV.YearMonth d) g
 
 -- what reads is within the bounds of the kind that was asked for
 bytes-valid : (k : Kind) (s : List ℕ) (v : Value) → readBare k s ≡ gives v → Valid k v
 unfolding readBare
-bytes-valid KV.Date s v e = reads-valid KV.Date s v e
-bytes-valid KV.Time s v e = reads-valid KV.Time s v e
-bytes-valid KV.DateTime s v e = reads-valid KV.DateTime s v e
-bytes-valid KV.DayTimeDuration s v e = record { ok = day-time-valid s v e; kind = day-time-kind (readBy dayTime s) v e }
-bytes-valid KV.YearMonthDuration s v e = record { ok = year-month-valid s v e; kind = year-month-kind (readBy yearMonth s) v e }
+bytes-valid k s v = go (isMoment k)
+  where
+    go : (b : Bool) → pick b (readLayout k s) (readDuration k s) ≡ gives v → Valid k v
+    go true e = reads-valid k s v e
+    go false e = let d = duration-valid k s v e in record { ok = d .0; kind = d .1 }
 
 pub what-reads-is-valid : (k : Kind) (s : List ℕ) (v : Value) → readAs k s ≡ gives v → Valid k v
 what-reads-is-valid k s v e = bytes-valid k (bare s) v (sym (reads-bare k s) ∙ e)
 
 -- a value is its kind, its record, its sign and its magnitude
 abbrev rebuilt : Kind → DateTime → Bool → ℕ → Value
-rebuilt KV.Date d b n = VV.Date d
-rebuilt KV.Time d b n = VV.Time d
-rebuilt KV.DateTime d b n = VV.DateTime d
-rebuilt KV.DayTimeDuration d b n = VV.DayTime (durationOf b n)
-rebuilt KV.YearMonthDuration d b n = VV.YearMonth (record { negative = b; months = n })
+rebuilt k d b n =
+    pick (isMoment k) (VV.Moment k d)
+    (pick (formMonths (durationForm k)) (VV.YearMonth (record { negative = b; months = n })) (VV.DayTime (durationOf b n)))
 
 rebuilt-is : (v : Value) → okValue v ≡ true → rebuilt (kindOf v) (momentOf v) (signOf v) (magnitudeOf v) ≡ v
-unfolding okValue
-rebuilt-is (VV.Date d) g = refl
-rebuilt-is (VV.Time d) g = refl
-rebuilt-is (VV.DateTime d) g = refl
+unfolding isMoment has okValue
+rebuilt-is (VV.Moment k d) g =
+    let m : isMoment k ≡ true = moment-good (VV.Moment k d) g k d refl .0 in
+    λ i. pick (m i) (VV.Moment k d) (pick (formMonths (durationForm k)) (VV.YearMonth (record { negative = false; months = 0 })) (VV.DayTime (durationOf false 0)))
 rebuilt-is (VV.DayTime d) g = ap (λ (t : DayTime). VV.DayTime t) (duration-is d g)
 rebuilt-is (VV.YearMonth d) g = refl
 
 -- the record of a valid value is valid
 pub moment-ok : (v : Value) → okValue v ≡ true → okDateTime (momentOf v) ≡ true
 unfolding okValue okDateTime okDate okTimePart clockOf okZone every both
-moment-ok (VV.Date d) g = both-left _ _ g
-moment-ok (VV.Time d) g = both-left _ _ g
-moment-ok (VV.DateTime d) g = g
+moment-ok (VV.Moment k d) g = moment-good (VV.Moment k d) g k d refl .1
 moment-ok (VV.DayTime d) g = refl
 moment-ok (VV.YearMonth d) g = refl
 
@@ -135,9 +120,7 @@ Signed v =
 
 signed-is : (v : Value) → okValue v ≡ true → Signed v
 unfolding Signed okValue
-signed-is (VV.Date d) g = (refl, refl)
-signed-is (VV.Time d) g = (refl, refl)
-signed-is (VV.DateTime d) g = (refl, refl)
+signed-is (VV.Moment k d) g = (refl, refl)
 signed-is (VV.DayTime d) g = signed-back maxDayTime (ticksIn d) (d .negative) (day-time-signed d g)
 signed-is (VV.YearMonth d) g = signed-back maxYearMonth (d .months) (d .negative) g
 

@@ -7,10 +7,11 @@ use Prim.Native.Nat.{ℕ, _<_}
 use lib.Dec.{eqb}
 use lib.ListN.{length}
 use borrow.Author.Tests.{eqb-true, not-true}
-use Rattle.basis.specs.Choice.{both, allPass}
+use Rattle.basis.specs.Choice.{pick, both, allPass}
 use Rattle.basis.specs.Answer.{refuses}
 use Rattle.basis.proofs.Tests.{never, among-all}
 use Rattle.value.specs.Refusals.{badText}
+use Rattle.value.specs.Rows.{isMoment}
 use Rattle.value.specs.declared.Kind.{Kind}
 use Rattle.value.specs.declared.Kind.the-variants as KV
 use Rattle.value.specs.declared.Value.{Value}
@@ -22,24 +23,29 @@ use Rattle.text_scan.proofs.Passed.{momentByte, good-passed}
 use Rattle.text_checks.specs.Reading.{judge}
 use Rattle.text_layouts.specs.Reading.{readLayout}
 use Rattle.text_durations.specs.declared.Amount.{Amount}
-use Rattle.text_durations.specs.Forms.{Form, dayTime, yearMonth}
-use Rattle.text_durations.specs.Walks.{asValue, counted, readBy, shape}
+use Rattle.text_forms.specs.Forms.{Form, durationForm}
+use Rattle.text_durations.specs.Walks.{asValue, counted, readBy, readDuration, shape}
 use Rattle.text_durations.proofs.Passed.{durationByte, shape-passed}
 use Rattle.text.specs.Reading.{readBare}
 
 -- the digits and marks among which are all bytes of a text of a kind
 abbrev pub byteOf : Kind → ℕ → Bool
-byteOf KV.Date = momentByte
-byteOf KV.Time = momentByte
-byteOf KV.DateTime = momentByte
-byteOf KV.DayTimeDuration = durationByte
-byteOf KV.YearMonthDuration = durationByte
+byteOf k b = pick (isMoment k) (momentByte b) (durationByte b)
+
+-- the forms of the durations have such bytes alone
+forms-lettered : (k : Kind) → (allPass durationByte (durationForm k .before) ≡ true) × (allPass durationByte (durationForm k .after) ≡ true)
+unfolding isDigit both
+forms-lettered KV.Date = (refl, refl)
+forms-lettered KV.Time = (refl, refl)
+forms-lettered KV.DateTime = (refl, refl)
+forms-lettered KV.DayTimeDuration = (refl, refl)
+forms-lettered KV.YearMonthDuration = (refl, refl)
 
 module _ (s : List ℕ) (j : ℕ) (h : j < length s) where
   -- dates, times and dateTimes
   layout-stranger : (k : Kind) → momentByte (at s j) ≡ false → readLayout k s ≡ refuses badText
   unfolding readLayout judge
-  layout-stranger k e = go (t .good) (eqb (t .at) (length s)) refl refl
+  layout-stranger k e = laid (isMoment k)
     where
       t : Scan
       t = scannedParts uncapped k s
@@ -50,10 +56,14 @@ module _ (s : List ℕ) (j : ℕ) (h : j < length s) where
           let b : j < t .at = rw l h in
           never (sym e ∙ good-passed uncapped s k g j b)
 
-      go : (x y : Bool) → t .good ≡ x → eqb (t .at) (length s) ≡ y → readLayout k s ≡ refuses badText
+      go : (x y : Bool) → t .good ≡ x → eqb (t .at) (length s) ≡ y → judge k (length s) t ≡ refuses badText
       go false y p q = rw p
       go true false p q = rw (p, q)
       go true true p q = absurd (to p q)
+
+      laid : (b : Bool) → pick b (judge k (length s) t) (refuses badText) ≡ refuses badText
+      laid true = go (t .good) (eqb (t .at) (length s)) refl refl
+      laid false = refl
 
   -- durations
   form-stranger : (value : Amount → Value) (f : Form) → allPass durationByte (f .before) ≡ true → allPass durationByte (f .after) ≡ true → durationByte (at s j) ≡ false
@@ -67,24 +77,24 @@ module _ (s : List ℕ) (j : ℕ) (h : j < length s) where
 
   -- any other byte is 1
   pub stranger-refused : (k : Kind) → byteOf k (at s j) ≡ false → readBare k s ≡ refuses badText
-  unfolding readBare isDigit both
-  stranger-refused KV.Date e = layout-stranger KV.Date e
-  stranger-refused KV.Time e = layout-stranger KV.Time e
-  stranger-refused KV.DateTime e = layout-stranger KV.DateTime e
-  stranger-refused KV.DayTimeDuration e = form-stranger _ dayTime refl refl e
-  stranger-refused KV.YearMonthDuration e = form-stranger _ yearMonth refl refl e
+  unfolding readBare
+  stranger-refused k = go (isMoment k)
+    where
+      go : (b : Bool) → pick b (momentByte (at s j)) (durationByte (at s j)) ≡ false → pick b (readLayout k s) (readDuration k s) ≡ refuses badText
+      go true e = layout-stranger k e
+      go false e = form-stranger _ (durationForm k) (forms-lettered k .0) (forms-lettered k .1) e
 
 -- a blank is none of them
 pub blank-stranger : (k : Kind) (b : ℕ) → isBlank b ≡ true → byteOf k b ≡ false
 unfolding isBlank isDigit both
-blank-stranger k b e = not-true (byteOf k b) (among-all (λ (c : ℕ). not (byteOf k c)) blanks b (none k) e)
+blank-stranger k b = go (isMoment k)
   where
-    none : (k : Kind) → allPass (λ (c : ℕ). not (byteOf k c)) blanks ≡ true
-    none KV.Date = refl
-    none KV.Time = refl
-    none KV.DateTime = refl
-    none KV.DayTimeDuration = refl
-    none KV.YearMonthDuration = refl
+    none : (x : Bool) → allPass (λ (c : ℕ). not (pick x (momentByte c) (durationByte c))) blanks ≡ true
+    none true = refl
+    none false = refl
+
+    go : (x : Bool) → isBlank b ≡ true → pick x (momentByte b) (durationByte b) ≡ false
+    go x e = not-true (pick x (momentByte b) (durationByte b)) (among-all (λ (c : ℕ). not (pick x (momentByte c) (durationByte c))) blanks b (none x) e)
 
 -- so a blank among the bytes of a value is 1
 pub blank-among : (k : Kind) (s : List ℕ) (j : ℕ) → j < length s → isBlank (at s j) ≡ true → readBare k s ≡ refuses badText

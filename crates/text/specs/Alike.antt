@@ -5,7 +5,7 @@ use mathlib.Core.Path.{_≡_}
 use Prim.Native.Nat.{ℕ, _+_}
 use Rattle.value.specs.Clocks.{ticksIn}
 use Rattle.value.specs.Durations.{plusHalf, minusHalf}
-use Rattle.value.specs.Kinds.{template}
+use Rattle.value.specs.Rows.{templateOf}
 use Rattle.value_instants.specs.Ticks.{utc, instantOf}
 use Rattle.value.specs.declared.DateTime.{DateTime}
 use Rattle.value.specs.declared.Kind.the-variants as KV
@@ -14,24 +14,18 @@ use Rattle.value.specs.declared.Value.the-variants as VV
 
 -- the record of a date, a time or a dateTime; for durations, which have none, their kind's template
 abbrev pub momentOf : Value → DateTime
-momentOf (VV.Date d) = d
-momentOf (VV.Time d) = d
-momentOf (VV.DateTime d) = d
-momentOf (VV.DayTime t) = template KV.DayTimeDuration
-momentOf (VV.YearMonth m) = template KV.YearMonthDuration
+momentOf (VV.Moment k d) = d
+momentOf (VV.DayTime t) = templateOf KV.DayTimeDuration
+momentOf (VV.YearMonth m) = templateOf KV.YearMonthDuration
 
 -- the sign and the magnitude of a duration's number; the other kinds have none
 abbrev pub signOf : Value → Bool
-signOf (VV.Date d) = false
-signOf (VV.Time d) = false
-signOf (VV.DateTime d) = false
+signOf (VV.Moment k d) = false
 signOf (VV.DayTime t) = t .negative
 signOf (VV.YearMonth m) = m .negative
 
 abbrev pub magnitudeOf : Value → ℕ
-magnitudeOf (VV.Date d) = 0
-magnitudeOf (VV.Time d) = 0
-magnitudeOf (VV.DateTime d) = 0
+magnitudeOf (VV.Moment k d) = 0
 magnitudeOf (VV.DayTime t) = ticksIn t
 magnitudeOf (VV.YearMonth m) = m .months
 

@@ -8,20 +8,17 @@ use Rattle.basis.specs.Answer.{Answer, gives, refusesFor, refuses}
 use Rattle.value.specs.Reasons.{reasonOf}
 use Rattle.value.specs.Refusals.{noRoom, outside}
 use Rattle.value.specs.Kinds.{okValue}
-use Rattle.value.specs.declared.Kind.the-variants as KV
 use Rattle.value.specs.declared.Value.{Value}
 use Rattle.value.specs.declared.Value.the-variants as VV
 use Rattle.text_layouts.specs.Writing as layouts
-use Rattle.text_durations.specs.Spelling.{dayTimeText, yearMonthText}
+use Rattle.text_durations.specs.Spelling.{durationTextOf}
 use Rattle.text.specs.declared.Written.{Written}
 use Rattle.text.specs.declared.Written.the-variants as WV
 
 unfoldable pub textOf : Value → List ℕ
-textOf (VV.Date d) = layouts.kindText KV.Date d
-textOf (VV.Time d) = layouts.kindText KV.Time d
-textOf (VV.DateTime d) = layouts.kindText KV.DateTime d
-textOf (VV.DayTime d) = dayTimeText d
-textOf (VV.YearMonth d) = yearMonthText d
+textOf (VV.Moment k d) = layouts.kindText k d
+textOf (VV.DayTime t) = durationTextOf (VV.DayTime t)
+textOf (VV.YearMonth m) = durationTextOf (VV.YearMonth m)
 
 -- what an answer says: the length written, or the number of a refusal
 abbrev pub writtenMeaning : Written → Answer ℕ

@@ -23,21 +23,12 @@ pub enum Written {
 fn read_bare(kind: Kind, s: &[u8]) -> Outcome
     ensures { λ r. ⌜ kinds.meaning r ≡ readBare kind (now (s .entry)) ⌝ }
 {
-    match kind {
-        Kind::Date => text_layouts::read_layout(Kind::Date, s),
-        Kind::Time => text_layouts::read_layout(Kind::Time, s),
-        Kind::DateTime => text_layouts::read_layout(Kind::DateTime, s),
-        Kind::DayTimeDuration => {
-            let r = text_durations::read_day_time(s);
-            let outcome = r.outcome;
-            outcome
-        }
-        Kind::YearMonthDuration => {
-            let r = text_durations::read_year_month(s);
-            let outcome = r.outcome;
-            outcome
-        }
+    if value::kinds::is_moment(kind) {
+        return text_layouts::read_layout(kind, s);
     }
+    let r = text_durations::read(kind, s);
+    let outcome = r.outcome;
+    outcome
 }
 
 // What a text of a kind reads as. The text is the whole field or literal, with the blanks round the value.
@@ -55,11 +46,9 @@ pub fn text_of(v: Value) -> Text
     ensures { λ r. ⌜ Holds (r .bytes) (r .len) (its.textOf v) ⌝ }
 {
     match v {
-        Value::Date(d) => text_layouts::layout_text(Kind::Date, d),
-        Value::Time(d) => text_layouts::layout_text(Kind::Time, d),
-        Value::DateTime(d) => text_layouts::layout_text(Kind::DateTime, d),
-        Value::DayTime(d) => text_durations::day_time_text(d),
-        Value::YearMonth(d) => text_durations::year_month_text(d),
+        Value::Moment(kind, d) => text_layouts::layout_text(kind, d),
+        Value::DayTime(_) => text_durations::text_of(v),
+        Value::YearMonth(_) => text_durations::text_of(v),
     }
 }
 

@@ -8,7 +8,7 @@ use lib.Dec.{eqb, leb}
 use lib.ListN.{length}
 use borrow.Author.Tests.{leb-true, leb-false, lt-leb, le-leb, eq-eqb, ne-eqb, eqb-true}
 use Rattle.basis.specs.Choice.{pick, both, every}
-use Rattle.basis.specs.Answer.{Answer, refuses}
+use Rattle.basis.specs.Answer.{Answer, gives, refuses}
 use Rattle.basis.proofs.Tests.{both-left, both-right, both-end}
 use Rattle.calendar.specs.Calendar.{GoodDate, dayOf, datedOf}
 use Rattle.calendar.specs.declared.Date.{Date}
@@ -18,11 +18,13 @@ use Rattle.value.specs.Bounds.{maxYear, secondTicks, dayTicks}
 use Rattle.value.specs.Clocks.{atClock}
 use Rattle.value.specs.Refusals.{badText, beyondBounds}
 use Rattle.value.specs.Values.{okDate}
-use Rattle.value.specs.Kinds.{hasDate}
+use Rattle.value.specs.Rows.{partsIn, layoutOf}
 use Rattle.value.specs.declared.Zone.{Zone}
 use Rattle.value.specs.declared.DateTime.{DateTime}
 use Rattle.value.specs.declared.Kind.{Kind}
+use Rattle.value.specs.declared.OwnParts.{OwnParts}
 use Rattle.value.specs.declared.Value.{Value}
+use Rattle.value.specs.declared.Value.the-variants as VV
 use Rattle.value.proofs.Good.{good-day, numbered}
 use Rattle.text_scan.specs.declared.FoundDate.{FoundDate}
 use Rattle.text_scan.specs.declared.FoundClock.{FoundClock}
@@ -30,25 +32,25 @@ use Rattle.text_scan.specs.declared.Scan.{Scan}
 use Rattle.text_scan.specs.Scanning.{uncapped, scannedParts}
 use Rattle.text_scan.specs.Carried.{capped}
 use Rattle.text_scan.proofs.Caps.{cut, cutDate, parts-cut}
-use Rattle.text_checks.specs.Reading.{valueGiven, nextDay, dayEnd, maxHour, maxMinute, okClock, isDayEnd, goodClock, clockTicks, clocked, onCalendar, bounded, judge}
+use Rattle.text_checks.specs.Reading.{nextDay, dayEnd, maxHour, maxMinute, okClock, isDayEnd, goodClock, clockTicks, clocked, onCalendar, bounded, judge}
 
 -- the day after
-module _ (k : Kind) (d : Date) (z : Zone) {b : Bool} (eb : b ≡ hasDate k) where
-  module _ (h : b ≡ true) {n : ℕ} (en : n ≡ dayOf d) {x : Dated} (ex : x ≡ datedOf (n + 1) maxYear) where
+module _ (k : Kind) (d : Date) (z : Zone) {own : OwnParts} (ep : own ≡ partsIn (layoutOf k)) where
+  module _ (h : own .day ≡ true) {n : ℕ} (en : n ≡ dayOf d) {x : Dated} (ex : x ≡ datedOf (n + 1) maxYear) where
     after : {y : Dated} → x ≡ y → datedOf (dayOf d + 1) maxYear ≡ y
     after e = sym (ex ∙ ap (λ (m : ℕ). datedOf (m + 1) maxYear) en) ∙ e
 
-    pub next-on : (e : Date) → x ≡ On e → valueGiven k (atClock e 0 z) ≡ nextDay k d z
+    pub next-on : (e : Date) → x ≡ On e → gives (VV.Moment k (atClock e 0 z)) ≡ nextDay k d z
     unfolding nextDay
-    next-on e ee = rw (sym eb ∙ h, after ee)
+    next-on e ee = rw (sym (ap (λ (x : OwnParts). x .day) ep) ∙ h, after ee)
 
     pub next-beyond : x ≡ Later → refuses beyondBounds ≡ nextDay k d z
     unfolding nextDay
-    next-beyond ee = rw (sym eb ∙ h, after ee)
+    next-beyond ee = rw (sym (ap (λ (x : OwnParts). x .day) ep) ∙ h, after ee)
 
-  pub same-day : b ≡ false → valueGiven k (atClock d 0 z) ≡ nextDay k d z
+  pub same-day : own .day ≡ false → gives (VV.Moment k (atClock d 0 z)) ≡ nextDay k d z
   unfolding nextDay
-  same-day h = rw (sym eb ∙ h)
+  same-day h = rw (sym (ap (λ (x : OwnParts). x .day) ep) ∙ h)
 
 -- a date within the bounds has a day after it that can be counted
 pub a-date : (d : Date) → okDate (d .year) (d .month) (d .day) ≡ true → GoodDate d
@@ -79,9 +81,9 @@ module _ (c : FoundClock) where
     span-within e l = (l, omega (arith, clock-within (within-day e) l))
 
     pub on-clock : (k : Kind) (d : Date) (z : Zone) {r : DateTime} → r ≡ atClock d ((c .hour * 3600 + c .minute * 60 + c .second) * secondTicks + c .part) z
-        → valueGiven k r ≡ clocked k d c z
+        → gives (VV.Moment k r) ≡ clocked k d c z
     unfolding clocked clockTicks
-    on-clock k d z e = ap (valueGiven k) e ∙ rw (ne-eqb (c .hour) dayEnd n) (ap (λ (t : ℕ). valueGiven k (atClock d t z)) (omega arith))
+    on-clock k d z e = ap (λ (x : DateTime). gives (VV.Moment k x)) e ∙ rw (ne-eqb (c .hour) dayEnd n) (ap (λ (t : ℕ). gives (VV.Moment k (atClock d t z))) (omega arith))
 
   -- the last of the tests of a day's end
   pub no-part-left : c .hour ≡ dayEnd → c .minute ≡ 0 → c .second ≡ 0 → eqb (c .part) 0 ≡ isDayEnd c

@@ -16,14 +16,12 @@ use Rattle.value.specs.Bounds.{maxYear, maxZone, secondTicks, hourMinutes, dayH
 use Rattle.value.specs.Clocks.{atClock}
 use Rattle.value.specs.Refusals.{badText, beyondBounds, longFraction}
 use Rattle.value.specs.Values.{okDate}
-use Rattle.value.specs.Kinds.{hasDate}
+use Rattle.value.specs.Rows.{hasPart}
 use Rattle.value.specs.declared.Offset.{Offset}
 use Rattle.value.specs.declared.Offset.the-variants.{East, West}
 use Rattle.value.specs.declared.Zone.{Zone}
 use Rattle.value.specs.declared.Zone.the-variants.{Absent, At}
-use Rattle.value.specs.declared.DateTime.{DateTime}
 use Rattle.value.specs.declared.Kind.{Kind}
-use Rattle.value.specs.declared.Kind.the-variants as KV
 use Rattle.value.specs.declared.Value.{Value}
 use Rattle.value.specs.declared.Value.the-variants as VV
 use Rattle.text_scan.specs.declared.FoundDate.{FoundDate}
@@ -31,22 +29,14 @@ use Rattle.text_scan.specs.declared.FoundClock.{FoundClock}
 use Rattle.text_scan.specs.declared.FoundZone.{FoundZone}
 use Rattle.text_scan.specs.declared.Scan.{Scan}
 
--- A record as a value of a kind. The durations are no such records and have no layout: no text has their shape here.
-abbrev pub valueGiven : Kind → DateTime → Answer Value
-valueGiven KV.Date d = gives (VV.Date d)
-valueGiven KV.Time d = gives (VV.Time d)
-valueGiven KV.DateTime d = gives (VV.DateTime d)
-valueGiven KV.DayTimeDuration d = refuses badText
-valueGiven KV.YearMonthDuration d = refuses badText
-
 -- 5. That next day is in a year beyond the bounds: 2.
 abbrev pub startOfDay : Kind → Zone → Dated → Answer Value
-startOfDay k z (On d) = valueGiven k (atClock d 0 z)
+startOfDay k z (On d) = gives (VV.Moment k (atClock d 0 z))
 startOfDay k z Later = refuses beyondBounds
 
--- hour 24 is 00:00:00 of the next day; a time has no day to move
+-- hour 24 is 00:00:00 of the next day; a kind that has no day, as time, has none to move
 unfoldable pub nextDay : Kind → Date → Zone → Answer Value
-nextDay k d z = pick (hasDate k) (startOfDay k z (datedOf (dayOf d + 1) maxYear)) (valueGiven k (atClock d 0 z))
+nextDay k d z = pick (hasPart k (code "D")) (startOfDay k z (datedOf (dayOf d + 1) maxYear)) (gives (VV.Moment k (atClock d 0 z)))
 
 abbrev pub dayEnd : ℕ
 dayEnd = dayHours
@@ -56,7 +46,7 @@ clockTicks c = c .hour * hourTicks + c .minute * minuteTicks + c .second * secon
 
 -- a date, a clock and a zone that passed check 4
 unfoldable pub clocked : Kind → Date → FoundClock → Zone → Answer Value
-clocked k d c z = pick (eqb (c .hour) dayEnd) (nextDay k d z) (valueGiven k (atClock d (clockTicks c) z))
+clocked k d c z = pick (eqb (c .hour) dayEnd) (nextDay k d z) (gives (VV.Moment k (atClock d (clockTicks c) z)))
 
 -- 4. Calendar and clock, in the order of the text: month, day, hour, minute, second, zone. Hour to 23, minute and
 -- second to 59; hour 24 is good only with zero minutes, seconds and fraction.

@@ -15,11 +15,12 @@ use value::Value;
 use value::Zone;
 ghost use mathlib.Core.Path.{_≡_};
 ghost use mathlib.Core.Bool.{true};
-ghost use Rattle.basis.specs.Answer.{refuses};
+ghost use Rattle.basis.specs.Answer.{gives, refuses};
 ghost use Prim.Native.Nat.{_<_};
 ghost use Rattle.value.specs.Bounds.{secondTicks};
 ghost use Rattle.value.specs.Values.{okDate};
 ghost use Rattle.value.specs.Kinds.{meaning};
+ghost use Rattle.value.specs.declared.Value.the-variants as VV;
 ghost use Rattle.text_checks.specs.Reading as the;
 
 const MAX_HOUR: u8 = 23;
@@ -37,17 +38,10 @@ fn refused(number: u8) -> Outcome
     Outcome::Refused(Refusal::numbered(number))
 }
 
-// A record as a value of a kind.
-fn valued(kind: Kind, d: DateTime) -> Outcome
-    ensures { λ r. ⌜ meaning r ≡ the.valueGiven kind d ⌝ }
+fn moment(kind: Kind, d: DateTime) -> Outcome
+    ensures { λ r. ⌜ meaning r ≡ gives (VV.Moment kind d) ⌝ }
 {
-    match kind {
-        Kind::Date => Outcome::Is(Value::Date(d)),
-        Kind::Time => Outcome::Is(Value::Time(d)),
-        Kind::DateTime => Outcome::Is(Value::DateTime(d)),
-        Kind::DayTimeDuration => refused(Refusal::BAD_TEXT),
-        Kind::YearMonthDuration => refused(Refusal::BAD_TEXT),
-    }
+    Outcome::Is(Value::Moment(kind, d))
 }
 
 fn clock_ok(c: FoundClock) -> bool
@@ -119,7 +113,7 @@ fn zone_is(z: FoundZone) -> Zone
     Zone::At(Offset::East(n))
 }
 
-// 00:00:00 of the day after; of a time the day stays.
+// 00:00:00 of the day after; of a kind without a day, as time, the date stays.
 fn next_day(kind: Kind, d: Date, zone: Zone) -> Outcome
     requires { ⌜ okDate (d .year) (d .month) (d .day) ≡ true ⌝ }
     ensures { λ r. ⌜ meaning r ≡ the.nextDay kind d zone ⌝ }
@@ -128,14 +122,15 @@ fn next_day(kind: Kind, d: Date, zone: Zone) -> Outcome
         seconds: 0,
         part: 0,
     };
-    if value::kinds::has_date(kind) {
+    let own = value::kinds::parts(kind);
+    if own.day {
         let n = calendar::day_number(d);
         return match calendar::date_of(n + 1, DateTime::MAX_YEAR) {
-            Dated::On(e) => valued(kind, value::clocks::at(e, midnight, zone)),
+            Dated::On(e) => moment(kind, value::clocks::at(e, midnight, zone)),
             Dated::Later => refused(Refusal::BEYOND_BOUNDS),
         };
     }
-    valued(kind, value::clocks::at(d, midnight, zone))
+    moment(kind, value::clocks::at(d, midnight, zone))
 }
 
 // What a good date, clock and zone read as.
@@ -150,7 +145,7 @@ fn clock(kind: Kind, d: Date, c: FoundClock, zone: Zone) -> Outcome
         seconds: c.hour as u64 * Span::HOUR + c.minute as u64 * Span::MINUTE + c.second as u64,
         part: c.part,
     };
-    valued(kind, value::clocks::at(d, t, zone))
+    moment(kind, value::clocks::at(d, t, zone))
 }
 
 // Month and day first, then hour, minute and second, then the zone.

@@ -1,4 +1,4 @@
--- Two readings that keep the promise of `read_day_time`, or of `read_year_month`, are equal.
+-- Two readings that keep the promise of `read` are equal.
 use mathlib.Core.Path.{_≡_, sym, _∙_}
 use Prim.Native.Nat.{ℕ}
 use Rattle.basis.specs.Answer.{Answer}

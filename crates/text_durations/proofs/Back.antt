@@ -1,7 +1,7 @@
 -- Components that were written are found again: one that is shown, one that was dropped, and a whole list of them. A walk's
 -- `far` plays no part in what a good text reads as, so that the laws speak of its other fields.
 use mathlib.Core.Path.{_≡_, refl, ap, sym, _∙_}
-use mathlib.Core.Bool.{Bool, true, false}
+use mathlib.Core.Bool.{Bool, true, false, not}
 use mathlib.Core.List.{List, [], _∷_, _++_, append-assoc}
 use mathlib.Core.Logic.{_⊎_, inl, inr}
 use Prim.Native.Nat.{ℕ, _+_, _*_, _^_, _<_}
@@ -10,8 +10,9 @@ use native.Mathlib.Omega.{arith}
 use lib.Dec.{eqb}
 use lib.ListN.{length, getD, drop, length-append}
 use lib.Seq.{getD-append-add}
-use borrow.Author.Tests.{eq-eqb, ne-eqb, eqb-true, eqb-false}
-use Rattle.basis.specs.Choice.{pick, both}
+use borrow.Author.Tests.{eq-eqb, ne-eqb, eqb-true, eqb-false, not-true}
+use Rattle.basis.specs.Choice.{pick, both, every}
+use Rattle.basis.proofs.Tests.{both-left, both-right}
 use Rattle.numerals.specs.Reading.{isDigit, number, Number, numeralAt, at, fractionDigits, fractionAt}
 use Rattle.numerals.specs.Writing.{decimal}
 use Rattle.numerals.proofs.Positions.{cell, head, beyond}
@@ -21,9 +22,10 @@ use Rattle.numerals.proofs.Fractions.{kept, kept-length, no-fraction, a-fractio
 use Rattle.numerals.proofs.Stripping.{strip-some}
 use Rattle.text_durations.specs.declared.Sums.{Sums}
 use Rattle.text_durations.specs.declared.Walk.{Walk}
-use Rattle.text_durations.specs.Forms.{weight, countsMonths, seconds, point}
+use Rattle.text_forms.specs.Forms.{weight, countsMonths, seconds, point}
 use Rattle.text_durations.specs.Walks.{moreOf, counting, component}
 use Rattle.text_durations.specs.Spelling.{fractionIn, shown, shareOf, restOf, shownAll}
+use Rattle.text_durations.proofs.FormTests.{awayFrom, toldApart}
 use Rattle.text_durations.proofs.Written.{is-dropped, is-shown}
 
 -- the text here is not the component c
@@ -165,6 +167,28 @@ pub data Apart : List ℕ → Type 0 where
   none : Apart []
   last : {c : ℕ} → isDigit c ≡ false → Apart (c ∷ [])
   more : {c : ℕ} {cs : List ℕ} → isDigit c ≡ false → (c ≡ seconds → ⊥) → (point ≡ c → ⊥) → Away c cs → Apart cs → Apart (c ∷ cs)
+
+-- the tests of letters say so
+away : (c : ℕ) (cs : List ℕ) → awayFrom c cs ≡ true → Away c cs
+unfolding awayFrom every
+away c [] e = end
+away c (d ∷ ds) e =
+    let f = both-right _ _ e in
+    let g = both-right _ _ f in
+    and (eqb-false d c (not-true (eqb d c) (both-left _ _ e))) (not-true (isDigit d) (both-left _ _ f)) (away c ds (both-left _ _ g))
+
+pub apart : (cs : List ℕ) → toldApart cs ≡ true → Apart cs
+unfolding toldApart every
+apart [] e = none
+apart (c ∷ []) e = last (not-true (isDigit c) (both-left _ _ e))
+apart (c ∷ d ∷ ds) e =
+    let f = both-right (not (isDigit c)) _ e in
+    let o = both-left _ _ f in
+    let p = both-right _ _ o in
+    let q = both-right _ _ p in
+    let g = both-right _ _ f in
+    more (not-true (isDigit c) (both-left _ _ e)) (eqb-false c seconds (not-true (eqb c seconds) (both-left _ _ o))) (eqb-false point c (not-true (eqb point c) (both-left _ _ p)))
+    (away c (d ∷ ds) (both-left _ _ q)) (apart (d ∷ ds) (both-left _ _ g))
 
 -- what the text of the other letters begins with is no component c
 pub other-all : (time : Bool) (c : ℕ) (cs : List ℕ) (a : Sums) (u : ℕ) (rest : List ℕ) → (point ≡ c → ⊥) → (c ≡ seconds → ⊥) → isDigit (getD rest 0 0) ≡ false → Away c cs

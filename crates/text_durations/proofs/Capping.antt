@@ -20,7 +20,7 @@ use Rattle.text_durations.specs.declared.Sums.{Sums}
 use Rattle.text_durations.specs.declared.Walk.{Walk}
 use Rattle.text_durations.specs.declared.Shape.{Shape}
 use Rattle.text_durations.specs.declared.Amount.{Amount}
-use Rattle.text_durations.specs.Forms.{weight, countsMonths, seconds, point, timeMark}
+use Rattle.text_forms.specs.Forms.{weight, countsMonths, seconds, point, timeMark}
 use Rattle.text_durations.specs.Walks.{moreOf, counting, component, componentOf, components, pointed, timed, ended, onward, withinBounds, counted, signedAmount}
 use Rattle.text_durations.specs.Carried.{monthsCap, secondsCap, cappedSums, Small, upTo, shapeUpTo}
 

@@ -9,69 +9,71 @@ use Rattle.basis.specs.Letters.{bytes}
 use Rattle.basis.specs.Answer.{gives, refuses}
 use Rattle.value.specs.Bounds.{secondTicks, dayTicks, maxDayTime}
 use Rattle.value.specs.Clocks.{ticksIn, durationOf}
+use Rattle.value.specs.declared.Kind.the-variants as KV
 use Rattle.value.specs.declared.Value.the-variants as VV
+use Rattle.value.specs.Rows.{has}
 use Rattle.numerals.specs.Reading.{isDigit, number, fractionAt}
 use Rattle.numerals.specs.Writing.{digits, shortest, decimal, keptDigits, fractionText}
 use Rattle.text_durations.specs.declared.Amount.{Amount}
-use Rattle.text_durations.specs.Forms.{Form, weight, dayTime, yearMonth}
-use Rattle.text_durations.specs.Walks.{component, components, shapeFrom, shape, counted, readBy, readDayTime}
+use Rattle.text_forms.specs.Forms.{Form, weight, dayTime, yearMonth}
+use Rattle.text_durations.specs.Walks.{component, components, shapeFrom, shape, counted, readBy, readDuration}
 use Rattle.text_durations.specs.Carried.{shapeEnd}
-use Rattle.text_durations.specs.Spelling.{shown, shownAll, left, body, durationText, dayTimeText, yearMonthText}
+use Rattle.text_durations.specs.Spelling.{shown, shownAll, left, body, durationText, durationTextOf}
 
 -- the greatest number of months below zero, and none
-pub writes-most-months : yearMonthText (record { negative = true; months = 1_000_000 }) ≡ bytes "-P83333Y4M"
+pub writes-most-months : durationTextOf (VV.YearMonth (record { negative = true; months = 1_000_000 })) ≡ bytes "-P83333Y4M"
 unfolding digits shortest decimal keptDigits fractionText both weight shown shownAll left body durationText
 writes-most-months = refl
 
-pub writes-no-months : yearMonthText (record { negative = false; months = 0 }) ≡ bytes "P0M"
+pub writes-no-months : durationTextOf (VV.YearMonth (record { negative = false; months = 0 })) ≡ bytes "P0M"
 unfolding durationText
 writes-no-months = refl
 
 -- a fraction: of nine digits it reads, of ten it is 3, also where the total is beyond the bound; of none it has no shape
-pub reads-fraction : readDayTime (bytes "-P1DT0.000000001S") ≡ gives (VV.DayTime (durationOf true (dayTicks + 1)))
-unfolding isDigit number fractionAt both weight component components shapeFrom shape counted readBy
+pub reads-fraction : readDuration KV.DayTimeDuration (bytes "-P1DT0.000000001S") ≡ gives (VV.DayTime (durationOf true (dayTicks + 1)))
+unfolding has isDigit number fractionAt both weight component components shapeFrom shape counted readBy
 reads-fraction = refl
 
-pub writes-fraction : dayTimeText (durationOf true (dayTicks + secondTicks / 2)) ≡ bytes "-P1DT0.5S"
+pub writes-fraction : durationTextOf (VV.DayTime (durationOf true (dayTicks + secondTicks / 2))) ≡ bytes "-P1DT0.5S"
 unfolding ticksIn digits shortest decimal keptDigits fractionText both weight shown shownAll left body durationText
 writes-fraction = refl
 
-pub six-digits : readDayTime (bytes "-P1DT0.000001S") ≡ gives (VV.DayTime (durationOf true (dayTicks + 1_000)))
-unfolding isDigit number fractionAt both weight component components shapeFrom shape counted readBy
+pub six-digits : readDuration KV.DayTimeDuration (bytes "-P1DT0.000001S") ≡ gives (VV.DayTime (durationOf true (dayTicks + 1_000)))
+unfolding has isDigit number fractionAt both weight component components shapeFrom shape counted readBy
 six-digits = refl
 
-pub ten-digits : readDayTime (bytes "PT99999999999999999999.0000000000S") ≡ refuses 3
-unfolding isDigit number fractionAt both weight component components shapeFrom shape counted readBy
+pub ten-digits : readDuration KV.DayTimeDuration (bytes "PT99999999999999999999.0000000000S") ≡ refuses 3
+unfolding has isDigit number fractionAt both weight component components shapeFrom shape counted readBy
 ten-digits = refl
 
 -- a nanosecond below zero, and nothing below it
-pub one-below : readDayTime (bytes "-PT0.000000001S") ≡ gives (VV.DayTime (durationOf true 1))
-unfolding isDigit number fractionAt both weight component components shapeFrom shape counted readBy
+pub one-below : readDuration KV.DayTimeDuration (bytes "-PT0.000000001S") ≡ gives (VV.DayTime (durationOf true 1))
+unfolding has isDigit number fractionAt both weight component components shapeFrom shape counted readBy
 one-below = refl
 
-pub writes-one-below : dayTimeText (durationOf true 1) ≡ bytes "-PT0.000000001S"
+pub writes-one-below : durationTextOf (VV.DayTime (durationOf true 1)) ≡ bytes "-PT0.000000001S"
 unfolding ticksIn digits shortest decimal keptDigits fractionText both weight shown shownAll left body durationText
 writes-one-below = refl
 
-pub no-negative-zero : readDayTime (bytes "-PT0.000000000S") ≡ gives (VV.DayTime (durationOf false 0))
-unfolding isDigit number fractionAt both weight component components shapeFrom shape counted readBy
+pub no-negative-zero : readDuration KV.DayTimeDuration (bytes "-PT0.000000000S") ≡ gives (VV.DayTime (durationOf false 0))
+unfolding has isDigit number fractionAt both weight component components shapeFrom shape counted readBy
 no-negative-zero = refl
 
-pub no-fraction-digit : readDayTime (bytes "PT1.S") ≡ refuses 1
-unfolding isDigit number fractionAt both weight component components shapeFrom shape counted readBy
+pub no-fraction-digit : readDuration KV.DayTimeDuration (bytes "PT1.S") ≡ refuses 1
+unfolding has isDigit number fractionAt both weight component components shapeFrom shape counted readBy
 no-fraction-digit = refl
 
 -- 10^12 seconds and a tick more, and a component of many digits
-pub most-seconds : readDayTime (bytes "PT1000000000000S") ≡ gives (VV.DayTime (durationOf false maxDayTime))
-unfolding isDigit number fractionAt both weight component components shapeFrom shape counted readBy
+pub most-seconds : readDuration KV.DayTimeDuration (bytes "PT1000000000000S") ≡ gives (VV.DayTime (durationOf false maxDayTime))
+unfolding has isDigit number fractionAt both weight component components shapeFrom shape counted readBy
 most-seconds = refl
 
-pub one-tick-more : readDayTime (bytes "-PT1000000000000.000000001S") ≡ refuses 2
-unfolding isDigit number fractionAt both weight component components shapeFrom shape counted readBy
+pub one-tick-more : readDuration KV.DayTimeDuration (bytes "-PT1000000000000.000000001S") ≡ refuses 2
+unfolding has isDigit number fractionAt both weight component components shapeFrom shape counted readBy
 one-tick-more = refl
 
-pub many-digits : readDayTime (bytes "P00000000000000000000000000000000001D") ≡ gives (VV.DayTime (durationOf false dayTicks))
-unfolding isDigit number fractionAt both weight component components shapeFrom shape counted readBy
+pub many-digits : readDuration KV.DayTimeDuration (bytes "P00000000000000000000000000000000001D") ≡ gives (VV.DayTime (durationOf false dayTicks))
+unfolding has isDigit number fractionAt both weight component components shapeFrom shape counted readBy
 many-digits = refl
 
 -- months and seconds are counted apart, in a form that has both
@@ -82,7 +84,7 @@ abbrev someOfBoth : Amount
 someOfBoth = record { negative = true; sums = record { months = 14; seconds = 273_906 }; ticks = 7 * secondTicks / 10 }
 
 pub reads-both : readBy bothSums (bytes "-P1Y2M3DT4H5M6.7S") ≡ gives someOfBoth
-unfolding isDigit number fractionAt both weight component components shapeFrom shape counted readBy
+unfolding has isDigit number fractionAt both weight component components shapeFrom shape counted readBy
 reads-both = refl
 
 pub writes-both : durationText bothSums someOfBoth ≡ bytes "-P1Y2M3DT4H5M6.7S"

@@ -15,7 +15,7 @@ use Rattle.numerals.specs.Carried.{withoutZero}
 use Rattle.numerals.proofs.Positions.{nonzero, within}
 use Rattle.text_durations.specs.declared.Walk.{Walk}
 use Rattle.text_durations.specs.declared.Shape.{Shape}
-use Rattle.text_durations.specs.Forms.{timeMark, startMark, minusSign}
+use Rattle.text_forms.specs.Forms.{timeMark, startMark, minusSign}
 use Rattle.text_durations.specs.Walks.{noSums, component, components, timed, ended, onward, walkFrom, shapeFrom, shape}
 use Rattle.text_durations.specs.Carried.{Small, upTo, shapeUpTo}
 use Rattle.text_durations.proofs.Capping.{kept-sums, kept-whole, up-to-small, components-cap, timed-cap}

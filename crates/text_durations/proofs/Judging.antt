@@ -15,8 +15,7 @@ use Rattle.text_durations.specs.declared.Shape.{Shape}
 use Rattle.text_durations.specs.declared.Amount.{Amount}
 use Rattle.text_durations.specs.declared.Count.{Count}
 use Rattle.text_durations.specs.declared.Count.the-variants as NV
-use Rattle.text_durations.specs.Forms.{isNothing}
-use Rattle.text_durations.specs.Walks.{withinBounds, counted, signedAmount}
+use Rattle.text_durations.specs.Walks.{isNothing, withinBounds, counted, signedAmount}
 use Rattle.text_durations.specs.Carried.{countMeaning}
 
 -- each part against its bound

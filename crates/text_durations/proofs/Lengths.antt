@@ -1,33 +1,33 @@
--- How long a duration's text can be: never more than the longest text has room for.
-use mathlib.Core.Path.{_≡_, refl, ap, sym, _∙_, subst}
+-- How long a duration's text can be: never more than the longest text has room for, in any form that passes.
+use mathlib.Core.Path.{_≡_, refl, ap, _∙_}
 use mathlib.Core.Bool.{Bool, true, false}
 use mathlib.Core.List.{List, [], _∷_, _++_}
-use Prim.Native.Nat.{ℕ, _+_, _/_, _%_, _^_, _≤_, _<_}
+use Prim.Native.Nat.{ℕ, zero, suc, _+_, _/_, _^_, _≤_, _<_}
+use native.Mathlib.Nat.{pow-suc, le-div-iff-mul-le, div-mul-le-self, mod-lt}
 use native.Mathlib.Omega.{arith}
-use lib.Dec.{eqb, lit≤}
+use lib.Dec.{eqb, ltb}
 use lib.ListN.{length, length-append}
-use borrow.Author.Tests.{ne-eqb}
-use Rattle.basis.specs.Choice.{pick, both}
-use Rattle.value.specs.Bounds.{secondTicks, maxDayTime, maxYearMonth}
-use Rattle.value.specs.Carried.{spanOf}
-use Rattle.value.specs.Clocks.{ticksIn}
-use Rattle.value.specs.Values.{okDayTime, okYearMonth}
-use Rattle.value.specs.declared.DayTime.{DayTime}
-use Rattle.value.specs.declared.YearMonth.{YearMonth}
-use Rattle.value.specs.declared.Span.{Span}
-use Rattle.value.proofs.ClockLaws.{ticks-to}
-use Rattle.value.proofs.Signs.{signed-within}
+use borrow.Author.Tests.{ltb-true}
+use Rattle.basis.specs.Choice.{pick}
+use Rattle.value.specs.Kinds.{kindOf, okValue}
+use Rattle.value.specs.declared.Value.{Value}
 use Rattle.numerals.specs.declared.Text.{Text}
 use Rattle.numerals.specs.Reading.{fractionDigits}
 use Rattle.numerals.specs.Writing.{decimal, fractionText, longest}
 use Rattle.numerals.specs.Carried.{Holds, Added}
+use Rattle.numerals.proofs.Powers.{few-digits}
 use Rattle.numerals.proofs.Decimals.{decimal-le}
 use Rattle.numerals.proofs.Fractions.{fraction-short, no-fraction}
 use Rattle.text_durations.specs.declared.Sums.{Sums}
 use Rattle.text_durations.specs.declared.Amount.{Amount}
-use Rattle.text_durations.specs.Forms.{Form, isNothing, years, days, hours, minutes, seconds, weight, dayTime, yearMonth, timeMark}
-use Rattle.text_durations.specs.Spelling.{fractionIn, shown, shownAll, left, afterMark, body, spelt, durationText, dayTimeAmount, yearMonthAmount, dayTimeText, yearMonthText}
+use Rattle.text_forms.specs.Forms.{Form, seconds, weight, countsMonths, timeMark, durationForm}
+use Rattle.text_durations.specs.Walks.{isNothing}
+use Rattle.text_durations.specs.Spelling.{fractionIn, shown, oneSum, remainderOf, shareOf, restOf, shownAll, left, afterMark, body, spelt, durationText, amountOf, durationTextOf}
+use Rattle.text_forms.proofs.Weights.{weight-between}
 use Rattle.text_durations.proofs.Written.{body-length}
+use Rattle.text_durations.proofs.FormTests.{widthTo, mostSums, mostRest, mostShown, mostAll, mostLeft, mostBytes, Sane, sane-row}
+use Rattle.text_durations.proofs.Valid.{Good, months-within, seconds-within}
+use Rattle.text_durations.proofs.Amounts.{value-good}
 
 -- a component of k digits, with a letter and the fraction that it may have
 shown-short : (k c n ticks : ℕ) → 1 ≤ k → n < 10 ^ k → length (shown c n ticks) ≤ k + (length (fractionText (fractionIn c ticks)) + 1)
@@ -38,13 +38,71 @@ shown-short k c n ticks h l = go (eqb (n + fractionIn c ticks) 0)
     go true = omega arith
     go false = omega (arith, length-append (decimal n) (fractionText (fractionIn c ticks) ++ c ∷ []), length-append (fractionText (fractionIn c ticks)) (c ∷ []), decimal-le k n h l)
 
-plain-short : (k c n ticks : ℕ) → 1 ≤ k → n < 10 ^ k → (c ≡ seconds → ⊥) → length (shown c n ticks) ≤ k + 1
-plain-short k c n ticks h l e =
-    let z : fractionIn c ticks ≡ 0 = rw (ne-eqb c seconds e) in
-    omega (arith, shown-short k c n ticks h l, ap length (no-fraction (fractionIn c ticks) z))
+-- a number has the digits that were counted
+width-room : (k n : ℕ) → n < 10 ^ widthTo k n
+unfolding widthTo
+width-room zero n = few-digits n
+width-room (suc k) n = go (ltb n 10) refl (width-room k (n / 10))
+  where
+    go : (b : Bool) → ltb n 10 ≡ b → n / 10 < 10 ^ widthTo k (n / 10) → n < 10 ^ pick b 1 (suc (widthTo k (n / 10)))
+    go true e r = let l : n < 10 = ltb-true n 10 e in omega arith
+    go false e r = omega (arith, pow-suc 10 (widthTo k (n / 10)))
 
-seconds-short : (k n ticks : ℕ) → 1 ≤ k → n < 10 ^ k → length (shown seconds n ticks) ≤ k + (1 + fractionDigits + 1)
-seconds-short k n ticks h l = omega (arith, shown-short k seconds n ticks h l, fraction-short ticks)
+width-some : (k n : ℕ) → 1 ≤ widthTo k n
+unfolding widthTo
+width-some zero n = omega arith
+width-some (suc k) n = go (ltb n 10)
+  where
+    go : (b : Bool) → 1 ≤ pick b 1 (suc (widthTo k (n / 10)))
+    go true = omega arith
+    go false = omega arith
+
+-- a component of which there are m at most
+fraction-room : (c u : ℕ) → length (fractionText (fractionIn c u)) ≤ pick (eqb c seconds) (1 + fractionDigits) 0
+fraction-room c u = go (eqb c seconds)
+  where
+    go : (b : Bool) → length (fractionText (pick b u 0)) ≤ pick b (1 + fractionDigits) 0
+    go true = fraction-short u
+    go false = omega (arith, ap length (no-fraction 0 refl))
+
+one-short : (c n m u : ℕ) → n ≤ m → length (shown c n u) ≤ mostShown c m
+one-short c n m u h =
+    let l : n < 10 ^ widthTo longest m = omega (arith, width-room longest m) in
+    omega (arith, shown-short (widthTo longest m) c n u (width-some longest m) l, fraction-room c u)
+
+-- sums that are no more than others
+pub record NoMore (a g : Sums) : Type 0 where
+  pub months : a .months ≤ g .months
+  pub seconds : a .seconds ≤ g .seconds
+
+share-le : (x y w : ℕ) → 1 ≤ w → x ≤ y → x / w ≤ y / w
+share-le x y w p h = le-div-iff-mul-le p .1 (omega (arith, div-mul-le-self x w))
+
+module _ (a g : Sums) (h : NoMore a g) where
+  shares : (months : Bool) (w : ℕ) → 1 ≤ w → oneSum months a / w ≤ oneSum months g / w
+  shares true w p = share-le (a .months) (g .months) w p (h .months)
+  shares false w p = share-le (a .seconds) (g .seconds) w p (h .seconds)
+
+  rests : (months : Bool) (w : ℕ) → 1 ≤ w → NoMore (remainderOf months w a) (mostRest months w g)
+  rests true w p = record { months = omega (arith, mod-lt (a .months) p); seconds = h .seconds }
+  rests false w p = record { months = h .months; seconds = omega (arith, mod-lt (a .seconds) p) }
+
+-- a list of components
+all-short : (time : Bool) (cs : List ℕ) (a g : Sums) (u : ℕ) → NoMore a g → length (shownAll time cs a u) ≤ mostAll time cs g
+unfolding shownAll mostAll
+all-short time [] a g u h = omega arith
+all-short time (c ∷ cs) a g u h =
+    let p : 1 ≤ weight time c = weight-between time c .0 in
+    let x = one-short c (shareOf time c a) (shareOf time c g) u (shares a g h (countsMonths time c) (weight time c) p) in
+    let y = all-short time cs (restOf time c a) (mostRest (countsMonths time c) (weight time c) g) u (rests a g h (countsMonths time c) (weight time c) p) in
+    omega (arith, x, y, length-append (shown c (shareOf time c a) u) (shownAll time cs (restOf time c a) u))
+
+left-short : (time : Bool) (cs : List ℕ) (a g : Sums) → NoMore a g → NoMore (left time cs a) (mostLeft time cs g)
+unfolding left mostLeft
+left-short time [] a g h = h
+left-short time (c ∷ cs) a g h =
+    left-short time cs (restOf time c a) (mostRest (countsMonths time c) (weight time c) g)
+    (rests a g h (countsMonths time c) (weight time c) (weight-between time c .0))
 
 after-short : (after : List ℕ) (a : Sums) (ticks k : ℕ) → length (shownAll true after a ticks) ≤ k → length (afterMark after a ticks) ≤ 1 + k
 after-short after a ticks k h = go (isNothing a ticks)
@@ -53,42 +111,13 @@ after-short after a ticks k h = go (isNothing a ticks)
     go true = omega arith
     go false = omega arith
 
--- seconds alone, and months alone
-abbrev secondsOf : ℕ → Sums
-secondsOf n = record { months = 0; seconds = n }
-
-abbrev monthsOf : ℕ → Sums
-monthsOf n = record { months = n; seconds = 0 }
-
--- hours, minutes and seconds of less than a day
-time-short : (n ticks : ℕ) → n < 86400 → length (shownAll true (dayTime .after) (secondsOf n) ticks) ≤ 19
-unfolding shownAll weight both
-time-short n ticks h =
-    let a = plain-short 2 hours (n / 3600) ticks (omega arith) (omega arith) (λ e. omega arith) in
-    let b = plain-short 2 minutes (n % 3600 / 60) ticks (omega arith) (omega arith) (λ e. omega arith) in
-    let c = seconds-short 2 (n % 3600 % 60 / 1) ticks (omega arith) (omega arith) in
-    let x : List ℕ = shown seconds (n % 3600 % 60 / 1) ticks ++ [] in
-    let e : shownAll true (dayTime .after) (secondsOf n) ticks ≡ shown hours (n / 3600) ticks ++ (shown minutes (n % 3600 / 60) ticks ++ x) = refl in
-    omega (arith, ap length e, length-append (shown hours (n / 3600) ticks) (shown minutes (n % 3600 / 60) ticks ++ x), length-append (shown minutes (n % 3600 / 60) ticks) x, length-append (shown seconds (n % 3600 % 60 / 1) ticks) [])
-
--- of less than 10^9 days, and of any number of months that a machine holds
-pub day-time-short : (n ticks : ℕ) → n / 86400 < 10 ^ 9 → 1 + length (body (dayTime .before) (dayTime .after) (secondsOf n) ticks) ≤ longest
-unfolding shownAll left weight
-day-time-short n u h =
-    let a = plain-short 9 days (n / 86400) u (omega arith) h (λ e. omega arith) in
-    let b = after-short (dayTime .after) (secondsOf (n % 86400)) u 19 (time-short (n % 86400) u (omega arith)) in
-    let e : shownAll false (dayTime .before) (secondsOf n) u ≡ shown days (n / 86400) u ++ [] = refl in
-    let f : left false (dayTime .before) (secondsOf n) ≡ secondsOf (n % 86400) = refl in
-    omega (arith, ap length e, body-length (dayTime .before) (dayTime .after) (secondsOf n) u, length-append (shown days (n / 86400) u) [])
-
-pub year-month-short : (n : ℕ) → n < 2 ^ 32 → 1 + length (body (yearMonth .before) (yearMonth .after) (monthsOf n) 0) ≤ longest
-unfolding shownAll left weight both
-year-month-short n h =
-    let a = plain-short 9 years (n / 12) 0 (omega arith) (omega arith) (λ e. omega arith) in
-    let b = plain-short 2 minutes (n % 12 / 1) 0 (omega arith) (omega arith) (λ e. omega arith) in
-    let c = after-short (yearMonth .after) (monthsOf (n % 12 % 1)) 0 0 (omega arith) in
-    let e : shownAll false (yearMonth .before) (monthsOf n) 0 ≡ shown years (n / 12) 0 ++ (shown minutes (n % 12 / 1) 0 ++ []) = refl in
-    omega (arith, ap length e, body-length (yearMonth .before) (yearMonth .after) (monthsOf n) 0, length-append (shown years (n / 12) 0) (shown minutes (n % 12 / 1) 0 ++ []), length-append (shown minutes (n % 12 / 1) 0) [])
+-- the body of a text with a sign, in any form
+pub body-short : (f : Form) (a : Sums) (u : ℕ) → NoMore a mostSums → 1 + length (body (f .before) (f .after) a u) ≤ mostBytes f
+body-short f a u h =
+    let L : Sums = left false (f .before) a in
+    let x = all-short false (f .before) a mostSums u h in
+    let y = all-short true (f .after) L (mostLeft false (f .before) mostSums) u (left-short false (f .before) a mostSums h) in
+    omega (arith, x, after-short (f .after) L u (mostAll true (f .after) (mostLeft false (f .before) mostSums)) y, body-length (f .before) (f .after) a u)
 
 -- the whole text
 module _ (f : Form) (a : Amount) where
@@ -114,21 +143,6 @@ pub holds-some : (f : Form) (a : Amount) (r : Text) → isNothing (a .sums) (a .
     → Holds (r .bytes) (r .len) (durationText f a)
 holds-some f a r e x = rw (text-some f a e) x
 
--- a dayTimeDuration of whose size the code has the span
-module _ (d : DayTime) {z : Span} (e : z ≡ spanOf (ticksIn d)) where
-  pub sized : {b : Bool} → isNothing (secondsOf (z .seconds)) (z .part) ≡ b → isNothing (dayTimeAmount d .sums) (dayTimeAmount d .ticks) ≡ b
-  sized q = sym (ap (λ (x : Span). isNothing (secondsOf (x .seconds)) (x .part)) e) ∙ q
-
-  pub sized-short : ticksIn d ≤ maxDayTime → 1 + length (body (dayTime .before) (dayTime .after) (secondsOf (z .seconds)) (z .part)) ≤ longest
-  sized-short h = let s : z .seconds ≡ ticksIn d / secondTicks = ap (λ (x : Span). x .seconds) e in day-time-short (z .seconds) (z .part) (omega arith)
-
-  pub holds-sized : {r : Text} → isNothing (secondsOf (z .seconds)) (z .part) ≡ false
-      → Holds (r .bytes) (r .len) (spelt (d .negative) (body (dayTime .before) (dayTime .after) (secondsOf (z .seconds)) (z .part)))
-      → Holds (r .bytes) (r .len) (dayTimeText d)
-  holds-sized {r} q h =
-      holds-some dayTime (dayTimeAmount d) r (sized q)
-      (subst (λ (x : Span). Holds (r .bytes) (r .len) (spelt (d .negative) (body (dayTime .before) (dayTime .after) (secondsOf (x .seconds)) (x .part)))) e h)
-
 -- the length of a text
 text-length : (f : Form) (a : Amount) → length (f .nothing) ≤ longest → 1 + length (body (f .before) (f .after) (a .sums) (a .ticks)) ≤ longest → length (durationText f a) ≤ longest
 text-length f a h l = go (isNothing (a .sums) (a .ticks)) refl
@@ -137,12 +151,16 @@ text-length f a h l = go (isNothing (a .sums) (a .ticks)) refl
     go true q = rw (text-zero f a q) h
     go false q = rw (text-some f a q) (omega (arith, spelt-short (a .negative) (body (f .before) (f .after) (a .sums) (a .ticks))))
 
-pub day-time-length : (d : DayTime) → okDayTime d ≡ true → length (dayTimeText d) ≤ longest
-day-time-length d ok =
-    let h : ticksIn d ≤ maxDayTime = ticks-to d ok in
-    text-length dayTime (dayTimeAmount d) (lit≤ tt) (day-time-short (ticksIn d / secondTicks) (ticksIn d % secondTicks) (omega arith))
+-- an amount within the bounds is no more than the most
+sums-within : (a : Amount) → Good a → NoMore (a .sums) mostSums
+sums-within a g = record { months = months-within a g; seconds = omega (arith, seconds-within a g) }
 
-pub year-month-length : (d : YearMonth) → okYearMonth d ≡ true → length (yearMonthText d) ≤ longest
-year-month-length d ok =
-    let h : d .months ≤ maxYearMonth = signed-within maxYearMonth (d .months) (d .negative) ok in
-    text-length yearMonth (yearMonthAmount d) (lit≤ tt) (year-month-short (d .months) (omega arith))
+-- so in a form that passes every text has room
+pub value-short : (v : Value) (f : Form) → okValue v ≡ true → Sane f → 1 + length (body (f .before) (f .after) (amountOf v .sums) (amountOf v .ticks)) ≤ longest
+value-short v f ok s =
+    omega (arith, body-short f (amountOf v .sums) (amountOf v .ticks) (sums-within (amountOf v) (value-good v ok)), s .room)
+
+pub duration-length : (v : Value) → okValue v ≡ true → length (durationTextOf v) ≤ longest
+duration-length v ok =
+    let s : Sane (durationForm (kindOf v)) = sane-row (kindOf v) in
+    text-length (durationForm (kindOf v)) (amountOf v) (s .zero-room) (value-short v (durationForm (kindOf v)) ok s)

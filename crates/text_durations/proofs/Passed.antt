@@ -16,7 +16,7 @@ use Rattle.numerals.proofs.Passed.{Passed, passed-none, passed-mark, passed-dig
 use Rattle.numerals.proofs.Fractions.{fraction-end}
 use Rattle.text_durations.specs.declared.Sums.{Sums}
 use Rattle.text_durations.specs.declared.Walk.{Walk}
-use Rattle.text_durations.specs.Forms.{seconds, point, minusSign, startMark, timeMark}
+use Rattle.text_forms.specs.Forms.{seconds, point, minusSign, startMark, timeMark}
 use Rattle.text_durations.specs.Walks.{noSums, counting, component, components, pointed, tried, takenWith, walkTaken, walkFrom, onward, ended, timed, shapeFrom, shape}
 
 -- the bytes that stand in the text of a duration

@@ -1,42 +1,39 @@
 -- THE ROUND TRIP of durations: the body of a text, its sign, and then any amount within the bounds that a form's
--- components count reads as what was written. What reads is within the bounds of its kind.
+-- components count reads as what was written, in any form that passes. What reads is valid, and of its kind.
 use mathlib.Core.Path.{_≡_, refl, ap, sym, _∙_}
-use mathlib.Core.Bool.{Bool, true, false}
+use mathlib.Core.Bool.{Bool, true, false, not}
 use mathlib.Core.List.{List, [], _∷_, _++_, append-nil}
-use Prim.Native.Nat.{ℕ, _+_, _*_, _/_, _%_, _^_, _≤_, _<_}
-use native.Mathlib.Nat.{div-add-mod'}
+use Prim.Native.Nat.{ℕ, _+_, _^_, _≤_, _<_}
 use native.Mathlib.Omega.{arith}
-use lib.Dec.{eqb, leb, ltb}
+use lib.Dec.{eqb, ltb}
 use lib.ListN.{length, getD, drop, length-append, length-drop}
-use borrow.Author.Tests.{eq-eqb, ne-eqb, eqb-true, eqb-false, le-leb, lt-ltb, ltb-true, ltb-false}
+use borrow.Author.Tests.{eq-eqb, ne-eqb, eqb-true, eqb-false, lt-ltb, not-true}
 use Rattle.basis.specs.Choice.{pick, both, every}
-use Rattle.basis.specs.Answer.{Answer, gives, refusesFor}
+use Rattle.basis.specs.Answer.{Answer, gives, refusesFor, refuses}
 use Rattle.basis.proofs.Tests.{never, both-left, both-right}
-use Rattle.value.specs.Bounds.{secondTicks, maxDayTime, maxYearMonth}
-use Rattle.value.specs.Clocks.{ticksIn, durationOf}
-use Rattle.value.specs.Values.{okSigned, okDayTime, okYearMonth}
-use Rattle.value.specs.Kinds.{okValue}
-use Rattle.value.specs.declared.DayTime.{DayTime}
-use Rattle.value.specs.declared.YearMonth.{YearMonth}
+use Rattle.value.specs.Refusals.{badText}
+use Rattle.value.specs.Rows.{isMoment}
+use Rattle.value.specs.Kinds.{kindOf, okValue}
+use Rattle.value.specs.declared.Kind.{Kind}
 use Rattle.value.specs.declared.Value.{Value}
-use Rattle.value.specs.declared.Value.the-variants as VV
-use Rattle.value.proofs.ClockLaws.{duration-is, day-time-signed, day-time-ok, ticks-to}
-use Rattle.value.proofs.Signs.{signed-within}
-use Rattle.numerals.specs.Reading.{isDigit, number, at, fractionDigits, fractionAt}
+use Rattle.numerals.specs.Reading.{isDigit, at, fractionDigits}
 use Rattle.numerals.proofs.Positions.{head, beyond}
 use Rattle.text_durations.specs.declared.Sums.{Sums}
 use Rattle.text_durations.specs.declared.Walk.{Walk}
 use Rattle.text_durations.specs.declared.Shape.{Shape}
 use Rattle.text_durations.specs.declared.Amount.{Amount}
-use Rattle.text_durations.specs.Forms.{Form, weight, isNothing, years, hours, minutes, seconds, point, timeMark, startMark, minusSign, dayTime, yearMonth}
-use Rattle.text_durations.specs.Walks.{noSums, component, components, timed, ended, onward, walkFrom, shapeFrom, shape, withinBounds, counted, signedAmount, readBy, readDayTime, readYearMonth, asValue, dayTimeOf, yearMonthOf}
-use Rattle.text_durations.specs.Spelling.{shownAll, left, afterMark, body, spelt, durationText, dayTimeAmount, yearMonthAmount, dayTimeText, yearMonthText}
+use Rattle.text_forms.specs.Forms.{Form, timeMark, startMark, minusSign, noForm, durationForm, formMonths}
+use Rattle.text_durations.specs.Walks.{isNothing, noSums, components, timed, ended, onward, walkFrom, shapeFrom, shape, withinBounds, counted, signedAmount, readBy, asValue, amountValue, readIn, readDuration}
+use Rattle.text_durations.specs.Spelling.{shownAll, left, afterMark, body, spelt, durationText, amountOf, durationTextOf}
 use Rattle.text_durations.proofs.Going.{no-mark}
-use Rattle.text_durations.proofs.Judging.{is-within}
+use Rattle.text_durations.proofs.Judging.{no-shape, is-within}
 use Rattle.text_durations.proofs.Lengths.{text-zero, text-some}
-use Rattle.text_durations.proofs.Valid.{Good, Counts, months-within, seconds-within, only-seconds, only-months, reads-good}
-use Rattle.text_durations.proofs.Back.{Apart, none, last, more, end, and}
-use Rattle.text_durations.proofs.Trip.{carried, All, all-back, none-shown, same-sums}
+use Rattle.text_durations.proofs.Valid.{Good, reads-good}
+use Rattle.text_durations.proofs.Back.{Apart, apart}
+use Rattle.text_durations.proofs.Trip.{carried, carried-has, All, all-back, none-shown, same-sums}
+use Rattle.text_durations.proofs.FormTests.{Sane, sane-row, zeroReads, rows-zero, rows-own}
+use Rattle.text_forms.proofs.RowTests.{rows-none}
+use Rattle.text_durations.proofs.Amounts.{Fits, all-left, fraction-left, value-good, value-fits, value-back, amount-valid}
 
 no-zero : isDigit 0 ≡ false
 unfolding isDigit both
@@ -160,26 +157,27 @@ module _ (before after : List ℕ) (n : Sums) (u : ℕ) (nz : isNothing n u ≡ 
   spelt-back true = body-back (minusSign ∷ body before after n u) true 1 (omega arith) refl
   spelt-back false = body-back (body before after n u) false 0 (omega arith) refl
 
--- a form whose texts can be told apart, seconds after T, and whose text of zero reads as that
-pub record Sane (f : Form) : Type 0 where
-  pub apart-before : Apart (f .before)
-  pub apart-after : Apart (f .after)
-  pub none-before : (u : ℕ) → carried (f .before) u ≡ 0
-  pub nothing-back : readBy f (f .nothing) ≡ gives (record { negative = false; sums = noSums; ticks = 0 })
+-- a form's text of zero reads as that
+zero-back : (f : Form) → zeroReads f ≡ true → readBy f (f .nothing) ≡ gives (record { negative = false; sums = noSums; ticks = 0 })
+unfolding readBy every both
+zero-back f z =
+    let t : Shape = shape (f .before) (f .after) (f .nothing) in
+    let y = both-right (t .good) _ z in
+    let l : t .long ≡ false = not-true (t .long) (both-left (not (t .long)) _ y) in
+    let n : t .sums .months + t .sums .seconds + t .ticks ≡ 0 = eqb-true _ _ (both-left _ _ (both-right (not (t .long)) _ y)) in
+    let m : t .sums ≡ noSums = same-sums (omega arith) (omega arith) in
+    let u : t .ticks ≡ 0 = omega arith in
+    sym (is-within t (both-left (t .good) _ z) l (λ i. withinBounds (m i) (u i))) ∙ (λ i. gives (signedAmount (t .negative) (m i) (u i)))
 
--- an amount that the components of a form count whole
-pub record Fits (f : Form) (a : Amount) : Type 0 where
-  pub all : left true (f .after) (left false (f .before) (a .sums)) ≡ noSums
-  pub fraction : carried (f .after) (a .ticks) ≡ a .ticks
-
--- such an amount reads as what was written, in any such form
-module _ (f : Form) (sane : Sane f) (a : Amount) (good : Good a) (fits : Fits f a) where
+-- an amount that a form counts whole reads as what was written, in any form that passes
+module _ (f : Form) (s : Sane f) (z : zeroReads f ≡ true) (a : Amount) (good : Good a) (fits : Fits f a) where
   some-back : isNothing (a .sums) (a .ticks) ≡ false → readBy f (durationText f a) ≡ gives a
   unfolding readBy
   some-back nz =
       let t : Shape = shape (f .before) (f .after) (spelt (a .negative) (body (f .before) (f .after) (a .sums) (a .ticks))) in
+      let nb : carried (f .before) (a .ticks) ≡ 0 = carried-has (f .before) (a .ticks) ∙ (λ i. pick (s .whole-before i) (a .ticks) 0) in
       let w : Whole (a .negative) (a .sums) (a .ticks) t =
-      spelt-back (f .before) (f .after) (a .sums) (a .ticks) nz (good .part) (sane .apart-before) (sane .apart-after) (sane .none-before (a .ticks)) (fits .fraction) (fits .all) (a .negative) in
+      spelt-back (f .before) (f .after) (a .sums) (a .ticks) nz (good .part) (apart (f .before) (s .told-before)) (apart (f .after) (s .told-after)) nb (fraction-left f a fits) (all-left f a fits) (a .negative) in
       ap (λ (x : List ℕ). counted (shape (f .before) (f .after) x)) (text-some f a nz)
       ∙ sym (is-within t (w .good) (w .long) (ap (λ (x : Sums). withinBounds x (t .ticks)) (w .sums) ∙ ap (withinBounds (a .sums)) (w .ticks) ∙ good .within))
       ∙ (λ i. gives (signedAmount (w .sign i) (w .sums i) (w .ticks i)))
@@ -187,10 +185,10 @@ module _ (f : Form) (sane : Sane f) (a : Amount) (good : Good a) (fits : Fits f 
 
   none-back : isNothing (a .sums) (a .ticks) ≡ true → readBy f (durationText f a) ≡ gives a
   none-back q =
-      let z : a .sums .months + a .sums .seconds + a .ticks ≡ 0 = eqb-true _ _ q in
+      let n : a .sums .months + a .sums .seconds + a .ticks ≡ 0 = eqb-true _ _ q in
       let m : noSums ≡ a .sums = same-sums (omega arith) (omega arith) in
       let u : 0 ≡ a .ticks = omega arith in
-      ap (readBy f) (text-zero f a q) ∙ sane .nothing-back ∙ (λ i. gives (record { negative = sym (good .sign q) i; sums = m i; ticks = u i }))
+      ap (readBy f) (text-zero f a q) ∙ zero-back f z ∙ (λ i. gives (record { negative = sym (good .sign q) i; sums = m i; ticks = u i }))
 
   pub amount-back : readBy f (durationText f a) ≡ gives a
   amount-back = go (isNothing (a .sums) (a .ticks)) refl
@@ -199,125 +197,55 @@ module _ (f : Form) (sane : Sane f) (a : Amount) (good : Good a) (fits : Fits f 
       go true q = none-back q
       go false q = some-back q
 
--- the two forms
-sane-day-time : Sane dayTime
-unfolding isDigit number fractionAt both weight component components shapeFrom shape counted readBy carried
-sane-day-time =
-    record {
-      apart-before = last refl;
-      apart-after =
-          more refl (eqb-false hours seconds refl) (eqb-false point hours refl) (and (eqb-false minutes hours refl) refl (and (eqb-false seconds hours refl) refl end))
-          (more refl (eqb-false minutes seconds refl) (eqb-false point minutes refl) (and (eqb-false seconds minutes refl) refl end) (last refl));
-      none-before = λ u. refl;
-      nothing-back = refl;
-    }
+-- so every duration reads as what was written
+pub duration-round-trip : (v : Value) → isMoment (kindOf v) ≡ false → okValue v ≡ true → readDuration (kindOf v) (durationTextOf v) ≡ gives v
+duration-round-trip v e ok =
+    let f : Form = durationForm (kindOf v) in
+    ap (asValue (amountValue (formMonths f))) (amount-back f (sane-row (kindOf v)) (rows-zero (kindOf v) e) (amountOf v) (value-good v ok) (value-fits v))
+    ∙ ap gives (value-back v e ok)
 
-sane-year-month : Sane yearMonth
-unfolding isDigit number fractionAt both weight component components shapeFrom shape counted readBy carried
-sane-year-month =
-    record {
-      apart-before = more refl (eqb-false years seconds refl) (eqb-false point years refl) (and (eqb-false minutes years refl) refl end) (last refl);
-      apart-after = none;
-      none-before = λ u. refl;
-      nothing-back = refl;
-    }
-
--- and their kinds
-signed-zero : (bound n : ℕ) (negative : Bool) → okSigned bound negative n ≡ true → n ≡ 0 → negative ≡ false
-unfolding okSigned every
-signed-zero bound n true ok z =
-    let k : ltb 0 n ≡ true = both-left (ltb 0 n) true (both-right (leb n bound) _ ok) in
-    absurd (no (ltb-true 0 n k))
+-- no text is of a form without components
+none-from : (s : List ℕ) (negative : Bool) (i : ℕ) → shapeFrom [] [] s negative i .good ≡ false
+unfolding shapeFrom components both
+none-from s negative i = by (eqb (at s i) startMark)
   where
-    no : 0 < n → ⊥
-    no l = omega arith
-signed-zero bound n false ok z = refl
+    by : (b : Bool)
+        → pick b (timed [] s negative (i + 1) (components s false [] (walkFrom (i + 1)))) (record { negative = negative; sums = noSums; ticks = 0; long = false; good = false; offset = i }) .good ≡ false
+    by true = rw (eq-eqb (i + 1) (i + 1) refl)
+    by false = refl
 
-no-ticks : (t : ℕ) → 0 + t / secondTicks + t % secondTicks ≡ 0 → t ≡ 0
-no-ticks t e = omega arith
-
-no-months : (n : ℕ) → n + 0 + 0 ≡ 0 → n ≡ 0
-no-months n e = omega arith
-
-day-time-good : (d : DayTime) → okDayTime d ≡ true → Good (dayTimeAmount d)
-unfolding both
-day-time-good d ok =
-    let h : ticksIn d ≤ maxDayTime = ticks-to d ok in
-    record {
-      within = le-leb (ticksIn d / secondTicks * secondTicks + ticksIn d % secondTicks) maxDayTime (omega arith);
-      sign = λ e. signed-zero maxDayTime (ticksIn d) (d .negative) (day-time-signed d ok) (no-ticks (ticksIn d) (eqb-true _ _ e));
-      part = omega arith;
-    }
-
-day-time-fits : (d : DayTime) → Fits dayTime (dayTimeAmount d)
-unfolding left weight both carried
-day-time-fits d = record { all = same-sums refl (omega arith); fraction = refl }
-
-year-month-good : (d : YearMonth) → okYearMonth d ≡ true → Good (yearMonthAmount d)
-unfolding both
-year-month-good d ok =
-    let h : d .months ≤ maxYearMonth = signed-within maxYearMonth (d .months) (d .negative) ok in
-    record {
-      within = rw (le-leb (d .months) maxYearMonth h);
-      sign = λ e. signed-zero maxYearMonth (d .months) (d .negative) ok (no-months (d .months) (eqb-true _ _ e));
-      part = omega arith;
-    }
-
-year-month-fits : (d : YearMonth) → Fits yearMonth (yearMonthAmount d)
-unfolding left weight both carried
-year-month-fits d = record { all = same-sums (omega arith) refl; fraction = refl }
-
-pub day-time-round-trip : (d : DayTime) → okDayTime d ≡ true → readDayTime (dayTimeText d) ≡ gives (VV.DayTime d)
-day-time-round-trip d ok =
-    ap (asValue dayTimeOf) (amount-back dayTime sane-day-time (dayTimeAmount d) (day-time-good d ok) (day-time-fits d))
-    ∙ ap (λ (n : ℕ). gives (VV.DayTime (durationOf (d .negative) n))) (div-add-mod' (ticksIn d) secondTicks)
-    ∙ ap (λ (x : DayTime). gives (VV.DayTime x)) (duration-is d ok)
-
-pub year-month-round-trip : (d : YearMonth) → okYearMonth d ≡ true → readYearMonth (yearMonthText d) ≡ gives (VV.YearMonth d)
-year-month-round-trip d ok = ap (asValue yearMonthOf) (amount-back yearMonth sane-year-month (yearMonthAmount d) (year-month-good d ok) (year-month-fits d))
-
--- what reads is valid
-signed-ok : (bound n : ℕ) (negative : Bool) → n ≤ bound → (n ≡ 0 → negative ≡ false) → okSigned bound negative n ≡ true
-unfolding okSigned every both
-signed-ok bound n true h z = rw (le-leb n bound h) (go (ltb 0 n) refl)
+none-good : (s : List ℕ) → shape [] [] s .good ≡ false
+unfolding shape
+none-good s = by (eqb (at s 0) minusSign)
   where
-    go : (b : Bool) → ltb 0 n ≡ b → both (ltb 0 n) true ≡ true
-    go true e = rw e
-    go false e = let l : n ≤ 0 = ltb-false 0 n e in absurd (never (sym (z (omega arith))))
-signed-ok bound n false h z = rw (le-leb n bound h)
+    by : (b : Bool) → pick b (shapeFrom [] [] s true 1) (shapeFrom [] [] s false 0) .good ≡ false
+    by true = none-from s true 1
+    by false = none-from s false 0
 
-valid-as : (f : Form) (value : Amount → Value) (s : List ℕ) → ((a : Amount) → Counts (shape (f .before) (f .after) s) a → okValue (value a) ≡ true)
-    → (v : Value) → asValue value (readBy f s) ≡ gives v → okValue v ≡ true
-valid-as f value s ok v e = go (readBy f s) refl e
+none-reads : (s : List ℕ) → readIn noForm s ≡ refuses badText
+unfolding readBy
+none-reads s = ap (asValue (amountValue (formMonths noForm))) (sym (no-shape (shape [] [] s) (none-good s)))
+
+-- what reads is valid, and of the kind that it was read as
+pub duration-valid : (k : Kind) (s : List ℕ) (v : Value) → readDuration k s ≡ gives v → (okValue v ≡ true) × (kindOf v ≡ k)
+duration-valid k s v e = go (isMoment k) refl
   where
     no : _≡_ {A = ℕ} 0 1 → ⊥
     no z = omega arith
 
-    go : (x : Answer Amount) → readBy f s ≡ x → asValue value x ≡ gives v → okValue v ≡ true
-    go (gives a) q r =
-        let k : value a ≡ v = cc in
-        ap okValue (sym k) ∙ ok a (reads-good f s a q)
-    go (refusesFor why) q r = let z : _≡_ {A = ℕ} 0 1 = cc in absurd (no z)
+    f : Form
+    f = durationForm k
 
-pub day-time-valid : (s : List ℕ) (v : Value) → readDayTime s ≡ gives v → okValue v ≡ true
-unfolding okValue both
-day-time-valid s v e = valid-as dayTime dayTimeOf s ok v e
-  where
-    ok : (a : Amount) → Counts (shape (dayTime .before) (dayTime .after) s) a → okValue (dayTimeOf a) ≡ true
-    ok a k =
-        let n : ℕ = a .sums .seconds * secondTicks + a .ticks in
-        let m : a .sums .months ≡ 0 = sym (ap (λ (x : Sums). x .months) (k .sums)) ∙ only-seconds s (dayTime .before) (dayTime .after) refl refl in
-        let z : (n ≡ 0 → a .negative ≡ false) = λ q. k .good .sign (eq-eqb (a .sums .months + a .sums .seconds + a .ticks) 0 (omega arith)) in
-        day-time-ok (a .negative) n (signed-ok maxDayTime n (a .negative) (seconds-within a (k .good)) z)
+    by : isMoment k ≡ false → (x : Answer Amount) → readBy (durationForm k) s ≡ x → asValue (amountValue (formMonths (durationForm k))) x ≡ gives v
+        → (okValue v ≡ true) × (kindOf v ≡ k)
+    by m (gives a) q r =
+        let w : amountValue (formMonths (durationForm k)) a ≡ v = cc in
+        (ap okValue (sym w) ∙ amount-valid f s a (sane-row k .alone) (reads-good f s a q), ap kindOf (sym w) ∙ rows-own k a m)
+    by m (refusesFor why) q r = let z : _≡_ {A = ℕ} 0 1 = cc in absurd (no z)
 
-pub year-month-valid : (s : List ℕ) (v : Value) → readYearMonth s ≡ gives v → okValue v ≡ true
-unfolding okValue both
-year-month-valid s v e = valid-as yearMonth yearMonthOf s ok v e
-  where
-    ok : (a : Amount) → Counts (shape (yearMonth .before) (yearMonth .after) s) a → okValue (yearMonthOf a) ≡ true
-    ok a k =
-        let n : ℕ = a .sums .months in
-        let o = only-months s (yearMonth .before) (yearMonth .after) refl refl in
-        let m : a .sums .seconds ≡ 0 = sym (ap (λ (x : Sums). x .seconds) (k .sums)) ∙ o .0 in
-        let u : a .ticks ≡ 0 = sym (k .ticks) ∙ o .1 in
-        signed-ok maxYearMonth n (a .negative) (months-within a (k .good)) (λ q. k .good .sign (eq-eqb (a .sums .months + a .sums .seconds + a .ticks) 0 (omega arith)))
+    go : (b : Bool) → isMoment k ≡ b → (okValue v ≡ true) × (kindOf v ≡ k)
+    go true m =
+        let r : gives v ≡ refuses badText = sym e ∙ ap (λ (g : Form). readIn g s) (rows-none k m) ∙ none-reads s in
+        let z : _≡_ {A = ℕ} 0 1 = cc in
+        absurd (no z)
+    go false m = by m (readBy (durationForm k) s) refl e

@@ -3,17 +3,19 @@ use mathlib.Core.Path.{_≡_, refl, ap, sym, _∙_}
 use mathlib.Core.Bool.{Bool, true, false}
 use mathlib.Core.List.{List, [], _∷_, _++_, append-assoc, append-nil}
 use Prim.Native.Nat.{ℕ, _+_, _*_, _/_, _%_, _^_, _<_}
-use native.Mathlib.Nat.{div-add-mod'}
+use native.Mathlib.Nat.{div-add-mod', zero-mod, mod-one}
 use native.Mathlib.Omega.{arith}
 use lib.Dec.{eqb}
 use lib.ListN.{length, getD, drop, length-append}
 use borrow.Author.Tests.{ne-eqb, eqb-true}
-use Rattle.basis.specs.Choice.{pick}
+use Rattle.basis.specs.Choice.{pick, both}
+use Rattle.basis.proofs.Tests.{never}
+use Rattle.value.specs.Rows.{has}
 use Rattle.numerals.specs.Reading.{isDigit, at, fractionDigits}
 use Rattle.numerals.proofs.Positions.{beyond}
 use Rattle.text_durations.specs.declared.Sums.{Sums}
 use Rattle.text_durations.specs.declared.Walk.{Walk}
-use Rattle.text_durations.specs.Forms.{weight, countsMonths, seconds}
+use Rattle.text_forms.specs.Forms.{weight, countsMonths, minutes, seconds}
 use Rattle.text_durations.specs.Walks.{moreOf, component, components}
 use Rattle.text_durations.specs.Spelling.{fractionIn, shown, oneSum, remainderOf, shareOf, restOf, shownAll, left}
 use Rattle.text_durations.proofs.Written.{shown-length}
@@ -139,3 +141,61 @@ none-shown time (c ∷ cs) a u e = go (eqb (shareOf time c a + fractionIn c u) 0
       where
         no : _≡_ {A = ℕ} 0 1 → ⊥
         no q = omega arith
+
+-- the fraction is carried where S is among the letters
+pub carried-has : (cs : List ℕ) (u : ℕ) → carried cs u ≡ pick (has cs seconds) u 0
+unfolding carried has
+carried-has [] u = refl
+carried-has (c ∷ cs) u = by (eqb c seconds) (carried-has cs u)
+  where
+    by : (b : Bool) → carried cs u ≡ pick (has cs seconds) u 0 → pick b u (carried cs u) ≡ pick (pick b true (has cs seconds)) u 0
+    by true e = refl
+    by false e = e
+
+-- components leave no months and no seconds where there are none
+no-months-rest : (months : Bool) (w : ℕ) (a : Sums) → a .months ≡ 0 → remainderOf months w a .months ≡ 0
+no-months-rest true w a e = ap (λ (n : ℕ). n % w) e ∙ zero-mod w
+no-months-rest false w a e = e
+
+no-seconds-rest : (months : Bool) (w : ℕ) (a : Sums) → a .seconds ≡ 0 → remainderOf months w a .seconds ≡ 0
+no-seconds-rest true w a e = e
+no-seconds-rest false w a e = ap (λ (n : ℕ). n % w) e ∙ zero-mod w
+
+pub left-no-months : (time : Bool) (cs : List ℕ) (a : Sums) → a .months ≡ 0 → left time cs a .months ≡ 0
+unfolding left
+left-no-months time [] a e = e
+left-no-months time (c ∷ cs) a e = left-no-months time cs (restOf time c a) (no-months-rest (countsMonths time c) (weight time c) a e)
+
+pub left-no-seconds : (time : Bool) (cs : List ℕ) (a : Sums) → a .seconds ≡ 0 → left time cs a .seconds ≡ 0
+unfolding left
+left-no-seconds time [] a e = e
+left-no-seconds time (c ∷ cs) a e = left-no-seconds time cs (restOf time c a) (no-seconds-rest (countsMonths time c) (weight time c) a e)
+
+-- nor where one of them counts ones
+month-ones : (a : Sums) → restOf false minutes a .months ≡ 0
+unfolding weight both
+month-ones a = mod-one (a .months)
+
+second-ones : (a : Sums) → restOf true seconds a .seconds ≡ 0
+unfolding weight both
+second-ones a = mod-one (a .seconds)
+
+pub all-months : (cs : List ℕ) (a : Sums) → has cs minutes ≡ true → left false cs a .months ≡ 0
+unfolding left has
+all-months [] a h = absurd (never h)
+all-months (c ∷ cs) a h = by (eqb c minutes) refl h (λ k. all-months cs (restOf false c a) k)
+  where
+    by : (b : Bool) → eqb c minutes ≡ b → pick b true (has cs minutes) ≡ true → (has cs minutes ≡ true → left false cs (restOf false c a) .months ≡ 0)
+        → left false cs (restOf false c a) .months ≡ 0
+    by true q k r = left-no-months false cs (restOf false c a) (ap (λ (d : ℕ). restOf false d a .months) (eqb-true c minutes q) ∙ month-ones a)
+    by false q k r = r k
+
+pub all-seconds : (cs : List ℕ) (a : Sums) → has cs seconds ≡ true → left true cs a .seconds ≡ 0
+unfolding left has
+all-seconds [] a h = absurd (never h)
+all-seconds (c ∷ cs) a h = by (eqb c seconds) refl h (λ k. all-seconds cs (restOf true c a) k)
+  where
+    by : (b : Bool) → eqb c seconds ≡ b → pick b true (has cs seconds) ≡ true → (has cs seconds ≡ true → left true cs (restOf true c a) .seconds ≡ 0)
+        → left true cs (restOf true c a) .seconds ≡ 0
+    by true q k r = left-no-seconds true cs (restOf true c a) (ap (λ (d : ℕ). restOf true d a .seconds) (eqb-true c seconds q) ∙ second-ones a)
+    by false q k r = r k

@@ -20,8 +20,8 @@ use Rattle.text_durations.specs.declared.Walk.{Walk}
 use Rattle.text_durations.specs.declared.Shape.{Shape}
 use Rattle.text_durations.specs.declared.Amount.{Amount}
 use Rattle.text_durations.specs.declared.Count.{Count}
-use Rattle.text_durations.specs.Forms.{Form, weight, countsMonths, isNothing, seconds, point, timeMark, startMark, minusSign}
-use Rattle.text_durations.specs.Walks.{noSums, moreOf, counting, component, componentOf, components, pointed, timed, onward, walkFrom, shapeFrom, shape, withinBounds, counted, signedAmount, readBy}
+use Rattle.text_forms.specs.Forms.{Form, weight, countsMonths, seconds, point, timeMark, startMark, minusSign}
+use Rattle.text_durations.specs.Walks.{isNothing, noSums, moreOf, counting, component, componentOf, components, pointed, timed, onward, walkFrom, shapeFrom, shape, withinBounds, counted, signedAmount, readBy}
 use Rattle.text_durations.specs.Carried.{countMeaning, shapeUpTo}
 use Rattle.text_durations.proofs.Capping.{counted-cap}
 

@@ -15,10 +15,10 @@ use Rattle.numerals.specs.Carried.{Found}
 use Rattle.numerals.proofs.Positions.{within}
 use Rattle.text_durations.specs.declared.Sums.{Sums}
 use Rattle.text_durations.specs.declared.Walk.{Walk}
-use Rattle.text_durations.specs.Forms.{weight, countsMonths, seconds, point}
+use Rattle.text_forms.specs.Forms.{weight, countsMonths, seconds, point}
 use Rattle.text_durations.specs.Walks.{counting, component, componentOf, pointed, walkTaken, tried, takenWith}
 use Rattle.text_durations.specs.Carried.{secondsCap, cappedSums, Small, upTo}
-use Rattle.text_durations.proofs.Weights.{weight-between}
+use Rattle.text_forms.proofs.Weights.{weight-between}
 use Rattle.text_durations.proofs.Capping.{number-capped, kept-sums, kept-whole, pointed-cap}
 
 -- after a point

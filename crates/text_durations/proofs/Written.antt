@@ -15,7 +15,8 @@ use Rattle.numerals.specs.Writing.{decimal, fractionText}
 use Rattle.numerals.specs.Carried.{textIn, Holds, Added}
 use Rattle.numerals.proofs.Texts.{then, unchanged, named}
 use Rattle.text_durations.specs.declared.Sums.{Sums}
-use Rattle.text_durations.specs.Forms.{weight, countsMonths, isNothing, startMark, timeMark, minusSign}
+use Rattle.text_forms.specs.Forms.{weight, countsMonths, startMark, timeMark, minusSign}
+use Rattle.text_durations.specs.Walks.{isNothing}
 use Rattle.text_durations.specs.Spelling.{fractionIn, shown, oneSum, remainderOf, shareOf, restOf, shownAll, left, afterMark, body, spelt}
 
 -- nothing to be written

@@ -8,7 +8,7 @@ use Rattle.value.specs.Bounds.{maxDayTimeSeconds, maxYearMonth}
 use Rattle.value.specs.Reasons.{reasonOf}
 use Rattle.value.specs.Kinds as kinds
 use Rattle.value.specs.declared.Value.{Value}
-use Rattle.text_durations.specs.Forms.{Form}
+use Rattle.text_forms.specs.Forms.{Form}
 use Rattle.text_durations.specs.Walks.{shape}
 use Rattle.text_durations.specs.declared.Sums.{Sums}
 use Rattle.text_durations.specs.declared.Walk.{Walk}

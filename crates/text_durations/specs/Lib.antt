@@ -1,4 +1,3 @@
-pub mod Forms
 pub mod Walks
 pub mod Carried
 pub mod Spelling

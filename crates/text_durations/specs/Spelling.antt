@@ -9,10 +9,14 @@ use Rattle.value.specs.Bounds.{secondTicks}
 use Rattle.value.specs.Clocks.{ticksIn}
 use Rattle.value.specs.declared.DayTime.{DayTime}
 use Rattle.value.specs.declared.YearMonth.{YearMonth}
+use Rattle.value.specs.Kinds.{kindOf}
+use Rattle.value.specs.declared.Value.{Value}
+use Rattle.value.specs.declared.Value.the-variants as VV
 use Rattle.numerals.specs.Writing.{decimal, fractionText}
 use Rattle.text_durations.specs.declared.Sums.{Sums}
 use Rattle.text_durations.specs.declared.Amount.{Amount}
-use Rattle.text_durations.specs.Forms.{Form, weight, countsMonths, isNothing, dayTime, yearMonth, seconds, minusSign, startMark, timeMark}
+use Rattle.text_forms.specs.Forms.{Form, weight, countsMonths, durationForm, seconds, minusSign, startMark, timeMark}
+use Rattle.text_durations.specs.Walks.{isNothing, noSums}
 
 -- seconds alone have a fraction
 abbrev pub fractionIn : ℕ → ℕ → ℕ
@@ -60,7 +64,7 @@ unfoldable pub durationText : Form → Amount → List ℕ
 durationText f a =
     pick (isNothing (a .sums) (a .ticks)) (f .nothing) (spelt (a .negative) (body (f .before) (f .after) (a .sums) (a .ticks)))
 
--- the two kinds as amounts
+-- the two duration records as amounts; a date, time or dateTime is none
 abbrev pub dayTimeAmount : DayTime → Amount
 dayTimeAmount d =
     record { negative = d .negative; sums = record { months = 0; seconds = ticksIn d / secondTicks }; ticks = ticksIn d % secondTicks }
@@ -68,8 +72,11 @@ dayTimeAmount d =
 abbrev pub yearMonthAmount : YearMonth → Amount
 yearMonthAmount d = record { negative = d .negative; sums = record { months = d .months; seconds = 0 }; ticks = 0 }
 
-abbrev pub dayTimeText : DayTime → List ℕ
-dayTimeText d = durationText dayTime (dayTimeAmount d)
+abbrev pub amountOf : Value → Amount
+amountOf (VV.Moment k d) = record { negative = false; sums = noSums; ticks = 0 }
+amountOf (VV.DayTime t) = dayTimeAmount t
+amountOf (VV.YearMonth m) = yearMonthAmount m
 
-abbrev pub yearMonthText : YearMonth → List ℕ
-yearMonthText d = durationText yearMonth (yearMonthAmount d)
+-- the text of a duration, by its kind's form
+abbrev pub durationTextOf : Value → List ℕ
+durationTextOf v = durationText (durationForm (kindOf v)) (amountOf v)

@@ -11,6 +11,7 @@ use Rattle.basis.specs.Answer.{Answer, gives, refusesFor, refuses}
 use Rattle.value.specs.Bounds.{secondTicks, maxDayTime, maxYearMonth}
 use Rattle.value.specs.Clocks.{durationOf}
 use Rattle.value.specs.Refusals.{badText, beyondBounds, longFraction}
+use Rattle.value.specs.declared.Kind.{Kind}
 use Rattle.value.specs.declared.Value.{Value}
 use Rattle.value.specs.declared.Value.the-variants as VV
 use Rattle.numerals.specs.declared.Fraction.{Fraction}
@@ -19,7 +20,11 @@ use Rattle.text_durations.specs.declared.Sums.{Sums}
 use Rattle.text_durations.specs.declared.Walk.{Walk}
 use Rattle.text_durations.specs.declared.Shape.{Shape}
 use Rattle.text_durations.specs.declared.Amount.{Amount}
-use Rattle.text_durations.specs.Forms.{Form, weight, countsMonths, isNothing, dayTime, yearMonth, seconds, minusSign, point, startMark, timeMark}
+use Rattle.text_forms.specs.Forms.{Form, weight, countsMonths, formMonths, durationForm, seconds, minusSign, point, startMark, timeMark}
+
+-- no months, no seconds and no part of a second
+abbrev pub isNothing : Sums → ℕ → Bool
+isNothing a ticks = eqb (a .months + a .seconds + ticks) 0
 
 -- the sums of no component
 abbrev pub noSums : Sums
@@ -121,25 +126,20 @@ counted t =
 unfoldable pub readBy : Form → List ℕ → Answer Amount
 readBy f s = counted (shape (f .before) (f .after) s)
 
--- what the two kinds have of an amount, as values
-abbrev pub dayTimeOf : Amount → Value
-dayTimeOf a = VV.DayTime (durationOf (a .negative) (a .sums .seconds * secondTicks + a .ticks))
-
-abbrev pub yearMonthOf : Amount → Value
-yearMonthOf a = VV.YearMonth (record { negative = a .negative; months = a .sums .months })
+-- what a kind has of an amount, as a value: the months where its form counts them, else the seconds with their part
+abbrev pub amountValue : Bool → Amount → Value
+amountValue months a =
+    pick months
+    (VV.YearMonth (record { negative = a .negative; months = a .sums .months }))
+    (VV.DayTime (durationOf (a .negative) (a .sums .seconds * secondTicks + a .ticks)))
 
 abbrev pub asValue : (Amount → Value) → Answer Amount → Answer Value
 asValue value (gives a) = gives (value a)
 asValue value (refusesFor r) = refusesFor r
 
-abbrev pub asDayTime : Answer Amount → Answer Value
-asDayTime x = asValue dayTimeOf x
+-- a text of a kind, by its form
+abbrev pub readIn : Form → List ℕ → Answer Value
+readIn f s = asValue (amountValue (formMonths f)) (readBy f s)
 
-abbrev pub asYearMonth : Answer Amount → Answer Value
-asYearMonth x = asValue yearMonthOf x
-
-abbrev pub readDayTime : List ℕ → Answer Value
-readDayTime s = asDayTime (readBy dayTime s)
-
-abbrev pub readYearMonth : List ℕ → Answer Value
-readYearMonth s = asYearMonth (readBy yearMonth s)
+abbrev pub readDuration : Kind → List ℕ → Answer Value
+readDuration k s = readIn (durationForm k) s

@@ -1,6 +1,6 @@
-// The text of dayTimeDurations and yearMonthDurations, read and written.
+// The text of durations, read and written by the form of their kind.
 use numerals::Text;
-use value::DayTime;
+use value::Kind;
 use value::Outcome;
 use value::Refusal;
 use value::Span;
@@ -13,9 +13,9 @@ ghost use mathlib.Core.Bool.{true};
 ghost use Prim.Native.Nat.{_<_};
 ghost use Rattle.basis.specs.Answer.{refuses};
 ghost use Rattle.value.specs.Bounds.{secondTicks};
-ghost use Rattle.value.specs.Values.{okDayTime};
+ghost use Rattle.value.specs.Kinds.{okValue};
 ghost use Rattle.numerals.specs.Carried.{Holds};
-ghost use Rattle.text_durations.specs.Forms.{dayTime, yearMonth};
+ghost use Rattle.text_forms.specs.Forms.{durationForm};
 ghost use Rattle.text_durations.specs.Walks as the;
 ghost use Rattle.text_durations.specs.Carried as carried;
 ghost use Rattle.text_durations.specs.Spelling as its;
@@ -125,42 +125,40 @@ fn counted(t: Shape) -> Count
     })
 }
 
-pub fn read_day_time(s: &[u8]) -> Reading
-    ensures { λ r. ⌜ carried.Reads (the.readDayTime (now (s .entry))) (carried.shapeEnd dayTime (now (s .entry))) r ⌝ }
+// An amount as a value: its months, or its seconds with their part.
+fn amount_value(months: bool, a: Amount) -> Value
+    requires { ⌜ (a .ticks < secondTicks) × (the.withinBounds (a .sums) (a .ticks) ≡ true) ⌝ }
+    ensures { λ r. ⌜ r ≡ the.amountValue months a ⌝ }
 {
-    let t = scan::shape(s, b"D", b"HMS");
-    let offset = t.offset;
-    let c = counted(t);
-    match c {
-        Count::Of(a) => {
-            let size = Span {
-                seconds: a.sums.seconds,
-                part: a.ticks,
-            };
-            Reading {
-                outcome: Outcome::Is(Value::DayTime(clocks::lasting(a.negative, size))),
-                offset,
-            }
-        }
-        Count::Refused(r) => Reading {
-            outcome: Outcome::Refused(r),
-            offset,
-        },
+    if months {
+        return Value::YearMonth(YearMonth {
+            negative: a.negative,
+            months: a.sums.months as u32,
+        });
     }
+    let size = Span {
+        seconds: a.sums.seconds,
+        part: a.ticks,
+    };
+    Value::DayTime(clocks::lasting(a.negative, size))
 }
 
-pub fn read_year_month(s: &[u8]) -> Reading
-    ensures { λ r. ⌜ carried.Reads (the.readYearMonth (now (s .entry))) (carried.shapeEnd yearMonth (now (s .entry))) r ⌝ }
+// What a text of a kind reads as, by the kind's form.
+pub fn read(kind: Kind, s: &[u8]) -> Reading
+    ensures { λ r. ⌜ carried.Reads (the.readDuration kind (now (s .entry))) (carried.shapeEnd (durationForm kind) (now (s .entry))) r ⌝ }
 {
-    let t = scan::shape(s, b"YM", b"");
+    let row = text_forms::row(kind);
+    let before = row.before;
+    let b = row.before_len;
+    let after = row.after;
+    let n = row.after_len;
+    let months = text_forms::has_letter(&before[..b], b'M');
+    let t = scan::shape(s, &before[..b], &after[..n]);
     let offset = t.offset;
     let c = counted(t);
     match c {
         Count::Of(a) => Reading {
-            outcome: Outcome::Is(Value::YearMonth(YearMonth {
-                negative: a.negative,
-                months: a.sums.months as u32,
-            })),
+            outcome: Outcome::Is(amount_value(months, a)),
             offset,
         },
         Count::Refused(r) => Reading {
@@ -170,31 +168,59 @@ pub fn read_year_month(s: &[u8]) -> Reading
     }
 }
 
-pub fn day_time_text(d: DayTime) -> Text
-    requires { ⌜ okDayTime d ≡ true ⌝ }
-    ensures { λ r. ⌜ Holds (r .bytes) (r .len) (its.dayTimeText d) ⌝ }
+// A duration as an amount; a date, time or dateTime is none.
+fn amount_of(v: Value) -> Amount
+    requires { ⌜ okValue v ≡ true ⌝ }
+    ensures { λ r. ⌜ r ≡ its.amountOf v ⌝ }
 {
-    let size = clocks::size(d);
-    let ticks = size.part;
-    let sums = Sums {
-        months: 0,
-        seconds: size.seconds,
-    };
-    if spell::is_nothing(sums, ticks) {
-        return Text::new().push(b'P').push(b'T').push(b'0').push(b'S');
+    match v {
+        Value::Moment(_, _) => Amount {
+            negative: false,
+            sums: Sums {
+                months: 0,
+                seconds: 0,
+            },
+            ticks: 0,
+        },
+        Value::DayTime(d) => {
+            let size = clocks::size(d);
+            Amount {
+                negative: d.negative,
+                sums: Sums {
+                    months: 0,
+                    seconds: size.seconds,
+                },
+                ticks: size.part,
+            }
+        }
+        Value::YearMonth(d) => Amount {
+            negative: d.negative,
+            sums: Sums {
+                months: d.months as u64,
+                seconds: 0,
+            },
+            ticks: 0,
+        },
     }
-    spell::spelt(d.negative, b"D", b"HMS", sums, ticks)
 }
 
-pub fn year_month_text(d: YearMonth) -> Text
-    ensures { λ r. ⌜ Holds (r .bytes) (r .len) (its.yearMonthText d) ⌝ }
+// The text of a duration, by its kind's form.
+pub fn text_of(v: Value) -> Text
+    requires { ⌜ okValue v ≡ true ⌝ }
+    ensures { λ r. ⌜ Holds (r .bytes) (r .len) (its.durationTextOf v) ⌝ }
 {
-    let sums = Sums {
-        months: d.months as u64,
-        seconds: 0,
-    };
-    if spell::is_nothing(sums, 0) {
-        return Text::new().push(b'P').push(b'0').push(b'M');
+    let row = text_forms::row(v.kind());
+    let a = amount_of(v);
+    let sums = a.sums;
+    let ticks = a.ticks;
+    if spell::is_nothing(sums, ticks) {
+        let nothing = row.nothing;
+        let m = row.nothing_len;
+        return spell::joined(Text::new(), &nothing[..m]);
     }
-    spell::spelt(d.negative, b"YM", b"", sums, 0)
+    let before = row.before;
+    let b = row.before_len;
+    let after = row.after;
+    let n = row.after_len;
+    spell::spelt(a.negative, &before[..b], &after[..n], sums, ticks)
 }

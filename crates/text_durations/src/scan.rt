@@ -11,50 +11,14 @@ ghost use Prim.Native.Nat.{_≤_, min};
 ghost use lib.ListN.{length};
 ghost use Rattle.numerals.specs.Carried.{withoutZero};
 ghost use Rattle.numerals.specs.Reading as digits;
-ghost use Rattle.text_durations.specs.Forms as forms;
+ghost use Rattle.text_forms.specs.Forms as forms;
 ghost use Rattle.text_durations.specs.Walks as the;
 ghost use Rattle.text_durations.specs.Carried.{Small, secondsCap, cappedSums, upTo, shapeUpTo};
-
-const YEAR: u64 = calendar::MONTH_COUNT as u64;
 
 // A sum is kept as far as one above its bound.
 const MONTHS_CAP: u64 = YearMonth::MAX as u64 + 1;
 
 const SECONDS_CAP: u64 = DayTime::MAX_SECONDS + 1;
-
-// What one of a component counts: of years and months in months, of the others in seconds.
-pub fn weight(time: bool, letter: u8) -> u64
-    ensures { λ r. ⌜ r ≡ forms.weight time letter ⌝ }
-{
-    if letter == b'Y' {
-        return YEAR;
-    }
-    if letter == b'D' {
-        return Span::DAY;
-    }
-    if letter == b'H' {
-        return Span::HOUR;
-    }
-    if time {
-        if letter == b'M' {
-            return Span::MINUTE;
-        }
-    }
-    1
-}
-
-// Whether a component counts months. The others count seconds.
-pub fn counts_months(time: bool, letter: u8) -> bool
-    ensures { λ r. ⌜ r ≡ forms.countsMonths time letter ⌝ }
-{
-    if letter == b'Y' {
-        return true;
-    }
-    if time {
-        return false;
-    }
-    letter == b'M'
-}
 
 fn up_to(cap: u64, n: u64) -> u64
     ensures { λ r. ⌜ r ≡ min cap n ⌝ }
@@ -67,8 +31,8 @@ fn counting(time: bool, letter: u8, n: u64, sums: Sums) -> Sums
     requires { ⌜ (Small sums) × (n ≤ secondsCap) ⌝ }
     ensures { λ r. ⌜ r ≡ cappedSums (the.counting time letter n sums) ⌝ }
 {
-    let k = n * weight(time, letter);
-    if counts_months(time, letter) {
+    let k = n * text_forms::weight(time, letter);
+    if text_forms::counts_months(time, letter) {
         return Sums {
             months: up_to(MONTHS_CAP, sums.months + k),
             seconds: sums.seconds,

@@ -9,8 +9,22 @@ ghost use lib.Dec.{eqb};
 ghost use lib.ListN.{length};
 ghost use Rattle.numerals.specs.Writing.{longest};
 ghost use Rattle.numerals.specs.Carried.{Holds, Added};
-ghost use Rattle.text_durations.specs.Forms.{isNothing};
+ghost use Rattle.text_durations.specs.Walks.{isNothing};
 ghost use Rattle.text_durations.specs.Spelling as its;
+
+// A text with more bytes.
+pub fn joined(text: Text, s: &[u8]) -> Text
+    requires { ⌜ text .len + length (now s) ≤ longest ⌝ }
+    ensures { λ r. ⌜ Added text r (now (s .entry)) (length (now (s .entry))) ⌝ }
+{
+    let mut t = text;
+    let mut k = 0;
+    while k < s.len() {
+        t = t.push(s[k]);
+        k += 1;
+    }
+    t
+}
 
 // Neither whole ones nor a part of one.
 fn is_zero(n: u64, ticks: u32) -> bool
@@ -54,8 +68,8 @@ fn shown(t: Text, letter: u8, n: u64, ticks: u32) -> Text
 fn share_of(time: bool, letter: u8, sums: Sums) -> u64
     ensures { λ r. ⌜ r ≡ its.shareOf time letter sums ⌝ }
 {
-    let w = scan::weight(time, letter);
-    if scan::counts_months(time, letter) {
+    let w = text_forms::weight(time, letter);
+    if text_forms::counts_months(time, letter) {
         return sums.months / w;
     }
     sums.seconds / w
@@ -65,8 +79,8 @@ fn share_of(time: bool, letter: u8, sums: Sums) -> u64
 fn rest_of(time: bool, letter: u8, sums: Sums) -> Sums
     ensures { λ r. ⌜ r ≡ its.restOf time letter sums ⌝ }
 {
-    let w = scan::weight(time, letter);
-    if scan::counts_months(time, letter) {
+    let w = text_forms::weight(time, letter);
+    if text_forms::counts_months(time, letter) {
         return Sums {
             months: sums.months % w,
             seconds: sums.seconds,

@@ -10,6 +10,7 @@ use Rattle.basis.specs.Letters.{bytes}
 use Rattle.value.specs.Bounds.{maxYear, maxZone}
 use Rattle.value.specs.Carried.{maxClock}
 use Rattle.value.specs.Clocks.{clockOf, atClock}
+use Rattle.value.specs.Rows.{layoutOf}
 use Rattle.value.specs.Values.{okDate, okOffset, okZone, okTimePart, okDateTime}
 use Rattle.value.specs.declared.Offset.the-variants.{East}
 use Rattle.value.specs.declared.Zone.the-variants.{At}
@@ -17,7 +18,7 @@ use Rattle.value.specs.declared.DateTime.{DateTime}
 use Rattle.value.specs.declared.Kind.{Kind}
 use Rattle.value.specs.declared.Kind.the-variants as KV
 use Rattle.numerals.specs.Writing.{longest, digits, keptDigits, fractionText}
-use Rattle.text_scan.specs.Scanning.{layout, isPair}
+use Rattle.text_scan.specs.Scanning.{isPair}
 use Rattle.text_scan.specs.Carried.{widths}
 use Rattle.text_layouts.specs.Writing.{partText, pairOf, layoutText, kindText}
 use Rattle.text_layouts.proofs.Pieces.{text-short, wide}
@@ -28,7 +29,7 @@ by-widths [] d = omega arith
 by-widths (p ∷ ps) d = omega (arith, length-append (partText p d) (layoutText ps d), text-short p d, by-widths ps d)
 
 pub text-fits : (k : Kind) (d : DateTime) → length (kindText k d) ≤ longest
-text-fits k d = omega (arith, by-widths (layout k) d, wide k)
+text-fits k d = omega (arith, by-widths (layoutOf k) d, wide k)
 
 -- 9999-12-31T23:59:59.999999999+14:00
 abbrev last : DateTime

@@ -14,6 +14,7 @@ use Rattle.basis.specs.Choice.{pick}
 use Rattle.value.specs.Bounds.{secondTicks}
 use Rattle.value.specs.Carried.{spanOf}
 use Rattle.value.specs.Clocks.{clockOf}
+use Rattle.value.specs.Rows.{layoutOf}
 use Rattle.value.specs.declared.Offset.{Offset}
 use Rattle.value.specs.declared.Offset.the-variants.{East, West}
 use Rattle.value.specs.declared.Zone.{Zone}
@@ -29,7 +30,7 @@ use Rattle.numerals.specs.declared.Text.{Text}
 use Rattle.numerals.proofs.Texts.{then, named}
 use Rattle.numerals.proofs.Decimals.{length-digits}
 use Rattle.numerals.proofs.Fractions.{fraction-short}
-use Rattle.text_scan.specs.Scanning.{layout, isPair}
+use Rattle.text_scan.specs.Scanning.{isPair}
 use Rattle.text_scan.specs.Carried.{signedWidth, width, widths}
 use Rattle.text_layouts.specs.Writing.{hhmm, offsetText, zoneText, pairOf, partText, layoutText, kindText}
 
@@ -162,8 +163,8 @@ finish layout d {t} k g h =
       size = omega (arith, g .own, ap length e);
     }
 
--- every layout leaves room for its parts
-pub wide : (k : Kind) → widths (layout k) ≤ longest
+-- every row leaves room for its parts
+pub wide : (k : Kind) → widths (layoutOf k) ≤ longest
 unfolding widths width isPair
 wide KV.Date = omega arith
 wide KV.Time = omega arith
@@ -171,5 +172,8 @@ wide KV.DateTime = omega arith
 wide KV.DayTimeDuration = omega arith
 wide KV.YearMonthDuration = omega arith
 
-pub kinded : {k x : Kind} (d : DateTime) (r : Text) → k ≡ x → Holds (r .bytes) (r .len) (kindText x d) → Holds (r .bytes) (r .len) (kindText k d)
-kinded {k} {x} d r e a = subst (λ (y : Kind). Holds (r .bytes) (r .len) (kindText y d)) (sym e) a
+pub roomy : (k : Kind) {ps : List ℕ} → ps ≡ layoutOf k → widths ps ≤ longest
+roomy k e = rw e (wide k)
+
+pub kinded : (k : Kind) {ps : List ℕ} (d : DateTime) (r : Text) → ps ≡ layoutOf k → Holds (r .bytes) (r .len) (layoutText ps d) → Holds (r .bytes) (r .len) (kindText k d)
+kinded k d r e a = subst (λ (q : List ℕ). Holds (r .bytes) (r .len) (layoutText q d)) e a

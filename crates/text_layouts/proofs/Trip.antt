@@ -10,6 +10,7 @@ use lib.Dec.{eqb}
 use lib.ListN.{length, drop}
 use borrow.Author.Tests.{le-leb, ne-eqb, eqb-true}
 use Rattle.basis.specs.Choice.{pick, both, every}
+use Rattle.basis.specs.Answer.{gives}
 use Rattle.value.specs.Bounds.{maxYear, maxZone, secondTicks}
 use Rattle.value.specs.Clocks.{clockOf, atClock}
 use Rattle.value.specs.Values.{okDate, okZone, okDateTime}
@@ -18,13 +19,14 @@ use Rattle.value.specs.declared.Zone.{Zone}
 use Rattle.value.specs.declared.Zone.the-variants.{Absent, At}
 use Rattle.value.specs.declared.DateTime.{DateTime}
 use Rattle.value.specs.declared.Kind.{Kind}
+use Rattle.value.specs.declared.Value.the-variants as VV
 use Rattle.value_instants.proofs.Within.{east-to, west-to}
 use Rattle.text_scan.specs.declared.FoundDate.{FoundDate}
 use Rattle.text_scan.specs.declared.FoundClock.{FoundClock}
 use Rattle.text_scan.specs.declared.FoundZone.{FoundZone}
 use Rattle.text_scan.specs.declared.Scan.{Scan}
 use Rattle.text_scan.specs.Scanning.{uncapped, isPair, withPair, scanned}
-use Rattle.text_checks.specs.Reading.{maxHour, maxMinute, dayEnd, valueGiven, okClock, goodClock, clockTicks, clocked, offsetMinutes, okParts, zoneIs, dayFound, onCalendar, judge}
+use Rattle.text_checks.specs.Reading.{maxHour, maxMinute, dayEnd, okClock, goodClock, clockTicks, clocked, offsetMinutes, okParts, zoneIs, dayFound, onCalendar, judge}
 use Rattle.text_layouts.specs.Writing.{pairOf, partText, layoutText}
 use Rattle.text_checks.proofs.Ways.{past-checks}
 use Rattle.text_layouts.proofs.Keeping.{zoneKept, partKept, allKept, recordOf, sane, Small, small}
@@ -104,19 +106,19 @@ sounds (p ∷ ps) v m t b = sounds ps v m (partKept p v t) (sound p v m t b)
 
 -- a good date, clock and zone are a value
 on-calendar : (k : Kind) (d : FoundDate) (c : FoundClock) (z : FoundZone) → okDate (d .year) (d .month) (d .day) ≡ true → SoundClock c → SoundZone z
-    → onCalendar k d c z ≡ valueGiven k (atClock (dayFound d) (clockTicks c) (zoneIs z))
+    → onCalendar k d c z ≡ gives (VV.Moment k (atClock (dayFound d) (clockTicks c) (zoneIs z)))
 unfolding onCalendar clocked goodClock okParts okClock every both
 on-calendar k d c z e a b =
     rw (e, le-leb (c .hour) maxHour (a .hour), le-leb (c .minute) maxMinute (a .minute), le-leb (c .second) maxMinute (a .second), le-leb (z .minutes) maxMinute (b .minutes), le-leb (offsetMinutes z) maxZone (b .offset), ne-eqb (c .hour) dayEnd (λ q. omega (arith, a .hour)))
 
-judged : (k : Kind) (t : Scan) → t .good ≡ true → Sound t → okDate (t .date .year) (t .date .month) (t .date .day) ≡ true → judge k (t .at) t ≡ valueGiven k (recordOf t)
+judged : (k : Kind) (t : Scan) → t .good ≡ true → Sound t → okDate (t .date .year) (t .date .month) (t .date .day) ≡ true → judge k (t .at) t ≡ gives (VV.Moment k (recordOf t))
 judged k t g b d =
     sym (past-checks k (t .at) t g refl (b .clock .short) (b .date .plus) (b .date .year)) ∙ on-calendar k (t .date) (t .clock) (t .zone) d (b .clock) (b .zone)
 
 -- what a layout writes of v, it reads as what it keeps of v, over any sound template
 pub round-from : (t : Scan) → t .good ≡ true → t .at ≡ 0 → Sound t → (k : Kind) (ps : List ℕ) (v : DateTime) → sane ps ≡ true → okDateTime v ≡ true
     → okDate (allKept ps v t .date .year) (allKept ps v t .date .month) (allKept ps v t .date .day) ≡ true
-    → judge k (length (layoutText ps v)) (scanned uncapped ps (layoutText ps v) t) ≡ valueGiven k (recordOf (allKept ps v t))
+    → judge k (length (layoutText ps v)) (scanned uncapped ps (layoutText ps v) t) ≡ gives (VV.Moment k (recordOf (allKept ps v t)))
 round-from t g z b k ps v h o d =
     let m : Small v = small v o in
     let s : List ℕ = layoutText ps v in

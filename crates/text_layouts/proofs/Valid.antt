@@ -1,15 +1,16 @@
 -- What reads is valid: a value that is read is of its kind and within the bounds. The checks of the calendar, the clock
 -- and the zone say so of the parts; the parts that the kind has not are still the template's.
-use mathlib.Core.Path.{_≡_, refl, sym}
+use mathlib.Core.Path.{_≡_, refl, sym, _∙_}
 use mathlib.Core.Bool.{Bool, true, false}
+use mathlib.Core.List.{List}
 use Prim.Native.Nat.{ℕ, zero, suc, _+_, _≤_, _<_}
 use Prim.Native.Char.{code}
 use native.Mathlib.Omega.{arith}
 use lib.Dec.{eqb, leb}
-use borrow.Author.Tests.{leb-true, leb-false, le-leb, eqb-false}
+use borrow.Author.Tests.{leb-true, leb-false, le-leb, eqb-true, eqb-false}
 use Rattle.basis.specs.Choice.{pick, every}
 use Rattle.basis.specs.Answer.{Answer, gives, refuses}
-use Rattle.basis.proofs.Tests.{both-left, both-right, both-true}
+use Rattle.basis.proofs.Tests.{never, both-left, both-right, both-true}
 use Rattle.calendar.specs.Calendar.{dayOf, dateOf, datedOf, total, yearDays}
 use Rattle.calendar.specs.declared.Date.{Date}
 use Rattle.calendar.specs.declared.Dated.{Dated}
@@ -19,25 +20,28 @@ use Rattle.calendar.proofs.Dates.{date-good, day-date}
 use Rattle.calendar.proofs.Answers.{OnTime, on-says}
 use Rattle.value.specs.Bounds.{minYear, maxYear, maxZone, secondTicks}
 use Rattle.value.specs.Carried.{maxClock}
-use Rattle.value.specs.Clocks.{atClock}
-use Rattle.value.specs.Values.{okDate, okOffset, okZone, okDateTime, dateIn}
-use Rattle.value.specs.Kinds.{okValue, kindOf, template}
+use Rattle.value.specs.Clocks.{withTime, atClock, atClockOf}
+use Rattle.value.specs.Values.{okDate, okOffset, okZone, okDateTime}
+use Rattle.value.specs.Rows.{isMoment, has, hasPart, layoutOf, templateOf, kept}
+use Rattle.value.specs.Kinds.{okValue, kindOf}
 use Rattle.value.specs.declared.Offset.the-variants.{East, West}
 use Rattle.value.specs.declared.Zone.{Zone}
 use Rattle.value.specs.declared.Zone.the-variants.{Absent, At}
 use Rattle.value.specs.declared.DateTime.{DateTime}
 use Rattle.value.specs.declared.Kind.{Kind}
-use Rattle.value.specs.declared.Kind.the-variants as KV
 use Rattle.value.specs.declared.Value.{Value}
 use Rattle.value.specs.declared.Value.the-variants as VV
 use Rattle.value.proofs.Good.{GoodDay, good-day, day-ok, record-ok}
 use Rattle.value.proofs.ClockLaws.{time-part-at}
-use Rattle.value.proofs.KindParts.{kept-of-kind}
+use Rattle.value.proofs.KindParts.{kept-of-kind, moment-ok}
+use Rattle.value.proofs.RowTests.{rows-pass}
+use Rattle.value.proofs.RowLaws.{row-midnight}
 use Rattle.text_scan.specs.declared.FoundDate.{FoundDate}
 use Rattle.text_scan.specs.declared.FoundClock.{FoundClock}
 use Rattle.text_scan.specs.declared.FoundZone.{FoundZone}
-use Rattle.text_checks.specs.Reading.{valueGiven, startOfDay, nextDay, dayEnd, goodClock, clockTicks, clocked, offsetMinutes, okParts, zoneIs, dayFound, onCalendar}
+use Rattle.text_checks.specs.Reading.{startOfDay, nextDay, dayEnd, goodClock, clockTicks, clocked, offsetMinutes, okParts, zoneIs, dayFound, onCalendar}
 use Rattle.text_checks.proofs.Ways.{clock-within, within-day}
+use Rattle.value.proofs.ClockLetters.{with-month, with-day}
 
 -- a value within the bounds, of a kind
 pub record Valid (k : Kind) (v : Value) : Type 0 where
@@ -60,27 +64,40 @@ pub fine-pick : (k : Kind) (b : Bool) (x y : Answer Value) → (b ≡ true → F
 fine-pick k true x y f g = f refl
 fine-pick k false x y f g = g refl
 
--- what a kind has no part for is its template's
-abbrev pub Suits : Kind → Date → ℕ → Type 0
-Suits KV.Date d u = u ≡ 0
-Suits KV.Time d u = d ≡ dateIn (template KV.Time)
-Suits KV.DateTime d u = u ≡ u
-Suits KV.DayTimeDuration d u = u ≡ u
-Suits KV.YearMonthDuration d u = u ≡ u
+-- what a row has no part for is its template's; a clock that is not read is at the day's start
+pub record Suits (ps : List ℕ) (t : DateTime) (d : Date) (u : ℕ) : Type 0 where
+  pub year : has ps (code "Y") ≡ false → d .year ≡ t .year
+  pub month : has ps (code "M") ≡ false → d .month ≡ t .month
+  pub day : has ps (code "D") ≡ false → d .day ≡ t .day
+  pub clock : has ps (code "h") ≡ false → u ≡ 0
 
-fine-value : (k : Kind) (d : Date) (u : ℕ) (z : Zone) → okDateTime (atClock d u z) ≡ true → Suits k d u → Fine k (valueGiven k (atClock d u z))
-unfolding okValue
-fine-value KV.Date d u z o e v q =
-    let w : v ≡ VV.Date (atClock d u z) = cc in
-    rw w (record { ok = both-true _ _ o (kept-of-kind KV.Date (atClock d u z) (λ i. atClock d (sym e i) z)); kind = refl })
-fine-value KV.Time d u z o e v q =
-    let w : v ≡ VV.Time (atClock d u z) = cc in
-    rw w (record { ok = both-true _ _ o (kept-of-kind KV.Time (atClock d u z) (λ i. atClock (sym e i) u z)); kind = refl })
-fine-value KV.DateTime d u z o e v q =
-    let w : v ≡ VV.DateTime (atClock d u z) = cc in
-    rw w (record { ok = o; kind = refl })
-fine-value KV.DayTimeDuration d u z o e v q = fine-refusal KV.DayTimeDuration 1 v q
-fine-value KV.YearMonthDuration d u z o e v q = fine-refusal KV.YearMonthDuration 1 v q
+own : {A : Type 0} (b : Bool) (x y : A) → (b ≡ false → x ≡ y) → pick b x y ≡ x
+own true x y f = refl
+own false x y f = sym (f refl)
+
+fine-value : (k : Kind) (d : Date) (u : ℕ) (z : Zone) → isMoment k ≡ true → okDateTime (atClock d u z) ≡ true → Suits (layoutOf k) (templateOf k) d u
+    → Fine k (gives (VV.Moment k (atClock d u z)))
+fine-value k d u z m o e v q =
+    let w : v ≡ VV.Moment k (atClock d u z) = cc in
+    rw w (record { ok = moment-ok k (atClock d u z) m o (kept-of-kind k (atClock d u z) whole); kind = refl })
+  where
+    clock : (b : Bool) → (b ≡ false → u ≡ 0) → atClockOf d (pick b (atClock d u z) (templateOf k)) z ≡ atClock d u z
+    clock true f = refl
+    clock false f =
+        let n = row-midnight (layoutOf k) (templateOf k) (rows-pass k) in
+        (λ i. withTime d (n .0 i) (n .1 i) z) ∙ (λ i. atClock d (sym (f refl) i) z)
+
+    whole : kept k (atClock d u z) ≡ atClock d u z
+    whole =
+        (λ i. atClockOf
+        (record {
+          year = own (hasPart k (code "Y")) (d .year) (templateOf k .year) (e .year) i;
+          month = own (hasPart k (code "M")) (d .month) (templateOf k .month) (e .month) i;
+          day = own (hasPart k (code "D")) (d .day) (templateOf k .day) (e .day) i;
+        })
+        (pick (hasPart k (code "h")) (atClock d u z) (templateOf k))
+        z)
+        ∙ clock (hasPart k (code "h")) (e .clock)
 
 -- a good date, a time below a day and a good zone are a record within the bounds
 record-good : (d : Date) (u : ℕ) (z : Zone) → okDate (d .year) (d .month) (d .day) ≡ true → u ≤ maxClock → okZone z ≡ true → okDateTime (atClock d u z) ≡ true
@@ -120,26 +137,36 @@ after-good d e o q =
             let a : total yearDays (x .year + 1) ≤ total yearDays (d .year) = years-grow (x .year + 1) (d .year) (omega (arith, g .year-from)) in
             omega (arith, year-ends x (date-good (dayOf d + 1)), day-date (dayOf d + 1), year-starts d)
 
-fine-next : (k : Kind) (d : Date) (z : Zone) (u : ℕ) → okDate (d .year) (d .month) (d .day) ≡ true → okZone z ≡ true → Suits k d u → Fine k (nextDay k d z)
+-- hour 24: a clock stands with the whole date or with none of it
+fine-next : (k : Kind) (d : Date) (z : Zone) (u : ℕ) → isMoment k ≡ true → hasPart k (code "h") ≡ true → okDate (d .year) (d .month) (d .day) ≡ true → okZone z ≡ true
+    → Suits (layoutOf k) (templateOf k) d u → Fine k (nextDay k d z)
 unfolding nextDay
-fine-next KV.Date d z u o g e = go (datedOf (dayOf d + 1) maxYear) refl
+fine-next k d z u m c o g e =
+    fine-pick k (hasPart k (code "D")) _ _ (λ a. moved a (datedOf (dayOf d + 1) maxYear) refl)
+    (λ a. fine-value k d 0 z m (record-good d 0 z o (omega arith) g) (record { year = e .year; month = e .month; day = e .day; clock = λ b. refl }))
   where
-    go : (x : Dated) → datedOf (dayOf d + 1) maxYear ≡ x → Fine KV.Date (startOfDay KV.Date z x)
-    go (On x) q = fine-value KV.Date x 0 z (record-good x 0 z (after-good d x o q) (omega arith) g) refl
-    go Later q = fine-refusal KV.Date 2
-fine-next KV.Time d z u o g e = fine-value KV.Time d 0 z (record-good d 0 z o (omega arith) g) e
-fine-next KV.DateTime d z u o g e = go (datedOf (dayOf d + 1) maxYear) refl
+    moved : hasPart k (code "D") ≡ true → (x : Dated) → datedOf (dayOf d + 1) maxYear ≡ x → Fine k (startOfDay k z x)
+    moved a (On x) q =
+        let y : hasPart k (code "Y") ≡ true = with-day (layoutOf k) (templateOf k) (rows-pass k) c ∙ a in
+        let n : hasPart k (code "M") ≡ true = sym (with-month (layoutOf k) (templateOf k) (rows-pass k) c) ∙ y in
+        fine-value k x 0 z m (record-good x 0 z (after-good d x o q) (omega arith) g)
+        (record { year = λ b. absurd (never (sym b ∙ y)); month = λ b. absurd (never (sym b ∙ n)); day = λ b. absurd (never (sym b ∙ a)); clock = λ b. refl })
+    moved a Later q = fine-refusal k 2
+
+-- hour 24 was read: the layout has a clock
+end-read : (c : FoundClock) (b : Bool) → c .hour ≡ dayEnd → (b ≡ false → clockTicks c ≡ 0) → b ≡ true
+unfolding clockTicks
+end-read c true h f = refl
+end-read c false h f = absurd (bad (f refl))
   where
-    go : (x : Dated) → datedOf (dayOf d + 1) maxYear ≡ x → Fine KV.DateTime (startOfDay KV.DateTime z x)
-    go (On x) q = fine-value KV.DateTime x 0 z (record-good x 0 z (after-good d x o q) (omega arith) g) refl
-    go Later q = fine-refusal KV.DateTime 2
-fine-next KV.DayTimeDuration d z u o g e = fine-refusal KV.DayTimeDuration 1
-fine-next KV.YearMonthDuration d z u o g e = fine-refusal KV.YearMonthDuration 1
+    bad : clockTicks c ≡ 0 → ⊥
+    bad q = omega (arith, h)
 
 -- the checks of the calendar, the clock and the zone leave valid values alone
-pub fine-on-calendar : (k : Kind) (d : FoundDate) (c : FoundClock) (z : FoundZone) → c .part < secondTicks → Suits k (dayFound d) (clockTicks c) → Fine k (onCalendar k d c z)
+pub fine-on-calendar : (k : Kind) (d : FoundDate) (c : FoundClock) (z : FoundZone) → isMoment k ≡ true → c .part < secondTicks
+    → Suits (layoutOf k) (templateOf k) (dayFound d) (clockTicks c) → Fine k (onCalendar k d c z)
 unfolding onCalendar clocked okParts every
-fine-on-calendar k d c z l e =
+fine-on-calendar k d c z m l e =
     fine-pick k (okDate (d .year) (d .month) (d .day)) _ _
     (λ o. fine-pick k (goodClock c) _ _
     (λ w. fine-pick k (okParts z) _ _ (λ p. zoned o w (zone-good z (leb-true (offsetMinutes z) maxZone (both-left _ _ (both-right _ _ p))))) (λ p. fine-refusal k 1))
@@ -148,6 +175,7 @@ fine-on-calendar k d c z l e =
   where
     zoned : okDate (d .year) (d .month) (d .day) ≡ true → goodClock c ≡ true → okZone (zoneIs z) ≡ true → Fine k (clocked k (dayFound d) c (zoneIs z))
     zoned o w g =
-        fine-pick k (eqb (c .hour) dayEnd) _ _ (λ h. fine-next k (dayFound d) (zoneIs z) (clockTicks c) o g e)
-        (λ h. fine-value k (dayFound d) (clockTicks c) (zoneIs z)
+        fine-pick k (eqb (c .hour) dayEnd) _ _
+        (λ h. fine-next k (dayFound d) (zoneIs z) (clockTicks c) m (end-read c (hasPart k (code "h")) (eqb-true (c .hour) dayEnd h) (e .clock)) o g e)
+        (λ h. fine-value k (dayFound d) (clockTicks c) (zoneIs z) m
         (record-good (dayFound d) (clockTicks c) (zoneIs z) o (omega (arith, clock-within c (within-day c (eqb-false (c .hour) dayEnd h) w) l)) g) e)

@@ -7,6 +7,7 @@ use lib.Dec.{eqb}
 use Rattle.basis.specs.Choice.{pick}
 use Rattle.value.specs.Bounds.{hourMinutes}
 use Rattle.value.specs.Clocks.{clockOf}
+use Rattle.value.specs.Rows.{layoutOf}
 use Rattle.value.specs.declared.Offset.{Offset}
 use Rattle.value.specs.declared.Offset.the-variants.{East, West}
 use Rattle.value.specs.declared.Zone.{Zone}
@@ -14,7 +15,7 @@ use Rattle.value.specs.declared.Zone.the-variants.{Absent, At}
 use Rattle.value.specs.declared.DateTime.{DateTime}
 use Rattle.value.specs.declared.Kind.{Kind}
 use Rattle.numerals.specs.Writing.{digits, fractionText}
-use Rattle.text_scan.specs.Scanning.{layout, isPair, yearDigits, clockFields}
+use Rattle.text_scan.specs.Scanning.{isPair, yearDigits, clockFields}
 
 abbrev pub hhmm : ℕ → List ℕ
 hhmm n = digits 2 (n / hourMinutes) ++ (code ":" ∷ digits 2 (n % hourMinutes))
@@ -45,4 +46,4 @@ layoutText [] d = []
 layoutText (p ∷ ps) d = partText p d ++ layoutText ps d
 
 abbrev pub kindText : Kind → DateTime → List ℕ
-kindText k d = layoutText (layout k) d
+kindText k d = layoutText (layoutOf k) d

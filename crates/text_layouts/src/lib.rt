@@ -3,6 +3,7 @@ use numerals::Text;
 use value::DateTime;
 use value::Kind;
 use value::Outcome;
+use value::Refusal;
 ghost use mathlib.Core.Path.{_≡_};
 ghost use mathlib.Core.Bool.{true};
 ghost use Rattle.value.specs.Values.{okTimePart};
@@ -17,6 +18,9 @@ mod writing; // writing.rt: the parts of a record as text
 pub fn read_layout(kind: Kind, s: &[u8]) -> Outcome
     ensures { λ r. ⌜ meaning r ≡ readLayout kind (now (s .entry)) ⌝ }
 {
+    if !value::kinds::is_moment(kind) {
+        return Outcome::Refused(Refusal::numbered(Refusal::BAD_TEXT));
+    }
     let t = text_scan::parts_of(kind, s);
     text_checks::judged(kind, s.len(), t)
 }
@@ -26,11 +30,8 @@ pub fn layout_text(kind: Kind, d: DateTime) -> Text
     requires { ⌜ okTimePart d ≡ true ⌝ }
     ensures { λ r. ⌜ Holds (r .bytes) (r .len) (kindText kind d) ⌝ }
 {
-    match kind {
-        Kind::Date => writing::parts(b"Y-M-Dz", d),
-        Kind::Time => writing::parts(b"h:m:sfz", d),
-        Kind::DateTime => writing::parts(b"Y-M-DTh:m:sfz", d),
-        Kind::DayTimeDuration => Text::new(),
-        Kind::YearMonthDuration => Text::new(),
-    }
+    let l = value::kinds::layout(kind);
+    let letters = l.letters;
+    let n = l.len;
+    writing::parts(&letters[..n], d)
 }

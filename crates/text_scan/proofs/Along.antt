@@ -1,5 +1,5 @@
--- Going through a layout: a letter a step, each from within the text to within the text. Then each kind's own way,
--- and where it starts.
+-- Going through a layout: a letter a step, each from within the text to within the text. Then the way of a kind, along
+-- its row, and where it starts.
 use mathlib.Core.Path.{_≡_, refl, ap, sym, _∙_}
 use mathlib.Core.Bool.{true, false}
 use mathlib.Core.List.{List}
@@ -10,17 +10,16 @@ use lib.ListN.{length, getD, drop, drop-of-length-le}
 use lib.Seq.{drop-cons}
 use Rattle.basis.specs.Choice.{both}
 use Rattle.value.specs.Clocks.{clockOf}
-use Rattle.value.specs.Values.{dateIn}
-use Rattle.value.specs.Kinds.{template}
-use Rattle.value.specs.declared.Zone.the-variants.{Absent}
+use Rattle.value.specs.Rows.{layoutOf, templateOf}
 use Rattle.value.specs.declared.DateTime.{DateTime}
-use Rattle.value.proofs.ClockLaws.{clock-at}
+use Rattle.value.proofs.RowTests.{rows-pass}
+use Rattle.value.proofs.RowLaws.{row-start}
 use Rattle.value.specs.declared.Kind.{Kind}
 use Rattle.value.specs.declared.Kind.the-variants as KV
 use Rattle.numerals.specs.Carried.{withoutZero}
 use Rattle.numerals.proofs.Positions.{nonzero}
 use Rattle.text_scan.specs.declared.Scan.{Scan}
-use Rattle.text_scan.specs.Scanning.{clockFields, scannedPart, scanned, layout, startOf, scannedParts}
+use Rattle.text_scan.specs.Scanning.{clockFields, scannedPart, scanned, startOf, scannedParts}
 use Rattle.text_scan.specs.Carried.{capped}
 use Rattle.text_scan.proofs.Ends.{part-le}
 
@@ -42,27 +41,27 @@ pub finish : (layout s : List ℕ) (t₀ t : Scan) (k : ℕ) → Going layout s 
 unfolding scanned
 finish layout s t₀ t k g h = sym (ap (λ (q : List ℕ). scanned capped q s t) (drop-of-length-le layout h)) ∙ g .rest
 
--- the layouts hold no byte 0, and a reader starts at the text's first byte
-pub marks : (x k : Kind) (s : List ℕ) {t : Scan} → t ≡ startOf (template k) → (t .at ≤ length s) × (withoutZero (layout x) ≡ true)
+-- the rows hold no byte 0, and a reader starts at the text's first byte
+rows-marked : (k : Kind) → withoutZero (layoutOf k) ≡ true
 unfolding withoutZero both
-marks x k s e = (omega (arith, ap (λ (q : Scan). q .at) e), all x)
-  where
-    all : (x : Kind) → withoutZero (layout x) ≡ true
-    all KV.Date = refl
-    all KV.Time = refl
-    all KV.DateTime = refl
-    all KV.DayTimeDuration = refl
-    all KV.YearMonthDuration = refl
+rows-marked KV.Date = refl
+rows-marked KV.Time = refl
+rows-marked KV.DateTime = refl
+rows-marked KV.DayTimeDuration = refl
+rows-marked KV.YearMonthDuration = refl
+
+pub marks : (k : Kind) (s : List ℕ) {t : Scan} {ps : List ℕ} → ps ≡ layoutOf k → t ≡ startOf (templateOf k) → (t .at ≤ length s) × (withoutZero ps ≡ true)
+marks k s q e = (omega (arith, ap (λ (x : Scan). x .at) e), ap withoutZero q ∙ rows-marked k)
 
 -- a kind's way through the reader
-pub way : {k x : Kind} (s : List ℕ) {t r : Scan} → k ≡ x → t ≡ startOf (template k) → r ≡ scanned capped (layout x) s t → r ≡ scannedParts capped k s
-way {k} {x} s ek et er = er ∙ ap (scanned capped (layout x) s) et ∙ ap (λ (y : Kind). scanned capped (layout y) s (startOf (template k))) (sym ek)
+pub way : (k : Kind) (s : List ℕ) {t r : Scan} {ps : List ℕ} → ps ≡ layoutOf k → t ≡ startOf (templateOf k) → r ≡ scanned capped ps s t → r ≡ scannedParts capped k s
+way k s q et er = er ∙ (λ i. scanned capped (q i) s (et i))
 
 -- before the first byte: the day of the kind's template, at 00:00:00
-pub template-midnight : (k : Kind) → clockOf (template k) ≡ 0
-template-midnight k = clock-at (dateIn (template k)) 0 Absent
+pub template-midnight : (k : Kind) → clockOf (templateOf k) ≡ 0
+template-midnight k = row-start (layoutOf k) (templateOf k) (rows-pass k)
 
-pub started : (k : Kind) {d : DateTime} → d ≡ template k
+pub started : (k : Kind) {d : DateTime} → d ≡ templateOf k
     → record {
       date = record { negative = false; year = d .year; month = d .month; day = d .day };
       clock = record { hour = 0; minute = 0; second = 0; part = 0; long = false; point = 0 };
@@ -70,7 +69,7 @@ pub started : (k : Kind) {d : DateTime} → d ≡ template k
       at = 0;
       good = true;
     }
-    ≡ startOf (template k)
+    ≡ startOf (templateOf k)
 started k {d} e =
     let z : clockOf d ≡ 0 = ap clockOf e ∙ template-midnight k in
     (λ i.

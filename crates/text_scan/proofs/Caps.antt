@@ -1,21 +1,24 @@
 -- What the code keeps of a year serves as well as the whole number: the parts that are found with it differ from those of
 -- the definition in the year alone, which is cut at one above the greatest.
-use mathlib.Core.Path.{_≡_, refl, ap, _∙_}
+use mathlib.Core.Path.{_≡_, refl, ap, sym, _∙_}
 use mathlib.Core.Bool.{Bool, true, false}
 use mathlib.Core.List.{List, [], _∷_}
 use Prim.Native.Nat.{ℕ, _+_}
 use Prim.Native.Char.{code}
+use native.Mathlib.Omega.{arith}
 use lib.Dec.{eqb, ltb}
 use lib.ListN.{length}
 use Rattle.basis.specs.Choice.{both, pick}
-use Rattle.value.specs.Kinds.{template}
+use Rattle.value.specs.Rows.{layoutOf, templateOf}
 use Rattle.value.specs.declared.Kind.{Kind}
+use Rattle.value.proofs.RowTests.{rows-pass}
+use Rattle.value.proofs.RowLaws.{row-day}
 use Rattle.numerals.specs.Reading.{at, numeralAt, fractionAt}
 use Rattle.text_scan.specs.declared.FoundDate.{FoundDate}
 use Rattle.text_scan.specs.declared.Scan.{Scan}
 use Rattle.text_scan.specs.declared.Pair.{Pair}
 use Rattle.text_scan.specs.declared.Year.{Year}
-use Rattle.text_scan.specs.Scanning.{uncapped, fourZeros, pairAt, yearAt, yearPart, fractionPart, zonePart, zoneSigned, zoneHours, zoneMinutes, withPair, partAt, scannedPart, isPair, scanned, layout, startOf, scannedParts, withYear}
+use Rattle.text_scan.specs.Scanning.{uncapped, fourZeros, pairAt, yearAt, yearPart, fractionPart, zonePart, zoneSigned, zoneHours, zoneMinutes, withPair, partAt, scannedPart, isPair, scanned, startOf, scannedParts, withYear}
 use Rattle.text_scan.specs.Carried.{capped}
 
 abbrev pub cutDate : FoundDate → FoundDate
@@ -117,4 +120,13 @@ scanned-cut (p ∷ ps) s t = ap (scanned capped ps s) (part-cut s t p) ∙ scann
 
 -- the template's year is not cut
 pub parts-cut : (k : Kind) (s : List ℕ) → scannedParts capped k s ≡ cut (scannedParts uncapped k s)
-parts-cut k s = scanned-cut (layout k) s (startOf (template k))
+parts-cut k s = sym (ap (scanned capped (layoutOf k) s) whole) ∙ scanned-cut (layoutOf k) s t
+  where
+    t : Scan
+    t = startOf (templateOf k)
+
+    year : capped (templateOf k .year) ≡ templateOf k .year
+    year = omega (arith, row-day (layoutOf k) (templateOf k) (rows-pass k) .year-to)
+
+    whole : cut t ≡ t
+    whole = λ i. record { date = record { negative = false; year = year i; month = t .date .month; day = t .date .day }; clock = t .clock; zone = t .zone; at = 0; good = true }

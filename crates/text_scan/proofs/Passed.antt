@@ -11,7 +11,7 @@ use borrow.Author.Tests.{eqb-true}
 use Rattle.basis.specs.Choice.{pick, both, allPass, among}
 use Rattle.basis.specs.Letters.{bytes}
 use Rattle.basis.proofs.Tests.{never, both-left, both-right}
-use Rattle.value.specs.Kinds.{template}
+use Rattle.value.specs.Rows.{layoutOf, templateOf}
 use Rattle.value.specs.declared.Kind.{Kind}
 use Rattle.value.specs.declared.Kind.the-variants as KV
 use Rattle.numerals.specs.Reading.{isDigit, numeralAt, at, fractionAt}
@@ -19,7 +19,7 @@ use Rattle.numerals.proofs.Passed.{Passed, passed-none, passed-byte, passed-mar
 use Rattle.numerals.proofs.Fractions.{fraction-end}
 use Rattle.text_scan.specs.declared.Scan.{Scan}
 use Rattle.text_scan.specs.declared.Pair.{Pair}
-use Rattle.text_scan.specs.Scanning.{layout, startOf, pairAt, fourZeros, leadingZero, yearDigits, yearAt, yearPart, fractionPart, zonePart, zoneSigned, zoneHours, zoneMinutes, withPair, withYear, withFraction, withZonePart, partAt, scannedPart, isPair, reached, scanned, scannedParts}
+use Rattle.text_scan.specs.Scanning.{startOf, pairAt, fourZeros, leadingZero, yearDigits, yearAt, yearPart, fractionPart, zonePart, zoneSigned, zoneHours, zoneMinutes, withPair, withYear, withFraction, withZonePart, partAt, scannedPart, isPair, reached, scanned, scannedParts}
 
 -- the bytes that stand in the text of a date, a time or a dateTime
 abbrev pub momentByte : ℕ → Bool
@@ -117,6 +117,15 @@ module _ (s : List ℕ) where
 abbrev okPart : ℕ → Bool
 okPart p = pick (eqb p (code "Y")) true (pick (eqb p (code "f")) true (pick (eqb p (code "z")) true (pick (isPair p) true (momentByte p))))
 
+-- the rows have such letters alone
+rows-lettered : (k : Kind) → allPass okPart (layoutOf k) ≡ true
+unfolding isPair isDigit both
+rows-lettered KV.Date = refl
+rows-lettered KV.Time = refl
+rows-lettered KV.DateTime = refl
+rows-lettered KV.DayTimeDuration = refl
+rows-lettered KV.YearMonthDuration = refl
+
 module _ (keep : ℕ → ℕ) (s : List ℕ) where
   part-says : (p : ℕ) (t : Scan) → okPart p ≡ true → t .good ≡ true → Passed momentByte s (t .at) → Says s (partAt keep p s t)
   unfolding partAt withPair
@@ -146,12 +155,4 @@ module _ (keep : ℕ → ℕ) (s : List ℕ) where
       go false e r = r
 
   pub good-passed : (k : Kind) → scannedParts keep k s .good ≡ true → Passed momentByte s (scannedParts keep k s .at)
-  unfolding isPair isDigit both
-  good-passed k g = all-say (layout k) (startOf (template k)) (letters k) g .1 (passed-none momentByte s)
-    where
-      letters : (k : Kind) → allPass okPart (layout k) ≡ true
-      letters KV.Date = refl
-      letters KV.Time = refl
-      letters KV.DateTime = refl
-      letters KV.DayTimeDuration = refl
-      letters KV.YearMonthDuration = refl
+  good-passed k g = all-say (layoutOf k) (startOf (templateOf k)) (rows-lettered k) g .1 (passed-none momentByte s)

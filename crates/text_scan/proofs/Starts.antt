@@ -12,7 +12,7 @@ use Rattle.basis.specs.Choice.{pick, both, allPass}
 use Rattle.basis.specs.Letters.{bytes}
 use Rattle.basis.proofs.Tests.{never, both-left, both-right, both-true}
 use Rattle.value.specs.Bounds.{maxYear}
-use Rattle.value.specs.Kinds.{template}
+use Rattle.value.specs.Rows.{templateOf}
 use Rattle.value.specs.declared.Kind.{Kind}
 use Rattle.value.specs.declared.Kind.the-variants as KV
 use Rattle.numerals.specs.Reading.{isDigit, numeralAt, at}
@@ -228,19 +228,19 @@ module _ (keep : ℕ → ℕ) (tells : (n : ℕ) → keep n ≤ maxYear → n �
   -- the numbers, for each kind's layout
   module _ (s : List ℕ) where
     abbrev before : Kind → List ℕ → ℕ
-    before k ps = scanned keep ps s (startOf (template k)) .at
+    before k ps = scanned keep ps s (startOf (templateOf k)) .at
 
     pub date-starts : Past (scannedParts keep KV.Date s) → (before KV.Date (bytes "Y-") ≡ 5) × (before KV.Date (bytes "Y-M-") ≡ 8) × (before KV.Date (bytes "Y-M-D") ≡ 10)
     unfolding settled both widths width isPair
     date-starts a =
-        let t : Scan = startOf (template KV.Date) in
+        let t : Scan = startOf (templateOf KV.Date) in
         (starts (bytes "Y-") (bytes "M-Dz") s t refl refl a, starts (bytes "Y-M-") (bytes "Dz") s t refl refl a, starts (bytes "Y-M-D") (bytes "z") s t refl refl a)
 
     pub time-starts : Past (scannedParts keep KV.Time s)
         → (before KV.Time [] ≡ 0) × (before KV.Time (bytes "h:") ≡ 3) × (before KV.Time (bytes "h:m:") ≡ 6) × (before KV.Time (bytes "h:m:s") ≡ 8)
     unfolding settled both widths width isPair
     time-starts a =
-        let t : Scan = startOf (template KV.Time) in (
+        let t : Scan = startOf (templateOf KV.Time) in (
           starts [] (bytes "h:m:sfz") s t refl refl a,
           starts (bytes "h:") (bytes "m:sfz") s t refl refl a,
           starts (bytes "h:m:") (bytes "sfz") s t refl refl a,
@@ -252,7 +252,7 @@ module _ (keep : ℕ → ℕ) (tells : (n : ℕ) → keep n ≤ maxYear → n �
         × (before KV.DateTime (bytes "Y-M-DTh:") ≡ 14) × (before KV.DateTime (bytes "Y-M-DTh:m:") ≡ 17) × (before KV.DateTime (bytes "Y-M-DTh:m:s") ≡ 19)
     unfolding settled both widths width isPair
     date-time-starts a =
-        let t : Scan = startOf (template KV.DateTime) in (
+        let t : Scan = startOf (templateOf KV.DateTime) in (
           starts (bytes "Y-") (bytes "M-DTh:m:sfz") s t refl refl a,
           starts (bytes "Y-M-") (bytes "DTh:m:sfz") s t refl refl a,
           starts (bytes "Y-M-DT") (bytes "h:m:sfz") s t refl refl a,

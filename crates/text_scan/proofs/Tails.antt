@@ -12,7 +12,7 @@ use borrow.Author.Tests.{eq-eqb, eqb-true}
 use Rattle.basis.specs.Choice.{pick, both, allPass}
 use Rattle.basis.specs.Letters.{bytes}
 use Rattle.basis.proofs.Tests.{never, both-left, both-right}
-use Rattle.value.specs.Kinds.{template}
+use Rattle.value.specs.Rows.{templateOf}
 use Rattle.value.specs.declared.Kind.the-variants as KV
 use Rattle.numerals.specs.Reading.{isDigit, at, fractionDigits, fractionAt}
 use Rattle.numerals.proofs.Fractions.{digit-too-many}
@@ -139,16 +139,16 @@ module _ (keep : ℕ → ℕ) (s : List ℕ) where
   pub time-long : scannedParts keep KV.Time s .good ≡ true → scannedParts keep KV.Time s .clock .long ≡ true → TooMany s 8
   unfolding both widths width isPair
   time-long g l =
-      let t : Scan = startOf (template KV.Time) in
+      let t : Scan = startOf (templateOf KV.Time) in
       let b : scanned keep (bytes "fz") s (scanned keep (bytes "h:m:s") s t) .good ≡ true = ap (λ (x : Scan). x .good) (sym (in-two keep (bytes "h:m:s") (bytes "fz") s t)) ∙ g in
       let w : scanned keep (bytes "h:m:s") s t .at ≡ 8 = plain-widths keep s (bytes "h:m:s") t refl (good-before keep (bytes "fz") s (scanned keep (bytes "h:m:s") s t) b) in
       rw w at (too-many-at (bytes "h:m:s") (bytes "z") t refl refl refl l)
 
   pub date-time-long : scannedParts keep KV.DateTime s .good ≡ true → scannedParts keep KV.DateTime s .clock .long ≡ true
-      → TooMany s (scanned keep (bytes "Y") s (startOf (template KV.DateTime)) .at + 15)
+      → TooMany s (scanned keep (bytes "Y") s (startOf (templateOf KV.DateTime)) .at + 15)
   unfolding scanned both widths width isPair
   date-time-long g l =
-      let t : Scan = startOf (template KV.DateTime) in
+      let t : Scan = startOf (templateOf KV.DateTime) in
       let y : Scan = scanned keep (bytes "Y") s t in
       let b : scanned keep (bytes "fz") s (scanned keep (bytes "-M-DTh:m:s") s y) .good ≡ true = ap (λ (x : Scan). x .good) (sym (in-two keep (bytes "-M-DTh:m:s") (bytes "fz") s y)) ∙ g in
       let w : scanned keep (bytes "-M-DTh:m:s") s y .at ≡ y .at + 15 = plain-widths keep s (bytes "-M-DTh:m:s") y refl (good-before keep (bytes "fz") s (scanned keep (bytes "-M-DTh:m:s") s y) b) in

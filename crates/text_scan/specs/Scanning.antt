@@ -1,6 +1,6 @@
--- Document 01, "Reading text", check 1, the shape: the parts of a text, found before they are judged. A kind is a layout,
--- the letters of its parts with the bytes that stand between them, and a text's parts are found one after the other along
--- it. A byte past the text's end counts as 0, which is no digit and no punctuation.
+-- Document 01, "Reading text", check 1, the shape: the parts of a text, found before they are judged. A kind has a
+-- layout (crate `value`), the letters of its parts with the bytes that stand between them, and a text's parts are
+-- found one after the other along it. A byte past the text's end counts as 0, which is no digit and no punctuation.
 use mathlib.Core.Bool.{Bool, true, false}
 use mathlib.Core.List.{List, [], _∷_}
 use Prim.Native.Nat.{ℕ, _+_, _-_, _*_, _/_, _%_}
@@ -8,13 +8,11 @@ use Prim.Native.Char.{code}
 use lib.Dec.{eqb, ltb}
 use lib.ListN.{length}
 use Rattle.basis.specs.Choice.{both, every, pick}
-use Rattle.basis.specs.Letters.{bytes}
 use Rattle.value.specs.Bounds.{secondTicks, minuteSeconds, hourMinutes, minuteTicks, hourTicks}
 use Rattle.value.specs.Clocks.{clockOf}
-use Rattle.value.specs.Kinds.{template}
+use Rattle.value.specs.Rows.{layoutOf, templateOf}
 use Rattle.value.specs.declared.DateTime.{DateTime}
 use Rattle.value.specs.declared.Kind.{Kind}
-use Rattle.value.specs.declared.Kind.the-variants as KV
 use Rattle.numerals.specs.Reading.{isDigit, Number, numeralAt, at, fractionAt}
 use Rattle.numerals.specs.declared.Fraction.{Fraction}
 use Rattle.text_scan.specs.declared.FoundDate.{FoundDate}
@@ -23,15 +21,6 @@ use Rattle.text_scan.specs.declared.FoundZone.{FoundZone}
 use Rattle.text_scan.specs.declared.Scan.{Scan}
 use Rattle.text_scan.specs.declared.Pair.{Pair}
 use Rattle.text_scan.specs.declared.Year.{Year}
-
--- Y year, M month, D day, h hour, m minute, s second, f fraction, z zone; any other byte stands for itself.
--- The durations have no layout.
-abbrev pub layout : Kind → List ℕ
-layout KV.Date = bytes "Y-M-Dz"
-layout KV.Time = bytes "h:m:sfz"
-layout KV.DateTime = bytes "Y-M-DTh:m:sfz"
-layout KV.DayTimeDuration = []
-layout KV.YearMonthDuration = []
 
 -- What is found in a text is a date, a clock and a zone, each a record; the zone's sign is 0 where there is none.
 -- With them go the offset that is reached and whether every part up to there was found; where not, the offset is that
@@ -207,4 +196,4 @@ module _ (keep : ℕ → ℕ) where
 
   -- the parts of a text of a kind
   abbrev pub scannedParts : Kind → List ℕ → Scan
-  scannedParts k s = scanned (layout k) s (startOf (template k))
+  scannedParts k s = scanned (layoutOf k) s (startOf (templateOf k))

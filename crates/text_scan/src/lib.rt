@@ -11,7 +11,7 @@ ghost use Prim.Native.Nat.{_+_, _-_, _≤_, _<_};
 ghost use lib.Dec.{eqb};
 ghost use lib.ListN.{length, getD};
 ghost use Rattle.basis.specs.Choice.{pick};
-ghost use Rattle.value.specs.Kinds.{template};
+ghost use Rattle.value.specs.Rows.{templateOf};
 ghost use Rattle.numerals.specs.Carried.{withoutZero};
 ghost use Rattle.text_scan.specs.Scanning.{fourZeros, leadingZero, pairAt, yearAt, yearPart, fractionPart, zonePart, zoneSigned, isPair, withPair, scannedPart, scanned, reached, startOf, scannedParts};
 ghost use Rattle.text_scan.specs.Carried.{capped};
@@ -376,7 +376,7 @@ fn scan_all(layout: &[u8], s: &[u8], template: Scan) -> Scan
 
 // Before the first byte. A template is at 00:00:00.
 fn start(kind: Kind) -> Scan
-    ensures { λ r. ⌜ r ≡ startOf (template kind) ⌝ }
+    ensures { λ r. ⌜ r ≡ startOf (templateOf kind) ⌝ }
 {
     let d = value::kinds::template(kind);
     Scan {
@@ -404,16 +404,13 @@ fn start(kind: Kind) -> Scan
     }
 }
 
-// The parts of a text of a kind. The durations have no layout.
+// The parts of a text, along the layout of a kind.
 pub fn parts_of(kind: Kind, s: &[u8]) -> Scan
     ensures { λ r. ⌜ r ≡ scannedParts capped kind (now (s .entry)) ⌝ }
 {
     let t = start(kind);
-    match kind {
-        Kind::Date => scan_all(b"Y-M-Dz", s, t),
-        Kind::Time => scan_all(b"h:m:sfz", s, t),
-        Kind::DateTime => scan_all(b"Y-M-DTh:m:sfz", s, t),
-        Kind::DayTimeDuration => t,
-        Kind::YearMonthDuration => t,
-    }
+    let l = value::kinds::layout(kind);
+    let letters = l.letters;
+    let n = l.len;
+    scan_all(&letters[..n], s, t)
 }

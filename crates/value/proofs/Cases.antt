@@ -9,13 +9,15 @@ use Rattle.value.specs.Bounds.{dayTicks}
 use Rattle.value.specs.Carried.{maxClock}
 use Rattle.value.specs.Clocks.{withTime, sameClock, ticksIn, withSize}
 use Rattle.value.specs.Values.{okDate, okOffset, okZone, okTimePart, okDateTime, okSigned, okDayTime}
-use Rattle.value.specs.Kinds.{ofKind, okValue, made}
+use Rattle.value.specs.Rows.{isMoment, has, ofKind}
+use Rattle.value.specs.Kinds.{okValue, made}
 use Rattle.value.specs.declared.Offset.the-variants.{East, West}
 use Rattle.value.specs.declared.Zone.{Zone}
 use Rattle.value.specs.declared.Zone.the-variants.{Absent, At}
 use Rattle.value.specs.declared.DateTime as D
 use Rattle.value.specs.declared.Value.{Value}
-use Rattle.value.specs.declared.Value.the-variants.{Date, Time, DateTime, DayTime, YearMonth}
+use Rattle.value.specs.declared.Value.the-variants.{Moment, DayTime, YearMonth}
+use Rattle.value.specs.declared.Kind.the-variants as KV
 
 -- a day has one tick more than the greatest time of day
 pub last-tick : maxClock + 1 ≡ dayTicks
@@ -66,37 +68,48 @@ longest-durations = (refl, refl, refl, refl, refl, refl, refl, refl)
 
 -- a zone of zero minutes is east, and none is beyond 14 hours
 zones :
-    Refused (Date (on 2000 1 1 (At (West 0))))
-    × Taken (Date (on 2000 1 1 (At (East 0))))
-    × Taken (Date (on 2000 1 1 (At (West 1))))
-    × Refused (Date (on 2000 1 1 (At (East 841))))
-    × Taken (Date (on 2000 1 1 (At (East 840))))
-    × Refused (Date (on 2000 1 1 (At (West 841))))
-    × Taken (Date (on 2000 1 1 (At (West 840))))
-unfolding made okValue okDateTime okTimePart sameClock okDate okZone okOffset ofKind both every
+    Refused (Moment KV.Date (on 2000 1 1 (At (West 0))))
+    × Taken (Moment KV.Date (on 2000 1 1 (At (East 0))))
+    × Taken (Moment KV.Date (on 2000 1 1 (At (West 1))))
+    × Refused (Moment KV.Date (on 2000 1 1 (At (East 841))))
+    × Taken (Moment KV.Date (on 2000 1 1 (At (East 840))))
+    × Refused (Moment KV.Date (on 2000 1 1 (At (West 841))))
+    × Taken (Moment KV.Date (on 2000 1 1 (At (West 840))))
+unfolding made okValue okDateTime okTimePart sameClock okDate okZone okOffset isMoment has ofKind both every
 zones = (refl, refl, refl, refl, refl, refl, refl)
 
 -- the calendar and its years
 days :
-    Refused (Date (on 1900 2 29 Absent))
-    × Taken (Date (on 1900 2 28 Absent))
-    × Taken (Date (on 2000 2 29 Absent))
-    × Refused (Date (on 0 12 31 Absent))
-    × Taken (Date (on 1 1 1 Absent))
-    × Taken (Date (on 9999 12 31 Absent))
-    × Refused (Date (on 10000 1 1 Absent))
-unfolding made okValue okDateTime okTimePart sameClock okDate okZone ofKind both every
+    Refused (Moment KV.Date (on 1900 2 29 Absent))
+    × Taken (Moment KV.Date (on 1900 2 28 Absent))
+    × Taken (Moment KV.Date (on 2000 2 29 Absent))
+    × Refused (Moment KV.Date (on 0 12 31 Absent))
+    × Taken (Moment KV.Date (on 1 1 1 Absent))
+    × Taken (Moment KV.Date (on 9999 12 31 Absent))
+    × Refused (Moment KV.Date (on 10000 1 1 Absent))
+unfolding made okValue okDateTime okTimePart sameClock okDate okZone isMoment has ofKind both every
 days = (refl, refl, refl, refl, refl, refl, refl)
 
 -- a date has no time of day, a time no day but the reference day; neither reaches the end of the day, or of a second
 parts-of-kinds :
-    Refused (Date (at 2000 1 1 1 0 Absent))
-    × Refused (Date (at 2000 1 1 0 1 Absent))
-    × Taken (DateTime (at 2000 1 1 0 1 Absent))
-    × Refused (Time (at 2000 1 1 0 1 Absent))
-    × Taken (Time (at 1972 12 31 0 1 Absent))
-    × Taken (Time (at 1972 12 31 86_399 999_999_999 Absent))
-    × Refused (Time (at 1972 12 31 86_400 0 Absent))
-    × Refused (Time (at 1972 12 31 0 1_000_000_000 Absent))
-unfolding made okValue okDateTime okTimePart sameClock okDate okZone ofKind both every
+    Refused (Moment KV.Date (at 2000 1 1 1 0 Absent))
+    × Refused (Moment KV.Date (at 2000 1 1 0 1 Absent))
+    × Taken (Moment KV.DateTime (at 2000 1 1 0 1 Absent))
+    × Refused (Moment KV.Time (at 2000 1 1 0 1 Absent))
+    × Taken (Moment KV.Time (at 1972 12 31 0 1 Absent))
+    × Taken (Moment KV.Time (at 1972 12 31 86_399 999_999_999 Absent))
+    × Refused (Moment KV.Time (at 1972 12 31 86_400 0 Absent))
+    × Refused (Moment KV.Time (at 1972 12 31 0 1_000_000_000 Absent))
+unfolding made okValue okDateTime okTimePart sameClock okDate okZone isMoment has ofKind both every
 parts-of-kinds = (refl, refl, refl, refl, refl, refl, refl, refl)
+
+-- a moment is of no duration's kind, whatever its record
+no-duration-moments :
+    Refused (Moment KV.DayTimeDuration (on 1972 12 31 Absent))
+    × Refused (Moment KV.YearMonthDuration (on 1972 12 31 Absent))
+    × Taken (Moment KV.Time (on 1972 12 31 Absent))
+    × Refused (Moment KV.Time (on 1972 12 30 Absent))
+    × Refused (Moment KV.Time (on 1972 11 30 Absent))
+    × Refused (Moment KV.Time (on 1971 12 31 Absent))
+unfolding made okValue okDateTime okTimePart sameClock okDate okZone isMoment has ofKind both every
+no-duration-moments = (refl, refl, refl, refl, refl, refl)

@@ -5,7 +5,7 @@ use mathlib.Core.Path.{_≡_, refl, ap, sym, _∙_}
 use mathlib.Core.Bool.{Bool, true}
 use Prim.Native.Nat.{ℕ, _+_, _-_, _*_, _/_, _%_, _≤_, _<_}
 use native.Mathlib.Omega.{arith}
-use lib.Dec.{leb, ltb}
+use lib.Dec.{ltb}
 use borrow.Author.Tests.{leb-true, le-leb, eq-eqb, eqb-true}
 use Rattle.basis.specs.Choice.{both, every}
 use Rattle.basis.proofs.Tests.{both-left, both-right, both-true, both-end}
@@ -100,6 +100,11 @@ time-part-at e t z h =
 pub time-part-kept : (e : Date) (d : DateTime) (z : Zone) → okTimePart d ≡ true → okTimePart (atClockOf e d z) ≡ true
 unfolding okTimePart
 time-part-kept e d z g = g
+
+-- the time of day of a record, put into another, is its time part
+pub own-clock : (e : Date) (d : DateTime) (z : Zone) → okTimePart d ≡ true → atClock e (clockOf d) z ≡ atClockOf e d z
+own-clock e d z g =
+    one-record (atClock e (clockOf d) z) (atClockOf e d z) (time-part-at e (clockOf d) z (clock-to d g)) (time-part-kept e d z g) refl (clock-at e (clockOf d) z ∙ sym (clock-kept e d z)) refl
 
 -- a size that was put in comes back
 pub ticks-of-duration : (negative : Bool) (t : ℕ) → ticksIn (durationOf negative t) ≡ t

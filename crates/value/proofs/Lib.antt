@@ -5,5 +5,10 @@ pub mod ClockLaws
 pub mod Sizes
 pub mod Good
 pub mod KindParts
+pub mod RowTests
+pub mod RowLaws
+pub mod ClockLetters
+pub mod PartsKept
+pub mod Looking
 pub mod Numbers
 pub mod Cases

@@ -4,5 +4,6 @@ pub mod Reasons
 pub mod Clocks
 pub mod Values
 pub mod Durations
+pub mod Rows
 pub mod Kinds
 pub mod Carried

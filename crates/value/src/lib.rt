@@ -5,13 +5,14 @@ ghost use Rattle.basis.specs.Answer.{onlyNumber};
 ghost use Rattle.value.specs.Reasons.{reasonOf};
 ghost use Rattle.value.specs.Clocks.{withTime, withSize};
 ghost use Rattle.value.specs.Values.{dateIn};
-ghost use Rattle.value.specs.Kinds.{made, meaning, kindOf, template};
+ghost use Rattle.value.specs.Kinds.{made, meaning, kindOf};
+ghost use Rattle.value.specs.Rows.{templateOf};
 ghost use Rattle.value.specs.declared.Kind.the-variants as KV;
 ghost use Rattle.value.specs.declared.Value.the-variants as VV;
 
 pub mod bounds; // bounds.rt: each constant is the number of the definitions
 pub mod clocks; // clocks.rt: the time of day of a record and the size of a duration
-pub mod kinds; // kinds.rt: which parts a kind has
+pub mod kinds; // kinds.rt: the rows, and which parts a kind has
 pub mod valid; // valid.rt: which records are within the bounds
 
 // Minutes from UTC. Zero minutes are east.
@@ -56,10 +57,24 @@ pub enum Kind {
     YearMonthDuration,
 }
 
+// The letters of a kind's layout with spaces after them, and how many letters there are.
+pub struct Layout {
+    pub letters: [u8; 13],
+    pub len: usize,
+}
+
+// Which of the parts of a date a kind has, and whether it has a clock.
+pub struct OwnParts {
+    pub year: bool,
+    pub month: bool,
+    pub day: bool,
+    pub clock: bool,
+}
+
+// A date, time or dateTime is a moment, its kind with its record. A moment of a duration's kind, or with a record
+// that is not of its kind, can be built and is outside the bounds.
 pub enum Value {
-    Date(DateTime),
-    Time(DateTime),
-    DateTime(DateTime),
+    Moment(Kind, DateTime),
     DayTime(DayTime),
     YearMonth(YearMonth),
 }
@@ -156,21 +171,23 @@ impl DateTime {
     pub const MAX_ZONE: u16 = 840;
 
     pub fn new(year: u16, month: u8, day: u8, second: u32, nanosecond: u32, zone: Zone) -> Outcome
-        ensures { λ r. ⌜ meaning r ≡ made (VV.DateTime (withTime (record { year = year; month = month; day = day }) second nanosecond zone)) ⌝ }
+        ensures { λ r. ⌜ meaning r ≡ made (VV.Moment KV.DateTime (withTime (record { year = year; month = month; day = day }) second nanosecond zone)) ⌝ }
     {
         let e = Date { year, month, day };
-        valid::checked(Value::DateTime(clocks::with_time(e, second, nanosecond, zone)))
+        let d = clocks::with_time(e, second, nanosecond, zone);
+        valid::checked(Value::Moment(Kind::DateTime, d))
     }
 
     pub fn date(year: u16, month: u8, day: u8, zone: Zone) -> Outcome
-        ensures { λ r. ⌜ meaning r ≡ made (VV.Date (withTime (record { year = year; month = month; day = day }) 0 0 zone)) ⌝ }
+        ensures { λ r. ⌜ meaning r ≡ made (VV.Moment KV.Date (withTime (record { year = year; month = month; day = day }) 0 0 zone)) ⌝ }
     {
         let e = Date { year, month, day };
-        valid::checked(Value::Date(clocks::with_time(e, 0, 0, zone)))
+        let d = clocks::with_time(e, 0, 0, zone);
+        valid::checked(Value::Moment(Kind::Date, d))
     }
 
     pub fn time(second: u32, nanosecond: u32, zone: Zone) -> Outcome
-        ensures { λ r. ⌜ meaning r ≡ made (VV.Time (withTime (dateIn (template KV.Time)) second nanosecond zone)) ⌝ }
+        ensures { λ r. ⌜ meaning r ≡ made (VV.Moment KV.Time (withTime (dateIn (templateOf KV.Time)) second nanosecond zone)) ⌝ }
     {
         let t = kinds::template(Kind::Time);
         let e = Date {
@@ -178,7 +195,8 @@ impl DateTime {
             month: t.month,
             day: t.day,
         };
-        valid::checked(Value::Time(clocks::with_time(e, second, nanosecond, zone)))
+        let d = clocks::with_time(e, second, nanosecond, zone);
+        valid::checked(Value::Moment(Kind::Time, d))
     }
 }
 
@@ -210,9 +228,7 @@ impl Value {
         ensures { λ r. ⌜ r ≡ kindOf self ⌝ }
     {
         match self {
-            Value::Date(_) => Kind::Date,
-            Value::Time(_) => Kind::Time,
-            Value::DateTime(_) => Kind::DateTime,
+            Value::Moment(k, _) => k,
             Value::DayTime(_) => Kind::DayTimeDuration,
             Value::YearMonth(_) => Kind::YearMonthDuration,
         }

@@ -1,7 +1,6 @@
 // Which records are within the bounds of documents 01 and 02.
 use crate::DateTime;
 use crate::DayTime;
-use crate::Kind;
 use crate::Offset;
 use crate::Outcome;
 use crate::Refusal;
@@ -137,19 +136,15 @@ pub fn value_ok(v: Value) -> bool
     ensures { λ r. ⌜ r ≡ okValue v ⌝ }
 {
     match v {
-        Value::Date(d) => {
+        Value::Moment(kind, d) => {
+            if !kinds::is_moment(kind) {
+                return false;
+            }
             if !date_time_ok(d) {
                 return false;
             }
-            kinds::of_kind(Kind::Date, d)
+            kinds::of_kind(kind, d)
         }
-        Value::Time(d) => {
-            if !date_time_ok(d) {
-                return false;
-            }
-            kinds::of_kind(Kind::Time, d)
-        }
-        Value::DateTime(d) => date_time_ok(d),
         Value::DayTime(d) => day_time_ok(d),
         Value::YearMonth(d) => signed_ok(YearMonth::MAX as u64, d.negative, d.months as u64),
     }

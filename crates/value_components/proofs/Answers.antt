@@ -3,21 +3,17 @@ use mathlib.Core.Path.{_≡_, refl, ap}
 use Rattle.basis.specs.Answer.{Answer, gives, refusesFor}
 use Rattle.value.specs.Reasons.{refusalOf}
 use Rattle.value_components.specs.Components as components
-use Rattle.value_components.specs.Components.{ComponentParts, ofDate, ofTime, ofDateTime, ofDuration}
+use Rattle.value_components.specs.Components.{ComponentParts, ofMoment, ofDuration}
 use Rattle.value_components.specs.declared.Components.{Components}
 use Rattle.value_components.specs.declared.Components.the-variants as CV
 
 abbrev componentsFrom : Answer ComponentParts → Components
-componentsFrom (gives (ofDate d z)) = CV.Date d z
-componentsFrom (gives (ofTime c z)) = CV.Time c z
-componentsFrom (gives (ofDateTime d c z)) = CV.DateTime d c z
+componentsFrom (gives (ofMoment f)) = CV.Moment f
 componentsFrom (gives (ofDuration l)) = CV.Duration l
 componentsFrom (refusesFor r) = CV.Refused (refusalOf r)
 
 components-back : (a : Components) → componentsFrom (components.componentsMeaning a) ≡ a
-components-back (CV.Date d z) = refl
-components-back (CV.Time c z) = refl
-components-back (CV.DateTime d c z) = refl
+components-back (CV.Moment f) = refl
 components-back (CV.Duration l) = refl
 components-back (CV.Refused r) = refl
 

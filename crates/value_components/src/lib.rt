@@ -1,17 +1,19 @@
 // Components of a value, for library callers (document 01, "Operations"): the fields that its kind has, and the zone.
-use calendar::Date;
 use value::DateTime;
+use value::Kind;
 use value::Refusal;
 use value::Span;
 use value::Value;
 use value::Zone;
 use value::clocks;
+use value::kinds;
 use value::valid;
 ghost use mathlib.Core.Path.{_≡_};
+ghost use mathlib.Core.Bool.{true};
 ghost use Prim.Native.Nat.{_≤_, _<_, _^_};
 ghost use Rattle.value.specs.Bounds.{secondTicks, maxDayTime};
 ghost use Rattle.value.specs.Carried.{ticksOf, maxClock};
-ghost use Rattle.value.specs.Values.{dateIn};
+ghost use Rattle.value.specs.Values.{okTimePart};
 ghost use Rattle.value_components.specs.Components as the;
 
 // The time of day by its fields, the last the part of a second in nanoseconds.
@@ -34,25 +36,52 @@ pub struct Lasting {
     pub part: i32,
 }
 
+// The year, the month or the day of a value, or that its kind has none.
+pub enum DateField {
+    Absent,
+    Is(u16),
+}
+
+// The time of day of a value, or that its kind has none.
+pub enum ClockField {
+    Absent,
+    Is(Clock),
+}
+
+// The fields that the kind of a date, time or dateTime has, and its zone.
+pub struct OwnFields {
+    pub year: DateField,
+    pub month: DateField,
+    pub day: DateField,
+    pub clock: ClockField,
+    pub zone: Zone,
+}
+
 // The parts that a value's kind has.
 pub enum Components {
-    Date(Date, Zone),
-    Time(Clock, Zone),
-    DateTime(Date, Clock, Zone),
+    Moment(OwnFields),
     Duration(Lasting),
     Refused(Refusal),
 }
 
 const MONTHS: u32 = calendar::MONTH_COUNT as u32;
 
-fn date_in(d: DateTime) -> Date
-    ensures { λ r. ⌜ r ≡ dateIn d ⌝ }
+fn date_field(own: bool, n: u16) -> DateField
+    ensures { λ r. ⌜ r ≡ the.dateField own n ⌝ }
 {
-    Date {
-        year: d.year,
-        month: d.month,
-        day: d.day,
+    if own {
+        return DateField::Is(n);
     }
+    DateField::Absent
+}
+
+fn clock_field(own: bool, c: Clock) -> ClockField
+    ensures { λ r. ⌜ r ≡ the.clockField own c ⌝ }
+{
+    if own {
+        return ClockField::Is(c);
+    }
+    ClockField::Absent
 }
 
 fn clock_in(t: Span) -> Clock
@@ -100,6 +129,25 @@ fn six_parts(negative: bool, months: u32, t: Span) -> Lasting
     }
 }
 
+fn fields_in(kind: Kind, d: DateTime) -> OwnFields
+    requires { ⌜ okTimePart d ≡ true ⌝ }
+    ensures { λ r. ⌜ r ≡ the.fieldsIn kind d ⌝ }
+{
+    let own = kinds::parts(kind);
+    let zone = d.zone;
+    let year = date_field(own.year, d.year);
+    let month = date_field(own.month, d.month as u16);
+    let day = date_field(own.day, d.day as u16);
+    let clock = clock_field(own.clock, clock_in(clocks::clock(d)));
+    OwnFields {
+        year,
+        month,
+        day,
+        clock,
+        zone,
+    }
+}
+
 pub fn of_value(v: Value) -> Components
     ensures { λ r. ⌜ the.componentsMeaning r ≡ the.componentsOf v ⌝ }
 {
@@ -107,18 +155,7 @@ pub fn of_value(v: Value) -> Components
         return Components::Refused(Refusal::numbered(Refusal::OUTSIDE));
     }
     match v {
-        Value::Date(d) => {
-            let zone = d.zone;
-            Components::Date(date_in(d), zone)
-        }
-        Value::Time(d) => {
-            let zone = d.zone;
-            Components::Time(clock_in(clocks::clock(d)), zone)
-        }
-        Value::DateTime(d) => {
-            let zone = d.zone;
-            Components::DateTime(date_in(d), clock_in(clocks::clock(d)), zone)
-        }
+        Value::Moment(kind, d) => Components::Moment(fields_in(kind, d)),
         Value::DayTime(d) => Components::Duration(six_parts(d.negative, 0, clocks::size(d))),
         Value::YearMonth(d) => Components::Duration(six_parts(
             d.negative,

@@ -2,7 +2,7 @@
 -- day, and no value leads further forward than the greatest duration.
 use mathlib.Core.Path.{_≡_, ap}
 use mathlib.Core.Bool.{Bool, true, false}
-use Prim.Native.Nat.{ℕ, _+_, _*_, _≤_, _<_}
+use Prim.Native.Nat.{_+_, _*_, _≤_, _<_}
 use native.Mathlib.Omega.{arith}
 use borrow.Author.Tests.{leb-true}
 use Rattle.basis.specs.Choice.{pick, every}
@@ -57,9 +57,7 @@ plus-forward t e = ap (λ (b : Bool). plusHalf b (ticksIn t)) e
 
 pub forward-to : (v : Value) → okValue v ≡ true → forwardOf v ≤ maxDayTime
 unfolding okValue
-forward-to (VV.Date d) e = omega arith
-forward-to (VV.Time d) e = omega arith
-forward-to (VV.DateTime d) e = omega arith
+forward-to (VV.Moment k d) e = omega arith
 forward-to (VV.DayTime t) e = go (t .negative) (ticks-to t e)
   where
     go : (b : Bool) → ticksIn t ≤ maxDayTime → pick b 0 (ticksIn t) ≤ maxDayTime

@@ -65,8 +65,6 @@ pastYears t = ltb maxYear (dateOf (t / dayTicks) .year)
 -- the ticks by which a dayTimeDuration leads forward: its number where that is above zero, else 0; a value of another kind leads
 -- nowhere
 abbrev pub forwardOf : Value → ℕ
-forwardOf (VV.Date d) = 0
-forwardOf (VV.Time d) = 0
-forwardOf (VV.DateTime d) = 0
+forwardOf (VV.Moment k d) = 0
 forwardOf (VV.DayTime t) = plusTicks t
 forwardOf (VV.YearMonth m) = 0

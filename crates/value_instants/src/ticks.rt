@@ -121,9 +121,7 @@ pub fn forward(v: Value) -> Span
     ensures { λ r. ⌜ r ≡ spanOf (forwardOf v) ⌝ }
 {
     match v {
-        Value::Date(_) => clocks::span(0),
-        Value::Time(_) => clocks::span(0),
-        Value::DateTime(_) => clocks::span(0),
+        Value::Moment(_, _) => clocks::span(0),
         Value::YearMonth(_) => clocks::span(0),
         Value::DayTime(d) => {
             if d.negative {

@@ -18,15 +18,15 @@ returns-2 : tie.Need-returns-2
 unfolding addedKinds
 returns-2 c = search (taken, left)
 
-moment-requires : tie.Need-moment-requires
-moment-requires c κs = search needs
+is-moment-requires : tie.Need-is-moment-requires
+is-moment-requires c κs = search needs
 
 returns-3 : tie.Need-returns-3
 unfolding addedKinds
 returns-3 c = search (taken, left)
 
-same-kind-requires : tie.Need-same-kind-requires
-same-kind-requires c κs = search needs
+same-requires : tie.Need-same-requires
+same-requires c κs = search needs
 
 returns-4 : tie.Need-returns-4
 unfolding addedKinds
@@ -44,8 +44,8 @@ added-spec =
     returns
     takes-requires-2
     returns-2
-    moment-requires
+    is-moment-requires
     returns-3
-    same-kind-requires
+    same-requires
     returns-4
     returns-5)

@@ -11,11 +11,11 @@ returns : tie.Need-returns
 unfolding lessKinds
 returns c = search (taken, left)
 
-same-kind-requires : tie.Need-same-kind-requires
-same-kind-requires c κs = search needs
+same-requires : tie.Need-same-requires
+same-requires c κs = search needs
 
-moment-requires : tie.Need-moment-requires
-moment-requires c κs = search needs
+is-moment-requires : tie.Need-is-moment-requires
+is-moment-requires c κs = search needs
 
 returns-2 : tie.Need-returns-2
 unfolding lessKinds
@@ -35,8 +35,8 @@ less-spec =
     (tie.spec
     takes-requires
     returns
-    same-kind-requires
-    moment-requires
+    same-requires
+    is-moment-requires
     returns-2
     returns-3
     returns-4)

@@ -1,56 +1,50 @@
+use Rattle.condition_sorts.specs.Sorts.{takes}
+use Rattle.condition_sorts.proofs.Choices.{taken, left}
 use borrow.Author.Needs.{needs}
 use Rattle.condition_sorts.proofs.takes.Statement.{statement}
 use Rattle.condition_sorts.proofs.takes.Tie as tie
 
-enum-told : tie.Need-enum-told
-enum-told c = search needs
+same-requires : tie.Need-same-requires
+same-requires c κs = search needs
 
-enum-told-2 : tie.Need-enum-told-2
-enum-told-2 c = search needs
-
-enum-told-3 : tie.Need-enum-told-3
-enum-told-3 c = search needs
-
-enum-told-4 : tie.Need-enum-told-4
-enum-told-4 c = search needs
-
-moment-requires : tie.Need-moment-requires
-moment-requires c κs = search needs
-
-enum-told-5 : tie.Need-enum-told-5
-enum-told-5 c = search needs
-
-has-date-requires : tie.Need-has-date-requires
-has-date-requires c κs = search needs
+is-dated-requires : tie.Need-is-dated-requires
+is-dated-requires c κs = search needs
 
 returns : tie.Need-returns
-returns c = rw (c .enum-told .given .1)
+unfolding takes
+returns c = search (taken, left)
+
+is-clocked-requires : tie.Need-is-clocked-requires
+is-clocked-requires c κs = search needs
 
 returns-2 : tie.Need-returns-2
-returns-2 c = rw (c .enum-told2 .given .1)
+unfolding takes
+returns-2 c = search (taken, left)
+
+same-requires-2 : tie.Need-same-requires-2
+same-requires-2 c κs = search needs
+
+is-dated-requires-2 : tie.Need-is-dated-requires-2
+is-dated-requires-2 c κs = search needs
 
 returns-3 : tie.Need-returns-3
-returns-3 c = rw (c .enum-told3 .given .1)
+unfolding takes
+returns-3 c = search (taken, left)
 
 returns-4 : tie.Need-returns-4
-returns-4 c = rw (c .before .enum-told4 .given .1) (c .moment .ensures)
-
-returns-5 : tie.Need-returns-5
-returns-5 c = rw (c .before .enum-told5 .given .1) (c .has-date .ensures)
+unfolding takes
+returns-4 c = search (taken, left)
 
 pub takes-spec : {M : Type 1} → statement M
 takes-spec =
     tie.close
     (tie.spec
-    enum-told
-    enum-told-2
-    enum-told-3
-    enum-told-4
-    moment-requires
-    enum-told-5
-    has-date-requires
+    same-requires
+    is-dated-requires
     returns
+    is-clocked-requires
     returns-2
+    same-requires-2
+    is-dated-requires-2
     returns-3
-    returns-4
-    returns-5)
+    returns-4)

@@ -25,12 +25,12 @@ returns-2 : tie.Need-returns-2
 unfolding adjustOf both
 returns-2 c = simp (← c .refused2 .ensures, no (c .before .before .value-ok2 .ensures) (c .before .if2 .taken), good (c .before .before .before .before .value-ok .ensures) (c .before .before .before .if1 .left))
 
-operand-to-requires : tie.Need-operand-to-requires
-operand-to-requires c κs = (good (c .before .before .before .value-ok .ensures) (c .before .before .if1 .left), good (c .before .value-ok2 .ensures) (c .if2 .left))
+value-to-requires : tie.Need-value-to-requires
+value-to-requires c κs = (good (c .before .before .before .value-ok .ensures) (c .before .before .if1 .left), good (c .before .value-ok2 .ensures) (c .if2 .left))
 
 returns-3 : tie.Need-returns-3
 unfolding adjustOf both
-returns-3 c = simp (← c .operand-to .ensures, good (c .before .before .value-ok2 .ensures) (c .before .if2 .left), good (c .before .before .before .before .value-ok .ensures) (c .before .before .before .if1 .left))
+returns-3 c = simp (← c .value-to .ensures, good (c .before .before .value-ok2 .ensures) (c .before .if2 .left), good (c .before .before .before .before .value-ok .ensures) (c .before .before .before .if1 .left))
 
 pub adjust-spec : {M : Type 1} → statement M
 adjust-spec =
@@ -42,5 +42,5 @@ adjust-spec =
     value-ok-requires-2
     refused-requires-2
     returns-2
-    operand-to-requires
+    value-to-requires
     returns-3)

@@ -1,11 +1,9 @@
-use Rattle.operation_adjusting.proofs.Zones.{instant-room}
-use Rattle.operation_adjusting.proofs.Zones.{instant-span, local-span, adjusted-none, adjusted-own}
+use Rattle.operation_adjusting.proofs.Zones.{instant-room, instant-span, local-span, adjusted-none, adjusted-own, own-zone}
 use Rattle.value_instants.proofs.Within.{timed}
 use native.Mathlib.Omega.{arith}
-use mathlib.Core.Path.{_≡_, _∙_}
+use mathlib.Core.Path.{_∙_}
 use Rattle.operation_shifting.proofs.Reach.{local-from}
 use Rattle.operation_quantities.proofs.Spanned.{part-of, seconds-of, span-at-ticks}
-use Rattle.operation_adjusting.proofs.Zones.{own-zone}
 use borrow.Author.Needs.{needs}
 use Rattle.operation_adjusting.proofs.adjusted_from.Statement.{statement}
 use Rattle.operation_adjusting.proofs.adjusted_from.Tie as tie
@@ -15,9 +13,6 @@ enum-told c = search needs
 
 with-zone-requires : tie.Need-with-zone-requires
 with-zone-requires c κs = search needs
-
-value-of-requires : tie.Need-value-of-requires
-value-of-requires c κs = search needs
 
 enum-known-own : tie.Need-enum-known-own
 enum-known-own c = search needs
@@ -35,7 +30,7 @@ at-ticks-requires : tie.Need-at-ticks-requires
 at-ticks-requires c κs = part-of _ _ (c .local-at .ensures)
 
 returns : tie.Need-returns
-returns c = adjusted-none _ _ _ _ _ _ (c .before .before .enum-told .given .1) (c .before .with-zone .ensures) (c .value-of .ensures)
+returns c = adjusted-none _ _ _ _ _ (c .before .enum-told .given .1) (c .with-zone .ensures)
 
 returns-2 : tie.Need-returns-2
 returns-2 c = c .at-ticks .ensures ∙ span-at-ticks _ _ _ _ (local-span _ _ _ (c .before .before .before .before .before .before .before .args .z) (instant-span _ _ _ (c .before .before .before .before .before .own .given .0 .0) (c .before .before .before .local .ensures) (c .before .before .instant-at .ensures)) (c .before .local-at .ensures)) ∙ adjusted-own _ _ _ _ _ (c .before .before .before .before .before .own .given .1)
@@ -46,7 +41,6 @@ adjusted-from-spec =
     (tie.spec
     enum-told
     with-zone-requires
-    value-of-requires
     enum-known-own
     local-requires
     instant-at-requires

@@ -1,64 +1,38 @@
+use mathlib.Core.Path.{sym, _∙_}
+use Rattle.basis.proofs.Tests.{no, yes, every-goes, every-fails, every-ends}
+use Rattle.operation_casting.specs.Casts.{castsAcross}
 use borrow.Author.Needs.{needs}
 use Rattle.operation_casting.proofs.casts_across.Statement.{statement}
 use Rattle.operation_casting.proofs.casts_across.Tie as tie
 
-enum-told : tie.Need-enum-told
-enum-told c = search needs
-
-same-kind-requires : tie.Need-same-kind-requires
-same-kind-requires c κs = search needs
-
-enum-told-2 : tie.Need-enum-told-2
-enum-told-2 c = search needs
-
-enum-told-3 : tie.Need-enum-told-3
-enum-told-3 c = search needs
-
-same-kind-requires-2 : tie.Need-same-kind-requires-2
-same-kind-requires-2 c κs = search needs
+is-dated-requires : tie.Need-is-dated-requires
+is-dated-requires c κs = search needs
 
 returns : tie.Need-returns
-returns c = simp (c .if1 .taken, ← c .before .same-kind2 .ensures, c .before .before .enum-told3 .given .1)
+unfolding castsAcross
+returns c = sym (every-fails _ _ (no (c .before .is-dated .ensures) (c .if1 .taken)))
 
-same-kind-requires-3 : tie.Need-same-kind-requires-3
-same-kind-requires-3 c κs = search needs
-
-enum-told-4 : tie.Need-enum-told-4
-enum-told-4 c = search needs
-
-enum-told-5 : tie.Need-enum-told-5
-enum-told-5 c = search needs
+is-moment-requires : tie.Need-is-moment-requires
+is-moment-requires c κs = search needs
 
 returns-2 : tie.Need-returns-2
-returns-2 c = simp (← c .same-kind .ensures, c .before .enum-told .given .1)
+unfolding castsAcross
+returns-2 c = sym (every-goes _ _ (yes (c .before .before .before .is-dated .ensures) (c .before .before .if1 .left)) ∙ every-fails _ _ (no (c .before .is-moment .ensures) (c .if2 .taken)))
+
+one-within-requires : tie.Need-one-within-requires
+one-within-requires c κs = search needs
 
 returns-3 : tie.Need-returns-3
-returns-3 c = search needs
-
-returns-4 : tie.Need-returns-4
-returns-4 c = simp (← c .same-kind3 .ensures, c .before .if1 .left, ← c .before .before .same-kind2 .ensures, c .before .before .before .enum-told3 .given .1)
-
-returns-5 : tie.Need-returns-5
-returns-5 c = search needs
-
-returns-6 : tie.Need-returns-6
-returns-6 c = search needs
+unfolding castsAcross
+returns-3 c = c .one-within .ensures ∙ sym (every-goes _ _ (yes (c .before .before .before .before .is-dated .ensures) (c .before .before .before .if1 .left)) ∙ every-goes _ _ (yes (c .before .before .is-moment .ensures) (c .before .if2 .left)) ∙ every-ends _)
 
 pub casts-across-spec : {M : Type 1} → statement M
 casts-across-spec =
     tie.close
     (tie.spec
-    enum-told
-    same-kind-requires
-    enum-told-2
-    enum-told-3
-    same-kind-requires-2
+    is-dated-requires
     returns
-    same-kind-requires-3
-    enum-told-4
-    enum-told-5
+    is-moment-requires
     returns-2
-    returns-3
-    returns-4
-    returns-5
-    returns-6)
+    one-within-requires
+    returns-3)

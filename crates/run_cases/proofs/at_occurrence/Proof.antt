@@ -3,7 +3,7 @@ use mathlib.Core.Path.{ap, sym, _∙_}
 use native.Mathlib.Omega.{arith}
 use borrow.Author.Tests.{ltb-true}
 use Rattle.basis.proofs.Tests.{no, yes}
-use Rattle.value.specs.Kinds.{okValue}
+use Rattle.value.proofs.RowLaws.{date-time-ok}
 use Rattle.value_instants.specs.Ticks.{placedAt}
 use Rattle.value_instants.proofs.Locals.{placed-good}
 use Rattle.value.proofs.Spans.{has-ticks}
@@ -52,11 +52,10 @@ enum-known-d : tie.Need-enum-known-d
 enum-known-d c = search needs
 
 text-of-requires : tie.Need-text-of-requires
-unfolding okValue
 text-of-requires c κs =
     let p = c .before .before .before in
     let b = p .before .before .before .before .before in
-    placed-good _ _ _ (sym (c .before .d .given .1) ∙ p .placed .ensures) (b .pre .0 .zoned)
+    date-time-ok _ (placed-good _ _ _ (sym (c .before .d .given .1) ∙ p .placed .ensures) (b .pre .0 .zoned))
 
 returns-2 : tie.Need-returns-2
 returns-2 c =

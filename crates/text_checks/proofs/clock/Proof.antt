@@ -34,11 +34,11 @@ add-t13 c = search needs
 at-requires : tie.Need-at-requires
 at-requires c κs = span-within (c .before .before .before .before .before .args .c) (c .before .before .before .if1 .left) (c .before .before .before .before .before .pre .1) (c .before .before .before .before .before .pre .2)
 
-valued-requires : tie.Need-valued-requires
-valued-requires c κs = search needs
+moment-requires : tie.Need-moment-requires
+moment-requires c κs = search needs
 
 returns-2 : tie.Need-returns-2
-returns-2 c = c .valued .ensures ∙ on-clock (c .before .before .before .before .before .before .before .args .c) (c .before .before .before .before .before .if1 .left) (c .before .before .before .before .before .before .before .args .kind) (c .before .before .before .before .before .before .before .args .d) (c .before .before .before .before .before .before .before .args .zone) (c .before .at .ensures)
+returns-2 c = c .moment .ensures ∙ on-clock (c .before .before .before .before .before .before .before .args .c) (c .before .before .before .before .before .if1 .left) (c .before .before .before .before .before .before .before .args .kind) (c .before .before .before .before .before .before .before .args .d) (c .before .before .before .before .before .before .before .args .zone) (c .before .at .ensures)
 
 pub clock-spec : {M : Type 1} → statement M
 clock-spec =
@@ -54,5 +54,5 @@ clock-spec =
     cast-t12
     add-t13
     at-requires
-    valued-requires
+    moment-requires
     returns-2)

@@ -1,8 +1,6 @@
 use mathlib.Core.Path.{ap, sym, _∙_}
-use mathlib.Core.List.{_∷_}
-use Rattle.value.specs.declared.Zone.{Zone}
 use Rattle.value.specs.declared.Zone.the-variants.{At}
-use Rattle.calls_replies.specs.ReplyParts.{space, zoneShown}
+use Rattle.calls_replies.specs.ReplyParts.{zoneShown}
 use Rattle.calls_replies.proofs.Growing.{named}
 use borrow.Author.Needs.{needs}
 use Rattle.calls_replies.proofs.parts.with_zone.Statement.{statement}
@@ -45,13 +43,13 @@ with-number-requires-2 : tie.Need-with-number-requires-2
 with-number-requires-2 c κs = search needs
 
 returns : tie.Need-returns
-returns c = named (ap (λ (z : Zone). space ∷ zoneShown z) (sym (c .before .before .enum-told .given .1))) (c .joined .ensures)
+returns c = named (ap zoneShown (sym (c .before .before .enum-told .given .1))) (c .joined .ensures)
 
 returns-2 : tie.Need-returns-2
-returns-2 c = named (ap (λ (z : Zone). space ∷ zoneShown z) (sym (c .before .before .before .before .before .before .z .given .1 ∙ ap At (c .before .before .before .o .given .1)))) (c .with-number .ensures .0)
+returns-2 c = named (ap zoneShown (sym (c .before .before .before .before .before .before .z .given .1 ∙ ap At (c .before .before .before .o .given .1)))) (c .with-number .ensures .0)
 
 returns-3 : tie.Need-returns-3
-returns-3 c = named (ap (λ (z : Zone). space ∷ zoneShown z) (sym (c .before .before .before .before .before .before .z .given .1 ∙ ap At (c .before .before .before .o2 .given .1)))) (c .with-number2 .ensures .0)
+returns-3 c = named (ap zoneShown (sym (c .before .before .before .before .before .before .z .given .1 ∙ ap At (c .before .before .before .o2 .given .1)))) (c .with-number2 .ensures .0)
 
 pub with-zone-spec : {M : Type 1} → statement M
 with-zone-spec =

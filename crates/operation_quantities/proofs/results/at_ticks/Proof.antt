@@ -12,9 +12,6 @@ enum-known-found c = search needs
 kept-requires : tie.Need-kept-requires
 kept-requires c κs = search needs
 
-value-of-requires : tie.Need-value-of-requires
-value-of-requires c κs = search needs
-
 enum-told : tie.Need-enum-told
 enum-told c = search needs
 
@@ -23,7 +20,7 @@ refused-requires c κs = search needs
 
 returns : tie.Need-returns
 unfolding atTicks
-returns c = simp (← c .value-of .ensures, ← c .before .kept .ensures, c .before .before .before .found .given .1, ← c .before .before .before .before .before .placed .ensures)
+returns c = simp (← c .kept .ensures, c .before .before .found .given .1, ← c .before .before .before .before .placed .ensures)
 
 returns-2 : tie.Need-returns-2
 unfolding atTicks
@@ -36,7 +33,6 @@ at-ticks-spec =
     placed-requires
     enum-known-found
     kept-requires
-    value-of-requires
     enum-told
     refused-requires
     returns

@@ -10,15 +10,15 @@ use borrow.Author.Needs.{needs}
 use Rattle.operation_shifting.proofs.months.moved.Statement.{statement}
 use Rattle.operation_shifting.proofs.months.moved.Tie as tie
 
-has-date-requires : tie.Need-has-date-requires
-has-date-requires c κs = search needs
+is-dated-requires : tie.Need-is-dated-requires
+is-dated-requires c κs = search needs
 
 refused-requires : tie.Need-refused-requires
 refused-requires c κs = search needs
 
 returns : tie.Need-returns
 unfolding moved
-returns c = simp (← c .refused .ensures, no (c .before .before .has-date .ensures) (c .before .if1 .taken))
+returns c = simp (← c .refused .ensures, no (c .before .before .is-dated .ensures) (c .before .if1 .taken))
 
 cast-t : tie.Need-cast-t
 cast-t c = search needs
@@ -39,13 +39,13 @@ refused-requires-2 : tie.Need-refused-requires-2
 refused-requires-2 c κs = search needs
 
 returns-2 : tie.Need-returns-2
-returns-2 c = c .refused2 .ensures ∙ before-months _ _ _ _ (good (c .before .before .before .before .before .before .before .has-date .ensures) (c .before .before .before .before .before .before .if1 .left)) (let y : 0 ≡ monthOf (c .before .before .before .before .before .before .before .before .args .d) - c .before .before .before .before .before .before .before .before .args .m .months = omega (arith, c .before .if3 .taken) in y ∙ taken-off _ _ _ (c .before .before .before .if2 .taken))
+returns-2 c = c .refused2 .ensures ∙ before-months _ _ _ _ (good (c .before .before .before .before .before .before .before .is-dated .ensures) (c .before .before .before .before .before .before .if1 .left)) (let y : 0 ≡ monthOf (c .before .before .before .before .before .before .before .before .args .d) - c .before .before .before .before .before .before .before .before .args .m .months = omega (arith, c .before .if3 .taken) in y ∙ taken-off _ _ _ (c .before .before .before .if2 .taken))
 
 moved-to-requires : tie.Need-moved-to-requires
 moved-to-requires c κs = search needs
 
 returns-3 : tie.Need-returns-3
-returns-3 c = c .moved-to .ensures ∙ months-moved _ _ _ _ (good (c .before .before .before .before .before .before .before .before .has-date .ensures) (c .before .before .before .before .before .before .before .if1 .left)) _ (taken-off _ _ _ (c .before .before .before .before .if2 .taken))
+returns-3 c = c .moved-to .ensures ∙ months-moved _ _ _ _ (good (c .before .before .before .before .before .before .before .before .is-dated .ensures) (c .before .before .before .before .before .before .before .if1 .left)) _ (taken-off _ _ _ (c .before .before .before .before .if2 .taken))
 
 add-moved-to : tie.Need-add-moved-to
 add-moved-to c = search needs
@@ -54,13 +54,13 @@ moved-to-requires-2 : tie.Need-moved-to-requires-2
 moved-to-requires-2 c κs = search needs
 
 returns-4 : tie.Need-returns-4
-returns-4 c = c .moved-to2 .ensures ∙ months-moved _ _ _ _ (good (c .before .before .before .before .before .before .has-date .ensures) (c .before .before .before .before .before .if1 .left)) _ (added-on _ _ _ (c .before .before .if2 .left))
+returns-4 c = c .moved-to2 .ensures ∙ months-moved _ _ _ _ (good (c .before .before .before .before .before .before .is-dated .ensures) (c .before .before .before .before .before .if1 .left)) _ (added-on _ _ _ (c .before .before .if2 .left))
 
 pub moved-spec : {M : Type 1} → statement M
 moved-spec =
     tie.close
     (tie.spec
-    has-date-requires
+    is-dated-requires
     refused-requires
     returns
     cast-t

@@ -46,12 +46,9 @@ lesser-requires c κs = search needs
 at-clock-of-requires : tie.Need-at-clock-of-requires
 at-clock-of-requires c κs = search needs
 
-value-of-requires : tie.Need-value-of-requires
-value-of-requires c κs = search needs
-
 returns-3 : tie.Need-returns-3
 unfolding movedTo both
-returns-3 c = simp (le-leb, ← c .value-of .ensures, ← c .before .at-clock-of .ensures, ← c .before .before .lesser .ensures, ← c .before .before .before .month-days .ensures, c .before .before .before .before .if2 .left, c .before .before .before .before .before .if1 .left)
+returns-3 c = simp (le-leb, ← c .at-clock-of .ensures, ← c .before .lesser .ensures, ← c .before .before .month-days .ensures, c .before .before .before .if2 .left, c .before .before .before .before .if1 .left)
 
 pub moved-to-spec : {M : Type 1} → statement M
 moved-to-spec =
@@ -70,5 +67,4 @@ moved-to-spec =
     cast-t12
     lesser-requires
     at-clock-of-requires
-    value-of-requires
     returns-3)

@@ -1,4 +1,4 @@
-use Rattle.text_durations.specs.Forms.{point}
+use Rattle.text_forms.specs.Forms.{point}
 use Rattle.text_durations.proofs.Ways.{absent, no-letter, no-point, no-seconds, a-part, with-point}
 use Rattle.numerals.proofs.Positions.{within}
 use native.Mathlib.Omega.{arith}

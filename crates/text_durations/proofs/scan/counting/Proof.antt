@@ -1,5 +1,5 @@
 use Rattle.text_durations.specs.Carried.{secondsCap}
-use Rattle.text_durations.proofs.Weights.{weighed}
+use Rattle.text_forms.proofs.Weights.{weighed}
 use Rattle.text_durations.proofs.Capping.{counts-month, counts-second}
 use native.Mathlib.Omega.{arith}
 use mathlib.Core.Path.{sym, _∙_}

@@ -1,4 +1,4 @@
-use Rattle.text_durations.specs.Forms.{minusSign}
+use Rattle.text_forms.specs.Forms.{minusSign}
 use Rattle.text_durations.proofs.Going.{a-minus, no-minus}
 use Rattle.numerals.proofs.Positions.{within}
 use native.Mathlib.Omega.{arith}

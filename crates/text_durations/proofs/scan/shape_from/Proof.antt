@@ -1,4 +1,4 @@
-use Rattle.text_durations.specs.Forms.{startMark}
+use Rattle.text_forms.specs.Forms.{startMark}
 use Rattle.text_durations.proofs.Going.{no-start, a-start, after-le}
 use Rattle.text_durations.proofs.Capping.{up-to-small}
 use Rattle.numerals.proofs.Positions.{within}

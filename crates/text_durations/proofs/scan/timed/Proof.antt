@@ -1,4 +1,4 @@
-use Rattle.text_durations.specs.Forms.{timeMark}
+use Rattle.text_forms.specs.Forms.{timeMark}
 use Rattle.text_durations.proofs.Going.{no-time, no-letters, no-mark, the-time}
 use Rattle.numerals.proofs.Positions.{within}
 use native.Mathlib.Omega.{arith}

@@ -1,9 +1,7 @@
 use Rattle.value.proofs.KindParts.{of-kind-by}
 use Rattle.basis.proofs.Tests.{every-goes, every-fails, every-ends}
-use mathlib.Core.Path.{_≡_, refl, ap, sym, _∙_}
+use mathlib.Core.Path.{sym, _∙_}
 use borrow.Author.Tests.{eq-eqb, ne-eqb}
-use Rattle.basis.specs.Choice.{both, every}
-use Rattle.value.specs.Kinds.{ofKind}
 use borrow.Author.Needs.{needs}
 use Rattle.value.proofs.kinds.of_kind.Statement.{statement}
 use Rattle.value.proofs.kinds.of_kind.Tie as tie

@@ -1,0 +1,4 @@
+pub mod Looking
+pub mod Held
+pub mod Weights
+pub mod RowTests
