@@ -8,9 +8,7 @@ xquery version "3.1";
    Written there: `verdicts`, a line each: `same`, `out` or `differs`, the rule, and BaseX's own answer, tabs between;
    `returns`, how often byte 13 stands in the calls, as they were read; `version`, that of BaseX. :)
 
-declare variable $durations := ('xs:dayTimeDuration', 'xs:yearMonthDuration', 'xs:duration');
-declare variable $g-kinds := ('xs:gYear', 'xs:gYearMonth', 'xs:gMonth', 'xs:gMonthDay', 'xs:gDay');
-declare variable $kinds := ('xs:date', 'xs:time', 'xs:dateTime', $durations, $g-kinds);
+declare variable $kinds := ('xs:date', 'xs:time', 'xs:dateTime', 'xs:dayTimeDuration', 'xs:yearMonthDuration');
 
 (: What was asked for, or the code of the error that it raised. :)
 declare function local:attempt($asked as function() as xs:anyAtomicType) as map(*) {
@@ -32,7 +30,7 @@ declare function local:is-call($fields as xs:string*) as xs:boolean {
   let $kind := $fields[2] = $kinds
   return switch ($fields[1])
     case 'read' case 'unzone' case 'components' return $kind and count($fields) = 3
-    case 'compare' case 'equal' case 'add' case 'subtract' case 'adjust' return $kind and count($fields) = 5 and $fields[4] = $kinds
+    case 'compare' case 'add' case 'subtract' case 'adjust' return $kind and count($fields) = 5 and $fields[4] = $kinds
     case 'cast' return $kind and count($fields) = 4 and $fields[4] = $kinds
     case 'multiply' return $kind and count($fields) = 4 and local:is-whole-number($fields[4])
     default return false()
@@ -51,13 +49,7 @@ declare function local:as-kind($value as xs:anyAtomicType, $kind as xs:string) a
     case 'xs:time' return xs:time($value)
     case 'xs:dateTime' return xs:dateTime($value)
     case 'xs:dayTimeDuration' return xs:dayTimeDuration($value)
-    case 'xs:yearMonthDuration' return xs:yearMonthDuration($value)
-    case 'xs:gYear' return xs:gYear($value)
-    case 'xs:gYearMonth' return xs:gYearMonth($value)
-    case 'xs:gMonth' return xs:gMonth($value)
-    case 'xs:gMonthDay' return xs:gMonthDay($value)
-    case 'xs:gDay' return xs:gDay($value)
-    default return xs:duration($value)
+    default return xs:yearMonthDuration($value)
 };
 
 (: All six comparisons are asked. Where they do not fit together, those that hold are the answer, which no proved one equals. :)
@@ -69,26 +61,6 @@ declare function local:order($a as xs:anyAtomicType, $b as xs:anyAtomicType) as 
     case 'le eq ge' return 'eq'
     case 'ne ge gt' return 'gt'
     default return 'held: ' || string-join($held, ' ')
-};
-
-(: `eq` and `ne`, one of which has to hold. :)
-declare function local:equality($a as xs:anyAtomicType, $b as xs:anyAtomicType) as xs:string {
-  switch (string-join(('eq'[$a eq $b], 'ne'[$a ne $b]), ' '))
-    case 'eq' return 'true'
-    case 'ne' return 'false'
-    default return 'held: both or neither'
-};
-
-(: Whether one of two gMonthDays is in February and the other in March. BaseX 9.7.2 takes what they lack from a year in which
-   29 February is 1 March. :)
-declare function local:leap-day-between($a as xs:anyAtomicType, $b as xs:anyAtomicType) as xs:boolean {
-  $a instance of xs:gMonthDay and $b instance of xs:gMonthDay and
-    (every $month in ('--02-', '--03-') satisfies some $text in (string($a), string($b)) satisfies starts-with($text, $month))
-};
-
-(: The dateTime that F&O has a gMonthDay stand for. :)
-declare function local:in-1972($value as xs:gMonthDay) as xs:dateTime {
-  xs:dateTime('1972' || substring(string($value), 2, 6) || 'T00:00:00' || substring(string($value), 8))
 };
 
 declare function local:adjusted($value as xs:anyAtomicType, $zone as xs:anyAtomicType?) as xs:anyAtomicType {
@@ -109,21 +81,8 @@ declare function local:named($names as xs:string, $numbers as xs:anyAtomicType*)
   string-join(for-each-pair(tokenize($names), $numbers, function($name, $number) { $name || '=' || string($number) }), ' ')
 };
 
-(: XQuery has no functions for the parts of a g-kind: they are cut out of the text that BaseX writes. :)
-declare function local:parts($names as xs:string, $value as xs:anyAtomicType) as xs:string {
-  let $parts := analyze-string(string($value), '^-*([0-9]{4}|[0-9]{2})(-([0-9]{2}))?(Z|[\-+][0-9]{2}:[0-9]{2})?$')
-  let $zone := $parts//fn:group[@nr = '4']
-  let $minutes := if (empty($zone)) then 'none' else local:zone(timezone-from-time(xs:time('00:00:00' || $zone)))
-  return local:named($names || ' zone', ($parts//fn:group[@nr = ('1', '3')] ! string(xs:integer(string-join(text()))), $minutes))
-};
-
 declare function local:components($value as xs:anyAtomicType) as xs:string {
   typeswitch ($value)
-    case xs:gYear return local:parts('year', $value)
-    case xs:gYearMonth return local:parts('year month', $value)
-    case xs:gMonth return local:parts('month', $value)
-    case xs:gMonthDay return local:parts('month day', $value)
-    case xs:gDay return local:parts('day', $value)
     case $date as xs:date return local:named('year month day zone', (
       year-from-date($date), month-from-date($date), day-from-date($date), local:zone(timezone-from-date($date))))
     case $time as xs:time return local:named('hours minutes seconds zone', (
@@ -140,10 +99,6 @@ declare function local:result($fields as xs:string*, $values as xs:anyAtomicType
   switch ($fields[1])
     case 'read' return $values[1]
     case 'compare' return local:order($values[1], $values[2])
-    case 'equal' return
-      if (local:leap-day-between($values[1], $values[2]))
-      then local:equality(local:in-1972($values[1]), local:in-1972($values[2]))
-      else local:equality($values[1], $values[2])
     case 'add' return $values[1] + $values[2]
     case 'subtract' return $values[1] - $values[2]
     case 'multiply' return $values[1] * xs:integer($fields[4])
@@ -171,34 +126,18 @@ declare function local:beyond($value as xs:anyAtomicType) as xs:boolean {
       let $most := xs:dayTimeDuration('PT1000000000000S') return $span gt $most or $span lt $most * -1
     case $span as xs:yearMonthDuration return
       let $most := xs:yearMonthDuration('P1000000M') return $span gt $most or $span lt $most * -1
-    case $both as xs:duration return
-      abs(years-from-duration($both) * 12 + months-from-duration($both)) > 1000000 or
-      abs(days-from-duration($both) * 86400 + hours-from-duration($both) * 3600 + minutes-from-duration($both) * 60
-        + seconds-from-duration($both)) > 1000000000000
     default return false()
 };
 
 (: "Year negative or above 9999": the year as it stands in the text. -0001-12-31T24:00:00 is beyond, though it is a moment of
    year 1 to BaseX. :)
 declare function local:year-beyond($kind as xs:string, $text as xs:string) as xs:boolean {
-  $kind = ('xs:date', 'xs:dateTime', 'xs:gYearMonth') and matches($text, '^(-[0-9]{4,}|[0-9]{5,})-') or
-  $kind = 'xs:gYear' and matches($text, '^(-[0-9]{4,}|[0-9]{5,})([-+Z]|$)')
+  $kind = ('xs:date', 'xs:dateTime') and matches($text, '^(-[0-9]{4,}|[0-9]{5,})-')
 };
 
 (: Document 02, letter e: over nine fraction digits. :)
 declare function local:long-fraction($text as xs:string) as xs:boolean {
   matches($text, '\.[0-9]{10}')
-};
-
-(: A general duration with seconds that have no digit, or none before the point: BaseX 9.7.2 stops at the first with an error
-   that cannot be caught, and reads the second. :)
-declare function local:no-seconds($kind as xs:string, $text as xs:string) as xs:boolean {
-  $kind = 'xs:duration' and matches($text, '[THM](\.[0-9]+)?S$')
-};
-
-(: Of a dateTime BaseX reads the date before it looks at what follows, so that a great year hides a text without a shape. :)
-declare function local:has-shape($text as xs:string) as xs:boolean {
-  matches($text, '^-?[0-9]+-[0-9]{2}-[0-9]{2}T[0-9]{2}:[0-9]{2}:[0-9]{2}(\.[0-9]+)?(Z|[\-+][0-9]{2}:[0-9]{2})?$')
 };
 
 (: A text that BaseX refuses. :)
@@ -209,9 +148,7 @@ declare function local:after-error($kind as xs:string, $text as xs:string, $code
       case 'FORG0001' return (
         local:refused(1, 'same', 'refused 1, FORG0001'),
         if (local:year-beyond($kind, $text)) then local:refused(2, 'out', 'two faults') else ())
-      case 'FODT0001' case 'FODT0002' return (
-        local:refused(2, 'out', 'bounds of a text'),
-        if ($kind = 'xs:dateTime' and not(local:has-shape($text))) then local:refused(1, 'out', 'two faults') else ())
+      case 'FODT0001' case 'FODT0002' return local:refused(2, 'out', 'bounds of a text')
       default return ()))
 };
 
@@ -230,7 +167,7 @@ declare function local:after-result($fields as xs:string*, $result as map(*)) as
     case 'FODT0003' return local:refused(5, 'same', 'refused 5, FODT0003')
     case 'FODT0001' case 'FODT0002' return local:refused(4, 'out', 'bounds of a result')
     case () return
-      if ($fields[1] = 'cast' and $fields[2] = $durations and $fields[2] != $fields[4])
+      if ($fields[1] = 'cast' and ends-with($fields[2], 'Duration') and $fields[2] != $fields[4])
       then local:refused(9, 'out', 'duration cast')
       else if (local:beyond($result?value)) then local:refused(4, 'out', 'bounds of a result')
       else map { string($result?value) : 'same&#9;value, the same text' }
@@ -240,14 +177,11 @@ declare function local:after-result($fields as xs:string*, $result as map(*)) as
 (: BaseX's answer to a call, and the proved answers that it allows. :)
 declare function local:asked($fields as xs:string*) as map(*) {
   let $places := if ($fields[1] = ('cast', 'multiply')) then 3 else (3, 5)[. <= count($fields)]
-  let $reads := for $at in $places return
-    if (local:no-seconds($fields[$at - 1], local:stripped($fields[$at]))) then map { 'error': 'not asked' }
-    else local:attempt(function() { local:as-kind($fields[$at], $fields[$at - 1]) })
+  let $reads := for $at in $places return local:attempt(function() { local:as-kind($fields[$at], $fields[$at - 1]) })
   let $refused := for $at at $place in $places
     let $read := $reads[$place]
     let $text := local:stripped($fields[$at])
-    return if ($read?error = 'not asked') then local:refused(1, 'out', 'fault: seconds without a digit')
-      else if (map:contains($read, 'error')) then local:after-error($fields[$at - 1], $text, $read?error)
+    return if (map:contains($read, 'error')) then local:after-error($fields[$at - 1], $text, $read?error)
       else local:after-value($fields[$at - 1], $text, $read?value)
   return
     if (exists($refused)) then

@@ -24,7 +24,7 @@ pub const PARTS: [(Part, &str); 7] = [
     (Part::Values, "values read, fields and literals: `text`, `text_blanks`, `text_fields`, `text_layouts`, `text_checks`, `text_scan`, `text_forms`, `text_durations`, `numerals`"),
     (
         Part::Computing,
-        "comparing and computing: `operation`, `operation_arithmetic`, `operation_ordering`, `operation_equality`, `operation_adjusting`, `operation_casting`, `operation_shifting`, `operation_quantities`, `value_instants`, `value`, \
+        "comparing and computing: `operation`, `operation_arithmetic`, `operation_ordering`, `operation_adjusting`, `operation_casting`, `operation_shifting`, `operation_quantities`, `value_instants`, `value`, \
          `condition_parts`, `condition_givens`, `condition_sorts`, `condition_operators`",
     ),
     (Part::Calendar, "days and dates: `calendar`"),
@@ -77,7 +77,6 @@ fn part_of(name: &str) -> Part {
         "operation"
         | "operation_arithmetic"
         | "operation_ordering"
-        | "operation_equality"
         | "operation_adjusting"
         | "operation_casting"
         | "operation_shifting"

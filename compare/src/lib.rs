@@ -1,5 +1,5 @@
-//! The timetable desk a second time, as an ordinary program written from document 01, letters a, b, e and n of document
-//! 02, docs/DECISIONS.md and docs/LINES.md alone. It shares no code with the proved programs and exists to be compared with
+//! The timetable desk a second time, as an ordinary program written from document 01, letters a, b and e of document 02,
+//! docs/DECISIONS.md and docs/LINES.md alone. It shares no code with the proved programs and exists to be compared with
 //! them.
 
 pub mod conditions;

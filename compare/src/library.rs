@@ -5,7 +5,6 @@ use crate::hostile::UNWRITTEN;
 use crate::lines::{fields, lines, number, parted};
 use crate::programs::{named, order_word, refused, turn_line, MOST_CALLS_BYTES};
 use crate::values::calendar::{civil_from_days, Civil};
-use crate::values::equality::equal;
 use crate::values::operations::{compare, subtract, REFERENCE_DAY};
 use crate::values::reading::read;
 use crate::values::records::{Clock, Record, Signed};
@@ -21,7 +20,7 @@ const MOST_MONTH_OR_DAY: usize = 255;
 /// Of a time of day.
 const MOST_SECOND: usize = 4_294_967_295;
 const MOST_NANO: usize = 4_294_967_295;
-/// Of a dayTimeDuration and of a general duration.
+/// Of a dayTimeDuration.
 const MOST_SECONDS: usize = 18_446_744_073_709_551_615;
 const MOST_MONTHS: usize = 4_294_967_295;
 const MOST_MINUTES: usize = 65_535;
@@ -79,12 +78,6 @@ fn call_over_values(word: &[u8], rest: &[&[u8]]) -> Result<String, Refusal> {
         }
         (b"dayTime", [span, nano]) => made(day_time(span, nano)?),
         (b"yearMonth", [span]) => made(Record::YearMonth(signed(span, MOST_MONTHS)?)),
-        (b"gYear", [year, zone]) => made(moment(Kind::GYear, [year, b"1", b"1", b"0", b"0", zone])?),
-        (b"gYearMonth", [year, month, zone]) => made(moment(Kind::GYearMonth, [year, month, b"1", b"0", b"0", zone])?),
-        (b"gMonth", [month, zone]) => made(moment(Kind::GMonth, [b"1972", month, b"29", b"0", b"0", zone])?),
-        (b"gMonthDay", [month, day, zone]) => made(moment(Kind::GMonthDay, [b"1972", month, day, b"0", b"0", zone])?),
-        (b"gDay", [day, zone]) => made(moment(Kind::GDay, [b"1972", b"12", day, b"0", b"0", zone])?),
-        (b"duration", [span, seconds, nano]) => made(duration(span, seconds, nano)?),
         (b"record", [room, rest @ ..]) => {
             let (size, record) = (number(room, MOST_ROOM)?, record(rest)?);
             Ok(room_line(record.value(), size))
@@ -94,11 +87,6 @@ fn call_over_values(word: &[u8], rest: &[&[u8]]) -> Result<String, Refusal> {
             let (kind, record) = (named(kind)?, record(rest)?);
             let left = read(kind, text)?;
             Ok(format!("{}\n", order_word(compare(&left, &record.value()?)?)))
-        }
-        (b"equal", [kind, text, rest @ ..]) => {
-            let (kind, record) = (named(kind)?, record(rest)?);
-            let left = read(kind, text)?;
-            Ok(format!("{}\n", equal(&left, &record.value()?)?))
         }
         (b"late", [kind, first, second, most]) => late(named(kind)?, first, second, most),
         _ => Err(NO_GRAMMAR),
@@ -169,8 +157,7 @@ fn record(rest: &[&[u8]]) -> Result<Record, Refusal> {
     match (named(kind)?, numbers) {
         (Kind::DayTime, [span, nano]) => day_time(span, nano),
         (Kind::YearMonth, [span]) => Ok(Record::YearMonth(signed(span, MOST_MONTHS)?)),
-        (Kind::Duration, [span, seconds, nano]) => duration(span, seconds, nano),
-        (kind, &[year, month, day, second, nano, zone]) if !kind.is_duration() => {
+        (kind @ (Kind::Date | Kind::Time | Kind::DateTime), &[year, month, day, second, nano, zone]) => {
             moment(kind, [year, month, day, second, nano, zone])
         }
         _ => Err(NO_GRAMMAR),
@@ -199,13 +186,6 @@ fn clock(second: &[u8], nano: &[u8]) -> Result<Clock, Refusal> {
 fn day_time(span: &[u8], nano: &[u8]) -> Result<Record, Refusal> {
     let Signed { minus, magnitude } = signed(span, MOST_SECONDS)?;
     Ok(Record::DayTime { minus, size: Clock { second: magnitude, nano: number(nano, MOST_NANO)? as i128 } })
-}
-
-/// The sign before the months is that of the seconds and nanoseconds too.
-fn duration(span: &[u8], seconds: &[u8], nano: &[u8]) -> Result<Record, Refusal> {
-    let Signed { minus, magnitude } = signed(span, MOST_MONTHS)?;
-    let size = Clock { second: number(seconds, MOST_SECONDS)? as i128, nano: number(nano, MOST_NANO)? as i128 };
-    Ok(Record::Duration { minus, months: magnitude, size })
 }
 
 fn zone(text: &[u8]) -> Result<Option<Signed>, Refusal> {

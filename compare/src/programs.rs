@@ -5,7 +5,6 @@ use crate::conditions::evaluation::holds;
 use crate::desk::{Desk, Turn, MOST_TIMETABLE_BYTES};
 use crate::lines::{fields, lines};
 use crate::read_once::ReadOnce;
-use crate::values::equality::equal;
 use crate::values::operations::{add, adjust, cast, compare, components, multiply, subtract, unzone};
 use crate::values::reading::{number, read};
 use crate::values::writing::write;
@@ -44,10 +43,6 @@ fn answer(line: &[u8]) -> Result<String, Refusal> {
         [b"compare", rest @ ..] => {
             let (first, second) = two_values(rest)?;
             Ok(order_word(compare(&first, &second)?).to_string())
-        }
-        [b"equal", rest @ ..] => {
-            let (first, second) = two_values(rest)?;
-            Ok(equal(&first, &second)?.to_string())
         }
         [b"add", rest @ ..] => {
             let (first, second) = two_values(rest)?;

@@ -108,7 +108,7 @@ fn a_bad_field_after_a_true_left_spoils_no_hit() {
 }
 
 #[test]
-fn the_longest_text_of_these_kinds_has_35_bytes() {
+fn the_longest_text_has_35_bytes() {
     let text = "2000-01-01T00:00:00.123456789+14:00";
     assert_eq!(answer(&format!("read|dateTime|{text}")), text);
     assert_eq!(text.len(), 35);

@@ -41,7 +41,7 @@ fn a_written_text_reads_as_the_same_value() {
         for kind in KINDS {
             let (_, value) = compare::generator::texts::good_value(&mut random, kind);
             let text = writing::write(&value);
-            assert!(text.len() <= 40);
+            assert!(text.len() <= 35);
             assert_eq!(reading::read(kind, text.as_bytes()), Ok(value));
         }
     }

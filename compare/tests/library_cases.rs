@@ -13,17 +13,10 @@ const ANSWERS: &[(&str, &[&str])] = &[
     ("dateTime", &["answered", "refused  7", "refused 16"]),
     ("dayTime", &["answered", "refused  7", "refused 16"]),
     ("yearMonth", &["answered", "refused  7", "refused 16"]),
-    ("gYear", &["answered", "refused  7", "refused 16"]),
-    ("gYearMonth", &["answered", "refused  7", "refused 16"]),
-    ("gMonth", &["answered", "refused  7", "refused 16"]),
-    ("gMonthDay", &["answered", "refused  7", "refused 16"]),
-    ("gDay", &["answered", "refused  7", "refused 16"]),
-    ("duration", &["answered", "refused  7", "refused 16"]),
     ("record", &["wrote", "refused  7", "refused 15", "refused 16"]),
     ("write", &["wrote", "refused  1", "refused  2", "refused  3", "refused  7", "refused 15"]),
     ("bytes", &["wrote", "refused  1", "refused  2", "refused  3", "refused  7", "refused 15"]),
     ("compare", &["lt", "eq", "gt", "refused  1", "refused  2", "refused  3", "refused  7", "refused  9", "refused 16"]),
-    ("equal", &["true", "false", "refused  1", "refused  2", "refused  3", "refused  7", "refused  9", "refused 16"]),
     ("late", &["yes", "no", "refused  1", "refused  2", "refused  3", "refused  4", "refused  7", "refused  9"]),
     ("open", &["open", "refused  1", "refused  2", "refused  3", "refused  7", "refused  8", "refused  9", "refused 10"]),
     ("close", &["closed", "refused  7", "refused 13"]),
@@ -92,7 +85,7 @@ fn the_rooms_stand_either_side_of_the_text() {
         }
     }
     let lengths: BTreeSet<usize> = seen.iter().map(|(count, _)| *count).collect();
-    assert!(lengths.contains(&3) && lengths.contains(&35) && lengths.contains(&40) && lengths.len() > 15);
+    assert!(lengths.contains(&3) && lengths.contains(&35) && lengths.len() > 10);
     for length in lengths {
         assert!((length..=64).all(|room| seen.contains(&(length, room))), "{length}");
     }

@@ -1,7 +1,7 @@
 //! The programs kept at six digits: over texts without longer fractions nothing else is different. All that is asked of the
 //! crate itself stands in one test, since the setting is one of the whole program.
 
-use compare::generator::{blanks, calls, cycle, desks, judgements, kinds, nine, random::Random, six, texts};
+use compare::generator::{blanks, calls, cycle, desks, judgements, nine, random::Random, six, texts};
 use compare::programs::{answer_line, desk, judgements as judged};
 use compare::values::reading::read;
 use compare::values::ticks::{fraction_digits, keep_six_digits, most_duration_ticks, ticks_a_second};
@@ -16,7 +16,6 @@ fn in_nanoseconds(value: Value) -> Value {
         Value::Time { tick, zone } => Value::Time { tick: tick * 1_000, zone },
         Value::DateTime { tick, zone } => Value::DateTime { tick: tick * 1_000, zone },
         Value::DayTime(ticks) => Value::DayTime(ticks * 1_000),
-        Value::Duration { months, ticks } => Value::Duration { months, ticks: ticks * 1_000 },
         other => other,
     }
 }
@@ -40,7 +39,6 @@ fn some_calls() -> Vec<Vec<u8>> {
     let mut calls: Vec<Vec<u8>> = (0..30_000).map(|_| calls::call(random)).collect();
     let tabbed = |call: String| call.replace('|', "\t").into_bytes();
     calls.extend(nine::calls::parts().into_iter().flat_map(|(_, calls)| calls).map(tabbed));
-    calls.extend(kinds::calls::parts().into_iter().flat_map(|(_, calls)| calls).map(tabbed));
     calls.extend(cycle::calls::parts().into_iter().flat_map(|(_, calls)| calls).map(tabbed));
     calls.extend(blanks::calls::parts().into_iter().flat_map(|(_, calls)| calls));
     calls.iter().map(|call| six::cut(call)).collect()

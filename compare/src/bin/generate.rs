@@ -9,13 +9,13 @@
 //!     generate library SEED COUNT DIR    writes random sessions of library_example into DIR/1, DIR/2, .., each with its
 //!                                        timetable.tsv and calls, and the tables of calls into DIR/NAME
 //!     generate edges DIR                 writes calculator inputs at the bounds of a whole input, and the tables of calls at
-//!                                        the calendar's cycle, with blanks, with nanoseconds and of the other kinds
+//!                                        the calendar's cycle, with blanks and with nanoseconds
 //!
 //! With --histogram after these, what the cases cover is printed to standard error. With --six the cases are made for
 //! programs that are kept at six digits, and no fraction in them has more; library and hostile have no such cases.
 
 use compare::generator::desks::{self, Case, Timetable};
-use compare::generator::{blanks, calls, cycle, histogram::Histogram, hostile, inputs, judgements, kinds, library, nine};
+use compare::generator::{blanks, calls, cycle, histogram::Histogram, hostile, inputs, judgements, library, nine};
 use compare::generator::{random::Random, six};
 use compare::lines::lines;
 use compare::values::ticks::{keep_six_digits, kept_at_six};
@@ -162,8 +162,7 @@ fn generate_edges(dir: &Path, histogram: &mut Histogram) -> io::Result<()> {
     let cycle = cycle::calls::parts().into_iter().flat_map(|(name, calls)| inputs::named(name, &calls));
     let blanks = blanks::calls::parts().into_iter().flat_map(|(name, calls)| inputs::of_lines(name, &calls));
     let nine = nine::calls::parts().into_iter().flat_map(|(name, calls)| inputs::named(name, &calls));
-    let kinds = kinds::calls::parts().into_iter().flat_map(|(name, calls)| inputs::named(name, &calls));
-    for (name, input) in cycle.chain(blanks).chain(nine).chain(kinds) {
+    for (name, input) in cycle.chain(blanks).chain(nine) {
         let input = kept(input);
         for line in lines(&input) {
             histogram.count_call(line);

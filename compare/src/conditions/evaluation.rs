@@ -1,7 +1,7 @@
 //! The answer of a condition at one line, from the left, up to the first refusal.
 
 use super::tree::Expression;
-use crate::values::operations::{add, cast, multiply, subtract};
+use crate::values::operations::{add, cast, compare, multiply, subtract};
 use crate::values::reading::read;
 use crate::values::{Kind, Value};
 use crate::{Refusal, KINDS_DO_NOT_FIT, TOO_FEW_FIELDS};
@@ -31,7 +31,7 @@ pub fn holds<L: Literal>(tree: &Expression<L>, fields: &[&[u8]]) -> Result<bool,
         Expression::Test(left, comparison, right) => {
             let first = value(left, fields)?;
             let second = value(right, fields)?;
-            comparison.holds(&first, &second)
+            Ok(comparison.holds(compare(&first, &second)?))
         }
         _ => Err(KINDS_DO_NOT_FIT),
     }

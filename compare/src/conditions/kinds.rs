@@ -1,8 +1,7 @@
 //! Kinds are settled by the text alone.
 
 use super::tree::Expression;
-use crate::values::equality::can_be_equal;
-use crate::values::operations::{casts, ordered};
+use crate::values::operations::casts;
 use crate::values::Kind;
 use crate::{Refusal, KINDS_DO_NOT_FIT};
 
@@ -40,13 +39,12 @@ pub fn sort_of(tree: &Expression) -> Result<Sort, Refusal> {
         }
         Expression::Product(left, _) => {
             let kind = kind_of(left)?;
-            fits(kind.is_pure_duration().then_some(kind))
+            fits(kind.is_duration().then_some(kind))
         }
         Expression::Sum(left, right) => fits(sum_kind(kind_of(left)?, kind_of(right)?)),
         Expression::Difference(left, right) => fits(difference_kind(kind_of(left)?, kind_of(right)?)),
-        Expression::Test(left, comparison, right) => {
-            let fit = if comparison.asks_for_order() { ordered } else { can_be_equal };
-            if !fit(kind_of(left)?, kind_of(right)?) {
+        Expression::Test(left, _, right) => {
+            if kind_of(left)? != kind_of(right)? {
                 return Err(KINDS_DO_NOT_FIT);
             }
             Ok(Sort::Truth)
@@ -76,7 +74,7 @@ pub fn sum_kind(left: Kind, right: Kind) -> Option<Kind> {
 pub fn difference_kind(left: Kind, right: Kind) -> Option<Kind> {
     match (left, right) {
         (Kind::YearMonth, Kind::YearMonth) => Some(Kind::YearMonth),
-        _ if left == right && left.is_ordered() => Some(Kind::DayTime),
+        _ if left == right => Some(Kind::DayTime),
         _ => moved_kind(left, right),
     }
 }

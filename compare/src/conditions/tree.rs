@@ -1,7 +1,5 @@
 //! What a condition says. Parentheses leave no trace: the tree's form says what they grouped.
 
-use crate::values::equality::equal;
-use crate::values::operations::compare;
 use crate::values::{reading, Kind, Value};
 use crate::Refusal;
 use std::cmp::Ordering;
@@ -29,20 +27,15 @@ impl Comparison {
         }
     }
 
-    /// `eq` and `ne` ask for equality alone, which more kinds have.
-    pub fn asks_for_order(self) -> bool {
-        !matches!(self, Comparison::Eq | Comparison::Ne)
-    }
-
-    pub fn holds(self, left: &Value, right: &Value) -> Result<bool, Refusal> {
-        Ok(match self {
-            Comparison::Eq => equal(left, right)?,
-            Comparison::Ne => !equal(left, right)?,
-            Comparison::Lt => compare(left, right)? == Ordering::Less,
-            Comparison::Le => compare(left, right)? != Ordering::Greater,
-            Comparison::Gt => compare(left, right)? == Ordering::Greater,
-            Comparison::Ge => compare(left, right)? != Ordering::Less,
-        })
+    pub fn holds(self, order: Ordering) -> bool {
+        match self {
+            Comparison::Eq => order == Ordering::Equal,
+            Comparison::Ne => order != Ordering::Equal,
+            Comparison::Lt => order == Ordering::Less,
+            Comparison::Le => order != Ordering::Greater,
+            Comparison::Gt => order == Ordering::Greater,
+            Comparison::Ge => order != Ordering::Less,
+        }
     }
 }
 

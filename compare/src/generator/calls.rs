@@ -3,18 +3,17 @@
 use super::blanks::IN_A_FIELD;
 use super::cycle;
 use super::damage::{damaged, noise};
-use super::kinds;
 use super::random::Random;
 use super::texts;
 use crate::conditions::kinds::{difference_kind, sum_kind};
 use crate::values::operations::{add, adjust, casts, subtract};
 use crate::values::writing::write;
 use crate::values::{most_duration_ticks, ticks_a_day, ticks_a_minute, ticks_a_second};
-use crate::values::{Kind, Value, KINDS, MOST_DURATION_MONTHS, ORDERED};
+use crate::values::{Kind, Value, KINDS, MOST_DURATION_MONTHS};
 
 /// One call without its newline.
 pub fn call(random: &mut Random) -> Vec<u8> {
-    let mut line = match random.weighted(&[20, 15, 19, 19, 9, 10, 11, 4, 9, 18]) {
+    let mut line = match random.weighted(&[16, 15, 19, 19, 9, 7, 11, 4, 7]) {
         0 => one(random, "read"),
         1 => compare(random),
         2 => sum(random),
@@ -23,8 +22,7 @@ pub fn call(random: &mut Random) -> Vec<u8> {
         5 => cast(random),
         6 => adjustment(random),
         7 => one(random, "unzone"),
-        8 => one(random, "components"),
-        _ => equal(random),
+        _ => one(random, "components"),
     };
     if random.chance(15) {
         line = with_blanks(random, &line);
@@ -74,7 +72,7 @@ pub(super) fn any_text(random: &mut Random, kind: Kind, good_percent: usize) -> 
 fn one(random: &mut Random, word: &str) -> Vec<u8> {
     let kind = match word {
         "unzone" if random.chance(90) => random.pick(&[Kind::Date, Kind::Time, Kind::DateTime]),
-        _ => kinds::any(random),
+        _ => random.pick(&KINDS),
     };
     let good_percent = if word == "read" { 50 } else { 92 };
     let text = any_text(random, kind, good_percent);
@@ -91,9 +89,8 @@ fn two(random: &mut Random, word: &str, first: (Kind, Vec<u8>), second: (Kind, V
     joined(&[word.as_bytes(), left.name().as_bytes(), &left_text, right.name().as_bytes(), &right_text])
 }
 
-/// One in twelve is about a kind without an order.
 fn compare(random: &mut Random) -> Vec<u8> {
-    let kind = if random.chance(92) { random.pick(&ORDERED) } else { kinds::other(random) };
+    let kind = random.pick(&KINDS);
     let (text, value) = texts::good_value(random, kind);
     let (other_kind, other) = match random.weighted(&[55, 39, 6]) {
         0 => (kind, near(random, &value)),
@@ -110,44 +107,13 @@ fn compare(random: &mut Random) -> Vec<u8> {
     two(random, "compare", first, second)
 }
 
-/// Equality of any two kinds, mostly such as can be equal.
-fn equal(random: &mut Random) -> Vec<u8> {
-    if random.chance(3) {
-        let ((kind, text), (other_kind, other)) = (kinds::zero(random), kinds::zero(random));
-        return two(random, "equal", (kind, text.into_bytes()), (other_kind, other.into_bytes()));
-    }
-    let kind = random.pick(&KINDS);
-    let (text, value) = texts::good_value(random, kind);
-    let (other_kind, other) = match random.weighted(&[55, 15, 10, 20]) {
-        0 if kind.is_duration() => kinds::alike(random, &value),
-        0 => (kind, near(random, &value)),
-        1 => (kind, texts::good(random, kind)),
-        2 if kind.is_duration() => {
-            let other_kind = random.pick(&kinds::DURATIONS);
-            (other_kind, texts::good(random, other_kind))
-        }
-        _ => {
-            let other_kind = random.pick(&KINDS);
-            (other_kind, texts::good(random, other_kind))
-        }
-    };
-    two(random, "equal", (kind, text.into_bytes()), (other_kind, other.into_bytes()))
-}
-
-/// A text of an equal value of the same kind, often written in another zone or form, or of one just beside it.
+/// A text of an equal value, often written in another zone or form, or of one just beside it.
 pub(super) fn near(random: &mut Random, value: &Value) -> String {
-    if value.kind().is_g_kind() {
-        return kinds::alike(random, value).1;
-    }
     let (second, minute, day) = (ticks_a_second(), ticks_a_minute(), ticks_a_day());
     let step = random.pick(&[0, 0, 0, 0, 0, 1, -1, 1, second / 1_000_000, second, minute, -minute, day, -day]);
     match *value {
         Value::DayTime(ticks) => texts::duration_text(random, Kind::DayTime, ticks + step),
         Value::YearMonth(months) => texts::duration_text(random, Kind::YearMonth, months + step.signum()),
-        Value::Duration { months, ticks } => {
-            let moved = if (ticks + step).signum() * months.signum() < 0 { ticks } else { ticks + step };
-            kinds::texts::duration_text(random, months, moved)
-        }
         _ if random.chance(40) => same_instant(random, value),
         _ => {
             let moved = add(value, &Value::DayTime(step)).unwrap_or(*value);
@@ -187,9 +153,9 @@ fn same_instant(random: &mut Random, value: &Value) -> String {
 fn sum(random: &mut Random) -> Vec<u8> {
     let (left, right) = fitting_kinds(random, sum_kind);
     let (first, value) = texts::good_value(random, left);
-    let second = match right.is_pure_duration() {
-        true => step_text(random, &value, right, 1),
-        false => texts::good(random, right),
+    let second = match (left.is_duration(), right.is_duration()) {
+        (_, true) => step_text(random, &value, right, 1),
+        _ => texts::good(random, right),
     };
     let sides = ((left, first.into_bytes()), (right, second.into_bytes()));
     if random.chance(35) && !left.is_duration() {
@@ -201,7 +167,7 @@ fn sum(random: &mut Random) -> Vec<u8> {
 fn difference(random: &mut Random) -> Vec<u8> {
     let (left, right) = fitting_kinds(random, difference_kind);
     let (first, value) = texts::good_value(random, left);
-    let second = match right.is_pure_duration() {
+    let second = match right.is_duration() {
         true => step_text(random, &value, right, -1),
         false if left == right && random.chance(40) => near(random, &value),
         false => texts::good(random, right),
@@ -211,7 +177,7 @@ fn difference(random: &mut Random) -> Vec<u8> {
 
 fn fitting_kinds(random: &mut Random, fit: fn(Kind, Kind) -> Option<Kind>) -> (Kind, Kind) {
     loop {
-        let (left, right) = (kinds::any(random), kinds::any(random));
+        let (left, right) = (random.pick(&KINDS), random.pick(&KINDS));
         if fit(left, right).is_some() || random.chance(8) {
             return (left, right);
         }
@@ -322,7 +288,7 @@ fn near_quotient(random: &mut Random, kind: Kind, factor: i128) -> String {
 fn cast(random: &mut Random) -> Vec<u8> {
     loop {
         let (from, to) = (random.pick(&KINDS), random.pick(&KINDS));
-        if casts(from, to) || random.chance(8) {
+        if casts(from, to) || random.chance(12) {
             let text = any_text(random, from, 93);
             return joined(&[b"cast", from.name().as_bytes(), &text, to.name().as_bytes()]);
         }
@@ -358,25 +324,12 @@ fn malformed(random: &mut Random, line: Vec<u8>) -> Vec<u8> {
         1 => fields.insert(place, Vec::new()),
         2 => fields.push(noise(random)),
         3 => {
-            fields[0] = random
-                .pick(&["Read", "", "reads", "compare ", " add", "\rread", "read\r", "divide", "equals", "\r"])
-                .as_bytes()
-                .to_vec()
+            fields[0] =
+                random.pick(&["Read", "", "reads", "compare ", " add", "\rread", "read\r", "divide", "\r"]).as_bytes().to_vec()
         }
         4 => {
             fields[1] = random
-                .pick(&[
-                    "date",
-                    "xs:Date",
-                    "",
-                    "xs:Duration",
-                    "xs:gYearDay",
-                    "gYear",
-                    "xs:date ",
-                    " xs:date",
-                    "xs:date\r",
-                    "XS:date",
-                ])
+                .pick(&["date", "xs:Date", "", "xs:duration", "xs:date ", " xs:date", "xs:date\r", "XS:date"])
                 .as_bytes()
                 .to_vec()
         }

@@ -3,7 +3,6 @@
 use super::blanks::{in_literals, IN_A_LITERAL};
 use super::calls::near;
 use super::damage::damaged;
-use super::kinds;
 use super::random::Random;
 use super::runs;
 use super::texts;
@@ -12,13 +11,13 @@ use crate::conditions::MOST_BYTES;
 use crate::values::operations::casts;
 use crate::values::reading::read;
 use crate::values::writing::write;
-use crate::values::{ticks_a_minute, Kind, G_KINDS, KINDS, ORDERED};
+use crate::values::{ticks_a_minute, Kind, KINDS};
 
 /// What the conditions of one case speak about: the kinds of the timetable's columns, and a few texts of each kind,
 /// which the timetable uses too, so that equal values are common.
 pub struct Setting {
     pub columns: Vec<Kind>,
-    pub pools: [Vec<String>; KINDS.len()],
+    pub pools: [Vec<String>; 5],
     /// How many occurrences a run line of the timetable has at most; 0 where it has no such lines.
     pub most_occurrences: usize,
 }
@@ -26,20 +25,19 @@ pub struct Setting {
 impl Setting {
     pub fn new(random: &mut Random) -> Setting {
         let count = random.pick(&[1, 2, 2, 3, 3, 4, 5, 8, 15, 16, 17]);
-        let columns = (0..count).map(|_| kinds::any(random)).collect();
-        let mut pools: [Vec<String>; KINDS.len()] = Default::default();
+        let columns = (0..count).map(|_| random.pick(&KINDS)).collect();
+        let mut pools: [Vec<String>; 5] = Default::default();
         for kind in KINDS {
             pools[kind as usize] = (0..3).map(|_| pool_text(random, kind)).collect();
         }
-        make_alike(random, &mut pools);
         Setting { columns, pools, most_occurrences: 0 }
     }
 
     /// One whose timetable has run lines: the second to fifth columns are theirs, and the dateTimes lie close together.
     pub fn with_runs(random: &mut Random, most_occurrences: usize) -> Setting {
         let mut setting = Setting { most_occurrences, ..Setting::new(random) };
-        let mut columns = vec![kinds::any(random), Kind::DateTime, Kind::DateTime, Kind::DateTime, Kind::DayTime];
-        columns.extend((0..random.below(4)).map(|_| kinds::any(random)));
+        let mut columns = vec![random.pick(&KINDS), Kind::DateTime, Kind::DateTime, Kind::DateTime, Kind::DayTime];
+        columns.extend((0..random.below(4)).map(|_| random.pick(&KINDS)));
         setting.columns = columns;
         let middle = runs::middle(random);
         setting.pools[Kind::DateTime as usize] = vec![write(&middle), near(random, &middle), near(random, &middle)];
@@ -62,19 +60,6 @@ impl Setting {
     }
 }
 
-/// Puts texts beside one another that are equal or almost so, of each g-kind and of the durations of different kinds.
-fn make_alike(random: &mut Random, pools: &mut [Vec<String>; KINDS.len()]) {
-    for kind in G_KINDS.into_iter().chain(kinds::DURATIONS) {
-        let Ok(value) = read(kind, pools[kind as usize][0].as_bytes()) else {
-            continue;
-        };
-        let (other, text) = kinds::alike(random, &value);
-        if text.len() <= SHORT {
-            pools[other as usize][1] = text;
-        }
-    }
-}
-
 /// A short text; of a duration mostly a small one, so that sums seldom leave the bounds.
 fn pool_text(random: &mut Random, kind: Kind) -> String {
     if random.chance(25) {
@@ -90,23 +75,15 @@ fn pool_text(random: &mut Random, kind: Kind) -> String {
             let months = random.between(-20, 40) as i128;
             texts::duration_text(random, kind, months)
         }
-        Kind::Duration => {
-            let (months, minutes) = (random.between(0, 20) as i128, random.pick(&[0, 0, 1, 60, 1_440]));
-            let sign = random.pick(&[1, 1, -1]);
-            kinds::texts::duration_text(random, sign * months, sign * minutes * ticks_a_minute())
-        }
         _ => short_text(random, kind),
     }
 }
 
-/// How many bytes a short text has at most.
-const SHORT: usize = 40;
-
-/// A short text that reads, with few exceptions.
+/// A text of no more than 35 bytes that reads, with few exceptions.
 fn short_text(random: &mut Random, kind: Kind) -> String {
     loop {
         let text = texts::good(random, kind);
-        if text.len() <= SHORT && (read(kind, text.as_bytes()).is_ok() || random.chance(25)) {
+        if text.len() <= 35 && (read(kind, text.as_bytes()).is_ok() || random.chance(25)) {
             return text;
         }
     }
@@ -166,25 +143,14 @@ impl Writer<'_> {
             let (left, right) = (self.gap(), self.gap());
             return format!("({left}{inner}{right})");
         }
-        let kind = kinds::any(self.random);
-        let (other, word) = self.compared_with(kind);
-        let other = self.perhaps_wrong(other);
+        let kind = self.random.pick(&KINDS);
+        let other = self.perhaps_wrong(kind);
         let first = 1 + self.random.below(size.max(2) - 1);
         let left = self.sum(kind, first);
         let right = self.sum(other, size.saturating_sub(first).max(1));
+        let word = self.random.pick(&["eq", "ne", "lt", "le", "gt", "ge", "eq"]);
         let (before, after) = self.spaces_round_word(&right);
         format!("{left}{before}{word}{after}{right}")
-    }
-
-    /// A kind and a word that fit: of kinds without an order mostly `eq` or `ne`, and of durations now and then another kind.
-    fn compared_with(&mut self, kind: Kind) -> (Kind, &'static str) {
-        if kind.is_duration() && self.random.chance(25) {
-            return (self.random.pick(&kinds::DURATIONS), self.random.pick(&["eq", "ne"]));
-        }
-        if !kind.is_ordered() && !self.random.chance(self.wrong_kinds / 2 + 1) {
-            return (kind, self.random.pick(&["eq", "eq", "ne"]));
-        }
-        (kind, self.random.pick(&["eq", "ne", "lt", "le", "gt", "ge", "eq"]))
     }
 
     fn perhaps_wrong(&mut self, kind: Kind) -> Kind {
@@ -195,7 +161,7 @@ impl Writer<'_> {
     }
 
     fn sum(&mut self, kind: Kind, size: usize) -> String {
-        if size < 2 || !kind.is_ordered() || self.random.chance(20) {
+        if size < 2 || self.random.chance(20) {
             return self.term(kind, size);
         }
         let (left, minus, right) = self.operands(kind);
@@ -208,10 +174,10 @@ impl Writer<'_> {
         format!("{left_text}{before}{sign}{after}{right_text}")
     }
 
-    /// Two kinds and a sign that make the kind, which is one of document 01's.
+    /// Two kinds and a sign that make the kind.
     fn operands(&mut self, kind: Kind) -> (Kind, bool, Kind) {
         loop {
-            let (left, right, minus) = (self.random.pick(&ORDERED), self.random.pick(&ORDERED), self.random.chance(50));
+            let (left, right, minus) = (self.random.pick(&KINDS), self.random.pick(&KINDS), self.random.chance(50));
             let made = if minus { difference_kind(left, right) } else { sum_kind(left, right) };
             if made == Some(kind) {
                 return (left, minus, right);
@@ -221,7 +187,7 @@ impl Writer<'_> {
 
     fn term(&mut self, kind: Kind, size: usize) -> String {
         let mut text = self.factor(kind, size);
-        let multiplied = if kind.is_pure_duration() { 30 } else { self.wrong_kinds / 3 };
+        let multiplied = if kind.is_duration() { 30 } else { self.wrong_kinds / 3 };
         while self.random.chance(multiplied) {
             let (before, after) = (self.gap(), self.gap());
             text += &format!("{before}*{after}{}", self.whole_number());
@@ -246,10 +212,8 @@ impl Writer<'_> {
     }
 
     fn factor(&mut self, kind: Kind, size: usize) -> String {
-        // No sum makes a general duration, and of a g-kind only a cast does.
-        let size = if kind == Kind::Duration { 1 } else { size };
         if size > 1 || self.random.chance(self.parentheses) {
-            if self.random.chance(if kind.is_g_kind() { 85 } else { 45 }) {
+            if self.random.chance(45) {
                 return self.casting(kind, size);
             }
             let (left, inner, right) = (self.gap(), self.sum(kind, size), self.gap());
@@ -355,10 +319,9 @@ fn unpadded(random: &mut Random, setting: &Setting, wrong_kinds: usize, bad_lite
     }
 }
 
-/// One sum, difference or cast of any kinds, compared with a value that mostly is of the kind that it makes; or two values of
-/// any kinds compared.
+/// One sum, difference or cast of any kinds, compared with a value that mostly is of the kind that it makes.
 fn one_operation(random: &mut Random, setting: &Setting) -> String {
-    let (left, right, form) = (kinds::any(random), kinds::any(random), random.below(4));
+    let (left, right, form) = (random.pick(&KINDS), random.pick(&KINDS), random.below(3));
     let made = match form {
         0 => sum_kind(left, right),
         1 => difference_kind(left, right),
@@ -370,7 +333,6 @@ fn one_operation(random: &mut Random, setting: &Setting) -> String {
     match form {
         0 => format!("{first} + {second} ge {third}"),
         1 => format!("{first} - {second} le {third}"),
-        2 => format!("{first} {} {second}", random.pick(&["eq", "ne", "lt", "ge"])),
         _ => format!("{}({first}) ne {third}", right.name()),
     }
 }
@@ -414,9 +376,6 @@ fn shuffled(random: &mut Random) -> Vec<u8> {
         "xs:dateTime",
         "xs:dayTimeDuration",
         "xs:yearMonthDuration",
-        "xs:gYear",
-        "xs:gMonthDay",
-        "xs:duration",
         "(",
         ")",
         "(",
@@ -434,7 +393,6 @@ fn shuffled(random: &mut Random) -> Vec<u8> {
         "$17",
         "\"2000-01-01\"",
         "\"PT1H\"",
-        "\"--02-29\"",
         "\"",
         "5",
         "-5",
@@ -447,7 +405,7 @@ fn shuffled(random: &mut Random) -> Vec<u8> {
     (0..count).map(|_| random.pick(SYMBOLS)).collect::<String>().into_bytes()
 }
 
-/// Conditions for the readings of docs/DECISIONS.md, 1 to 10, of blanks and of the other kinds, each either side of the line.
+/// Conditions for the readings of docs/DECISIONS.md, 1 to 10, and of blanks, each either side of the line.
 const NOTED: &[&str] = &[
     "xs:dayTimeDuration(\"PT1H\")*-5 lt xs:dayTimeDuration(\"PT1H\")",
     "xs:dayTimeDuration(\"PT1H\") * -5 lt xs:dayTimeDuration(\"PT1H\")",
@@ -563,43 +521,4 @@ const NOTED: &[&str] = &[
     "-xs:dayTimeDuration(\"PT1H\") eq xs:dayTimeDuration(\"-PT1H\")",
     "5 * xs:dayTimeDuration(\"PT1H\") eq xs:dayTimeDuration(\"PT5H\")",
     "xs:time($1) eq xs:time(\"00:00:00",
-    "xs:gMonthDay(\"--02-29-14:00\") eq xs:gMonthDay(\"--03-01+10:00\")",
-    "xs:gMonthDay(\"--02-28-14:00\") eq xs:gMonthDay(\"--03-01+10:00\")",
-    "xs:gMonthDay(\"--12-31-14:00\") ne xs:gMonthDay(\"--01-01+10:00\")",
-    "xs:gMonthDay(\"--02-30\") eq xs:gMonthDay($1)",
-    "xs:gMonthDay(xs:date(\"2024-02-29\")) eq xs:gMonthDay(\"--02-29Z\")",
-    "xs:gMonthDay(xs:dateTime(\"2024-02-29T24:00:00\")) eq xs:gMonthDay(\"--03-01\")",
-    "xs:gMonthDay(xs:time($1)) eq xs:gMonthDay($1)",
-    "xs:gMonthDay(xs:gMonthDay($1)) eq xs:gMonthDay($1)",
-    "xs:date(xs:gMonthDay($1)) eq xs:date($1)",
-    "xs:gYear(xs:gYearMonth($1)) eq xs:gYear($1)",
-    "xs:gYear(xs:date($1) + xs:yearMonthDuration(\"P1Y\")) eq xs:gYear(\"2025\")",
-    "xs:gYear($1) lt xs:gYear($1)",
-    "xs:gYear($1) eq xs:gYearMonth($1)",
-    "xs:gYear($1) + xs:yearMonthDuration(\"P1Y\") eq xs:gYear($1)",
-    "xs:gDay($1) - xs:gDay($1) eq xs:dayTimeDuration(\"PT0S\")",
-    "xs:gYear(\"12000\") eq xs:gYearMonth(\"bad\")",
-    "xs:gYear(\"12000\") eq xs:gYear(\"bad\")",
-    "xs:gMonth(\"--12--\") eq xs:gMonth($1)",
-    "xs:gyear($1) eq xs:gYear($1)",
-    "xs:gMonthDays($1) eq xs:gMonthDay($1)",
-    "xs:gDay(\"---31\") eq xs:gDay(\" ---31-00:00\")",
-    "xs:yearMonthDuration(\"P0M\") eq xs:dayTimeDuration(\"PT0S\")",
-    "xs:yearMonthDuration(\"P0M\") le xs:dayTimeDuration(\"PT0S\")",
-    "xs:yearMonthDuration(\"P1M\") eq xs:dayTimeDuration(\"P30D\")",
-    "xs:duration(\"P1Y\") eq xs:yearMonthDuration(\"P12M\")",
-    "xs:duration(\"P1MT0.000000001S\") ne xs:yearMonthDuration(\"P1M\")",
-    "xs:duration(\"P1D\") eq xs:dayTimeDuration($1) * 2",
-    "xs:duration($1) * 2 eq xs:duration($1)",
-    "xs:duration($1) + xs:duration($1) eq xs:duration($1)",
-    "xs:date($1) + xs:duration(\"P1D\") eq xs:date($1)",
-    "xs:duration($1) ge xs:duration($1)",
-    "xs:duration(xs:duration($1)) eq xs:duration($1)",
-    "xs:duration(xs:dayTimeDuration($1)) eq xs:duration($1)",
-    "xs:dayTimeDuration(xs:duration($1)) eq xs:duration($1)",
-    "xs:duration(\"P1000001M\") eq xs:duration(\"P1000001MT0.0000000000S\")",
-    "xs:duration(\"-P83332Y11M11574073DT23H59M59.999999999S\") eq xs:duration($1)",
-    "xs:dayTimeDuration($1) eq xs:gYear($1)",
-    "xs:duration($1) eq xs:date($1)",
-    "xs:Duration($1) eq xs:duration($1)",
 ];

@@ -4,7 +4,6 @@ use super::blanks::{self, IN_A_FIELD};
 use super::conditions::{self, Setting};
 use super::cycle;
 use super::damage::{damaged, noise};
-use super::kinds;
 use super::nine;
 use super::random::Random;
 use super::runs::{self, AT_NOTED, MOST, NOTED};
@@ -96,8 +95,8 @@ fn with_runs(random: &mut Random) -> Case {
     }
 }
 
-/// Cases at the bounds of the whole timetable, of the whole input and of runs, at the calendar's cycle, with blanks, with
-/// nanoseconds and of the other kinds, which chance alone would seldom make.
+/// Cases at the bounds of the whole timetable, of the whole input and of runs, at the calendar's cycle, with blanks and with
+/// nanoseconds, which chance alone would seldom make.
 pub fn edges(seed: u64) -> Vec<Case> {
     let random = &mut Random::new(seed);
     let setting = &Setting::new(random);
@@ -124,7 +123,6 @@ pub fn edges(seed: u64) -> Vec<Case> {
     cases.extend(cycle::desks::cases());
     cases.extend(blanks::desks::cases());
     cases.extend(nine::desks::cases());
-    cases.extend(kinds::desks::cases());
     cases
 }
 

@@ -53,8 +53,8 @@ impl Histogram {
         self.count_blanks(counts::of_call(line));
         self.count_fractions(fractions::of_call(line));
         self.count(format!("call       {} {result}", fields[0]));
-        if ["compare", "equal"].contains(&fields[0].as_str()) && result == "answered" {
-            self.count(format!("{:<10} {}", fields[0], answer.trim_end()));
+        if fields[0] == "compare" && result == "answered" {
+            self.count(format!("compare    {}", answer.trim_end()));
         }
         let kinds: Vec<&str> = fields[1..].iter().filter(|field| field.starts_with("xs:")).map(|field| &field[3..]).collect();
         self.count(format!("kinds      {} {}", fields[0], kinds.join(" ")));
@@ -194,7 +194,7 @@ pub fn library_words(line: &[u8], answer: &str) -> String {
         ["refused", number, ..] => format!("refused {number:>2}"),
         ["unreadable", .., number] => format!("unreadable {number:>2}"),
         [word @ ("wrote" | "open" | "hit" | "miss" | "done"), ..] => word.to_string(),
-        [word @ ("lt" | "eq" | "gt" | "true" | "false" | "yes" | "no" | "closed" | "idle")] => word.to_string(),
+        [word @ ("lt" | "eq" | "gt" | "yes" | "no" | "closed" | "idle")] => word.to_string(),
         _ => "answered".to_string(),
     };
     let known: &[&[u8]] = &[
@@ -203,17 +203,10 @@ pub fn library_words(line: &[u8], answer: &str) -> String {
         b"dateTime",
         b"dayTime",
         b"yearMonth",
-        b"gYear",
-        b"gYearMonth",
-        b"gMonth",
-        b"gMonthDay",
-        b"gDay",
-        b"duration",
         b"record",
         b"write",
         b"bytes",
         b"compare",
-        b"equal",
         b"late",
         b"open",
         b"close",

@@ -1,7 +1,7 @@
 //! Seeded cases for the comparison: texts near every bound that document 01 names, at the calendar's 400-year cycle, with
-//! blanks round them, with nanoseconds and of the kinds that document 02 adds, calls made of them, conditions with lines to
-//! judge, desk cases, scripts over desks built wrong, sessions of library calls, and damaged forms of all of these. The same
-//! seed gives the same cases on every machine.
+//! blanks round them and with nanoseconds, calls made of them, conditions with lines to judge, desk cases, scripts over desks
+//! built wrong, sessions of library calls, and damaged forms of all of these. The same seed gives the same cases on every
+//! machine.
 
 pub mod blanks;
 pub mod calls;
@@ -13,7 +13,6 @@ pub mod histogram;
 pub mod hostile;
 pub mod inputs;
 pub mod judgements;
-pub mod kinds;
 pub mod library;
 pub mod nine;
 pub mod random;

@@ -6,7 +6,6 @@ use super::calls::{any_text, near};
 use super::conditions::Setting;
 use super::cycle;
 use super::damage::noise;
-use super::kinds;
 use super::random::Random;
 use super::texts;
 use crate::runs::Run;
@@ -17,7 +16,7 @@ use crate::values::reading::read;
 use crate::values::ticks::fraction_digits;
 use crate::values::writing::write;
 use crate::values::{first_day, last_day, most_duration_ticks, ticks_a_day, ticks_a_minute, ticks_a_second};
-use crate::values::{Kind, Value, Zone, G_KINDS, MOST_DURATION_SECONDS};
+use crate::values::{Kind, Value, Zone, KINDS, MOST_DURATION_SECONDS};
 
 /// Steps in seconds with ticks more or less, from the smallest to the greatest that a text can have.
 const STEPS: &[(i128, i128)] = &[
@@ -420,7 +419,7 @@ pub fn condition(random: &mut Random, setting: &Setting) -> String {
     let pooled = setting.pooled(random, Kind::DayTime);
     let months = setting.pooled(random, Kind::YearMonth);
     let missing = random.between(6, 16);
-    match random.below(27) {
+    match random.below(24) {
         0..=2 => format!("xs:dateTime($2) {word} xs:dateTime(\"{text}\")"),
         3 => format!("xs:dateTime($2) + xs:dayTimeDuration($5) {word} xs:dateTime($4)"),
         4 => format!("xs:dateTime($2) - xs:dateTime($3) {word} xs:dayTimeDuration($5) * {factor}"),
@@ -431,7 +430,7 @@ pub fn condition(random: &mut Random, setting: &Setting) -> String {
         9 => format!("xs:yearMonthDuration(\"{months}\") + xs:dateTime($2) {word} xs:dateTime(\"{text}\")"),
         10 => format!("xs:dateTime($2) - xs:dayTimeDuration($5) * {factor} {word} xs:dateTime($3)"),
         11 => {
-            let (kind, word) = of_any_kind(random, word);
+            let kind = random.pick(&KINDS).name();
             format!("{kind}($2) {word} {kind}($2)")
         }
         12 => format!("xs:dayTimeDuration($5) {word} xs:dayTimeDuration(\"{pooled}\")"),
@@ -448,22 +447,11 @@ pub fn condition(random: &mut Random, setting: &Setting) -> String {
         20 => format!("xs:dateTime(xs:date(xs:dateTime($2))) {word} xs:dateTime($2)"),
         21 => format!("xs:time(xs:dateTime($2)) - xs:time(xs:dateTime($3)) {word} xs:dayTimeDuration($5) * {factor}"),
         22 => {
-            let (kind, word) = of_any_kind(random, word);
+            let kind = random.pick(&KINDS).name();
             format!("{kind}($1) {word} {kind}(${missing}) or xs:dateTime($2) {word} xs:dateTime(\"{text}\")")
         }
-        23 | 24 => {
-            let (kind, word) = (random.pick(&G_KINDS), random.pick(&["eq", "ne"]));
-            format!("{0}(xs:dateTime($2)) {word} {0}(\"{1}\")", kind.name(), cast_text(kind))
-        }
-        25 => format!("xs:dateTime($2) - xs:dateTime($3) eq xs:duration(\"{pooled}\")"),
         _ => format!("xs:dateTime($2) {word} xs:dateTime($2)"),
     }
-}
-
-/// The name of a kind, with this word where the kind has an order.
-fn of_any_kind(random: &mut Random, word: &'static str) -> (&'static str, &'static str) {
-    let kind = kinds::any(random);
-    (kind.name(), if kind.is_ordered() { word } else { random.pick(&["eq", "ne"]) })
 }
 
 /// Conditions that read no field: one that always holds, one that never does, one that is always refused.

@@ -1,7 +1,6 @@
-//! Texts of values: most of them good, many near a bound. Those of the kinds of document 02, letter n, are in `kinds/`.
+//! Texts of values: most of them good, many near a bound.
 
 use super::cycle;
-use super::kinds;
 use super::random::Random;
 use crate::values::calendar::month_length;
 use crate::values::reading::read;
@@ -18,8 +17,6 @@ pub fn good(random: &mut Random, kind: Kind) -> String {
         Kind::DateTime => format!("{}T{}{}", date(random), clock(random), zone(random)),
         Kind::DayTime => day_time(random),
         Kind::YearMonth => year_month(random),
-        Kind::Duration => kinds::texts::duration(random),
-        _ => kinds::texts::good(random, kind),
     }
 }
 
@@ -33,7 +30,7 @@ pub fn good_value(random: &mut Random, kind: Kind) -> (String, Value) {
     }
 }
 
-pub(super) fn year(random: &mut Random) -> i64 {
+fn year(random: &mut Random) -> i64 {
     match random.weighted(&[25, 15, 15, 15, 10, 20]) {
         0 => random.between(1990, 2030),
         1 => random.pick(&[1, 1, 1, 2, 3, 4]),
@@ -131,7 +128,7 @@ fn fraction_of(random: &mut Random, count: usize) -> String {
 }
 
 /// A fraction that is too long, most often by one digit.
-pub(super) fn long_fraction(random: &mut Random) -> String {
+fn long_fraction(random: &mut Random) -> String {
     let many = random.between(4, 30) as usize;
     let count = fraction_digits() + random.pick(&[1, 1, 1, 1, 2, 2, 3, many]);
     format!(".{}", fraction_of(random, count))
@@ -163,7 +160,7 @@ pub fn zone(random: &mut Random) -> String {
     }
 }
 
-pub(super) fn sign(random: &mut Random) -> &'static str {
+fn sign(random: &mut Random) -> &'static str {
     if random.chance(30) {
         "-"
     } else {
@@ -372,7 +369,6 @@ pub fn beyond(random: &mut Random, kind: Kind) -> String {
         },
         Kind::DayTime => beyond_day_time(random),
         Kind::YearMonth => beyond_year_month(random),
-        _ => kinds::texts::beyond(random, kind),
     }
 }
 
@@ -440,7 +436,7 @@ fn beyond_clock(random: &mut Random) -> String {
     }
 }
 
-pub(super) fn beyond_zone(random: &mut Random) -> String {
+fn beyond_zone(random: &mut Random) -> String {
     random
         .pick(&[
             "+14:01",

@@ -1,9 +1,7 @@
-//! The eleven kinds of value. A date is a count of days and a dateTime a count of ticks, both local and both from 1970-01-01;
-//! year, month and day are worked out when they are asked for. A value of a g-kind has the parts that the kind has and no
-//! others. A tick is a nanosecond: `ticks.rs`.
+//! The five kinds of value. A date is a count of days and a dateTime a count of ticks, both local and both from 1970-01-01;
+//! year, month and day are worked out when they are asked for. A tick is a nanosecond: `ticks.rs`.
 
 pub mod calendar;
-pub mod equality;
 pub mod operations;
 pub mod reading;
 pub mod records;
@@ -27,32 +25,9 @@ pub enum Kind {
     DateTime,
     DayTime,
     YearMonth,
-    GYear,
-    GYearMonth,
-    GMonth,
-    GMonthDay,
-    GDay,
-    Duration,
 }
 
-/// The kinds of document 01, which have an order and arithmetic.
-pub const ORDERED: [Kind; 5] = [Kind::Date, Kind::Time, Kind::DateTime, Kind::DayTime, Kind::YearMonth];
-/// The g-kinds of document 02, letter n, which have neither.
-pub const G_KINDS: [Kind; 5] = [Kind::GYear, Kind::GYearMonth, Kind::GMonth, Kind::GMonthDay, Kind::GDay];
-/// All of them, in the order of docs/LINES.md; the general duration is the last.
-pub const KINDS: [Kind; 11] = [
-    Kind::Date,
-    Kind::Time,
-    Kind::DateTime,
-    Kind::DayTime,
-    Kind::YearMonth,
-    Kind::GYear,
-    Kind::GYearMonth,
-    Kind::GMonth,
-    Kind::GMonthDay,
-    Kind::GDay,
-    Kind::Duration,
-];
+pub const KINDS: [Kind; 5] = [Kind::Date, Kind::Time, Kind::DateTime, Kind::DayTime, Kind::YearMonth];
 
 impl Kind {
     pub fn name(self) -> &'static str {
@@ -62,12 +37,6 @@ impl Kind {
             Kind::DateTime => "xs:dateTime",
             Kind::DayTime => "xs:dayTimeDuration",
             Kind::YearMonth => "xs:yearMonthDuration",
-            Kind::GYear => "xs:gYear",
-            Kind::GYearMonth => "xs:gYearMonth",
-            Kind::GMonth => "xs:gMonth",
-            Kind::GMonthDay => "xs:gMonthDay",
-            Kind::GDay => "xs:gDay",
-            Kind::Duration => "xs:duration",
         }
     }
 
@@ -75,22 +44,8 @@ impl Kind {
         KINDS.into_iter().find(|kind| kind.name().as_bytes() == name)
     }
 
-    /// Of any of the three kinds.
     pub fn is_duration(self) -> bool {
-        matches!(self, Kind::DayTime | Kind::YearMonth | Kind::Duration)
-    }
-
-    /// A duration that can be added, subtracted and multiplied.
-    pub fn is_pure_duration(self) -> bool {
         matches!(self, Kind::DayTime | Kind::YearMonth)
-    }
-
-    pub fn is_ordered(self) -> bool {
-        ORDERED.contains(&self)
-    }
-
-    pub fn is_g_kind(self) -> bool {
-        G_KINDS.contains(&self)
     }
 }
 
@@ -100,51 +55,15 @@ pub type Zone = Option<i64>;
 #[derive(Clone, Copy, PartialEq, Eq, Debug)]
 pub enum Value {
     /// Local days from 1970-01-01.
-    Date {
-        day: i64,
-        zone: Zone,
-    },
+    Date { day: i64, zone: Zone },
     /// Tick of the local day.
-    Time {
-        tick: i128,
-        zone: Zone,
-    },
+    Time { tick: i128, zone: Zone },
     /// Local ticks from 1970-01-01T00:00:00.
-    DateTime {
-        tick: i128,
-        zone: Zone,
-    },
+    DateTime { tick: i128, zone: Zone },
     /// Ticks.
     DayTime(i128),
     /// Months.
     YearMonth(i128),
-    GYear {
-        year: i64,
-        zone: Zone,
-    },
-    GYearMonth {
-        year: i64,
-        month: i64,
-        zone: Zone,
-    },
-    GMonth {
-        month: i64,
-        zone: Zone,
-    },
-    GMonthDay {
-        month: i64,
-        day: i64,
-        zone: Zone,
-    },
-    GDay {
-        day: i64,
-        zone: Zone,
-    },
-    /// Months and ticks, never one above zero and the other below.
-    Duration {
-        months: i128,
-        ticks: i128,
-    },
 }
 
 impl Value {
@@ -155,12 +74,6 @@ impl Value {
             Value::DateTime { .. } => Kind::DateTime,
             Value::DayTime(_) => Kind::DayTime,
             Value::YearMonth(_) => Kind::YearMonth,
-            Value::GYear { .. } => Kind::GYear,
-            Value::GYearMonth { .. } => Kind::GYearMonth,
-            Value::GMonth { .. } => Kind::GMonth,
-            Value::GMonthDay { .. } => Kind::GMonthDay,
-            Value::GDay { .. } => Kind::GDay,
-            Value::Duration { .. } => Kind::Duration,
         }
     }
 
@@ -181,12 +94,6 @@ impl Value {
 
     pub fn year_month_within_bounds(months: i128) -> Option<Value> {
         (months.abs() <= MOST_DURATION_MONTHS).then_some(Value::YearMonth(months))
-    }
-
-    /// Each of the two numbers has the bound of its pure kind.
-    pub fn duration_within_bounds(months: i128, ticks: i128) -> Option<Value> {
-        let good = months.abs() <= MOST_DURATION_MONTHS && ticks.abs() <= most_duration_ticks();
-        good.then_some(Value::Duration { months, ticks })
     }
 }
 

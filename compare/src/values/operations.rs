@@ -1,5 +1,4 @@
-//! Document 01, "Operations", but for equality; casts and components of the kinds of document 02, letter n, which have no
-//! other operation. Each function refuses in the order 16, 9, 5, 4.
+//! Document 01, "Operations". Each function refuses in the order 16, 9, 5, 4.
 
 use super::calendar::{civil_from_days, days_from_civil, month_length, Civil};
 use super::writing::fraction_text;
@@ -16,12 +15,12 @@ fn local(value: &Value) -> Option<(i128, Zone)> {
         Value::Date { day, zone } => Some((day as i128 * ticks_a_day(), zone)),
         Value::Time { tick, zone } => Some((REFERENCE_DAY * ticks_a_day() + tick, zone)),
         Value::DateTime { tick, zone } => Some((tick, zone)),
-        _ => None,
+        Value::DayTime(_) | Value::YearMonth(_) => None,
     }
 }
 
 /// The same in UTC. No zone counts as UTC.
-pub(super) fn instant(value: &Value) -> Option<i128> {
+fn instant(value: &Value) -> Option<i128> {
     let (tick, zone) = local(value)?;
     Some(tick - zone.unwrap_or(0) as i128 * ticks_a_minute())
 }
@@ -32,39 +31,22 @@ fn from_local(kind: Kind, tick: i128, zone: Zone) -> Result<Value, Refusal> {
         Kind::Date => Value::date_within_bounds(tick.div_euclid(ticks_a_day()), zone),
         Kind::Time => Some(Value::Time { tick: tick.rem_euclid(ticks_a_day()), zone }),
         Kind::DateTime => Value::date_time_within_bounds(tick, zone),
-        _ => return Err(KINDS_DO_NOT_FIT),
+        Kind::DayTime | Kind::YearMonth => return Err(KINDS_DO_NOT_FIT),
     };
     made.ok_or(RESULT_BEYOND_BOUNDS)
 }
 
-/// The parts of a day that a g-kind has.
-fn parts_of(kind: Kind, Civil { year, month, day }: Civil, zone: Zone) -> Result<Value, Refusal> {
-    match kind {
-        Kind::GYear => Ok(Value::GYear { year, zone }),
-        Kind::GYearMonth => Ok(Value::GYearMonth { year, month, zone }),
-        Kind::GMonth => Ok(Value::GMonth { month, zone }),
-        Kind::GMonthDay => Ok(Value::GMonthDay { month, day, zone }),
-        Kind::GDay => Ok(Value::GDay { day, zone }),
-        _ => Err(KINDS_DO_NOT_FIT),
-    }
-}
-
-/// Whether values of the two kinds have an order.
-pub fn ordered(left: Kind, right: Kind) -> bool {
-    left == right && left.is_ordered()
-}
-
 pub fn compare(left: &Value, right: &Value) -> Result<Ordering, Refusal> {
-    if !ordered(left.kind(), right.kind()) {
+    if left.kind() != right.kind() {
         return Err(KINDS_DO_NOT_FIT);
     }
-    Ok(order_key(left)?.cmp(&order_key(right)?))
+    Ok(order_key(left).cmp(&order_key(right)))
 }
 
-fn order_key(value: &Value) -> Result<i128, Refusal> {
+fn order_key(value: &Value) -> i128 {
     match *value {
-        Value::DayTime(number) | Value::YearMonth(number) => Ok(number),
-        _ => instant(value).ok_or(KINDS_DO_NOT_FIT),
+        Value::DayTime(number) | Value::YearMonth(number) => number,
+        _ => instant(value).expect("a date, a time or a dateTime has an instant"),
     }
 }
 
@@ -85,7 +67,7 @@ pub fn subtract(left: &Value, right: &Value) -> Result<Value, Refusal> {
         Value::DayTime(ticks) => add(left, &Value::DayTime(-ticks)),
         Value::YearMonth(months) => add(left, &Value::YearMonth(-months)),
         _ if left.kind() != right.kind() => Err(KINDS_DO_NOT_FIT),
-        _ => Value::day_time_within_bounds(order_key(left)? - order_key(right)?).ok_or(RESULT_BEYOND_BOUNDS),
+        _ => Value::day_time_within_bounds(order_key(left) - order_key(right)).ok_or(RESULT_BEYOND_BOUNDS),
     }
 }
 
@@ -121,12 +103,7 @@ pub fn multiply(value: &Value, factor: i128) -> Result<Value, Refusal> {
 
 /// Whether values of the first kind may be cast to the second.
 pub fn casts(from: Kind, to: Kind) -> bool {
-    match from {
-        _ if from == to => true,
-        Kind::DateTime => matches!(to, Kind::Date | Kind::Time) || to.is_g_kind(),
-        Kind::Date => to == Kind::DateTime || to.is_g_kind(),
-        _ => false,
-    }
+    from == to || matches!((from, to), (Kind::DateTime, Kind::Date | Kind::Time) | (Kind::Date, Kind::DateTime))
 }
 
 pub fn cast(value: &Value, to: Kind) -> Result<Value, Refusal> {
@@ -135,7 +112,6 @@ pub fn cast(value: &Value, to: Kind) -> Result<Value, Refusal> {
     }
     match local(value) {
         None => Ok(*value),
-        Some((tick, zone)) if to.is_g_kind() => parts_of(to, civil_from_days(tick.div_euclid(ticks_a_day()) as i64), zone),
         Some((tick, zone)) => from_local(to, tick, zone),
     }
 }
@@ -175,12 +151,6 @@ pub fn components(value: &Value) -> String {
         }
         Value::DayTime(ticks) => duration_components(0, ticks),
         Value::YearMonth(months) => duration_components(months, 0),
-        Value::GYear { year, zone } => format!("year={year} {}", zone_component(zone)),
-        Value::GYearMonth { year, month, zone } => format!("year={year} month={month} {}", zone_component(zone)),
-        Value::GMonth { month, zone } => format!("month={month} {}", zone_component(zone)),
-        Value::GMonthDay { month, day, zone } => format!("month={month} day={day} {}", zone_component(zone)),
-        Value::GDay { day, zone } => format!("day={day} {}", zone_component(zone)),
-        Value::Duration { months, ticks } => duration_components(months, ticks),
     }
 }
 

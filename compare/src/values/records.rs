@@ -2,7 +2,6 @@
 //! program that takes them is not kept at six digits.
 
 use super::calendar::{days_from_civil, month_length, Civil};
-use super::equality::REFERENCE_YEAR;
 use super::operations::REFERENCE_DAY;
 use super::*;
 use crate::{Refusal, ARGUMENT_BEYOND_BOUNDS};
@@ -12,15 +11,12 @@ const NANOS_A_SECOND: i128 = 1_000_000_000;
 
 #[derive(Clone, Copy, PartialEq, Eq, Debug)]
 pub enum Record {
-    /// Of every kind that is no duration. The numbers that a kind has not are fixed: a time is on the reference day, a date
-    /// and a value of a g-kind at 00:00:00.
+    /// A date, a time or a dateTime: a time is one on the reference day, a date one at 00:00:00.
     Moment { kind: Kind, date: Civil, clock: Clock, zone: Option<Signed> },
     /// A dayTimeDuration: seconds, and nanoseconds beside them under the same sign.
     DayTime { minus: bool, size: Clock },
     /// Months of a yearMonthDuration.
     YearMonth(Signed),
-    /// A general duration: months, and seconds and nanoseconds beside them under the same sign.
-    Duration { minus: bool, months: i128, size: Clock },
 }
 
 /// Whole seconds and the nanoseconds of the next one, neither of them below zero.
@@ -59,7 +55,6 @@ impl Record {
             Record::Moment { kind, date, clock, zone } => moment(kind, date, clock, zone),
             Record::DayTime { minus, size } => day_time(minus, size),
             Record::YearMonth(number) => number.within(MOST_DURATION_MONTHS).map(Value::YearMonth),
-            Record::Duration { minus, months, size } => duration(minus, months, size),
         };
         value.ok_or(ARGUMENT_BEYOND_BOUNDS)
     }
@@ -67,16 +62,6 @@ impl Record {
 
 fn day_time(minus: bool, size: Clock) -> Option<Value> {
     Signed { minus, magnitude: size.ticks()? }.within(most_duration_ticks()).map(Value::DayTime)
-}
-
-fn duration(minus: bool, months: i128, size: Clock) -> Option<Value> {
-    let ticks = size.ticks()?;
-    let sign = match (minus, months == 0 && ticks == 0) {
-        (true, true) => return None,
-        (true, false) => -1,
-        (false, _) => 1,
-    };
-    Value::duration_within_bounds(sign * months, sign * ticks)
 }
 
 fn moment(kind: Kind, date: Civil, clock: Clock, zone: Option<Signed>) -> Option<Value> {
@@ -91,17 +76,11 @@ fn moment(kind: Kind, date: Civil, clock: Clock, zone: Option<Signed>) -> Option
     if !(1..=month_length(year, month)).contains(&day) {
         return None;
     }
-    let (days, tick) = (days_from_civil(date), clock.ticks()?);
-    let (at_start, reference_year) = (tick == 0, year == REFERENCE_YEAR);
+    let (day, tick) = (days_from_civil(date), clock.ticks()?);
     match kind {
-        Kind::Date if at_start => Some(Value::Date { day: days, zone }),
-        Kind::Time if days as i128 == REFERENCE_DAY => Some(Value::Time { tick, zone }),
-        Kind::DateTime => Some(Value::DateTime { tick: days as i128 * ticks_a_day() + tick, zone }),
-        Kind::GYear if at_start && (month, day) == (1, 1) => Some(Value::GYear { year, zone }),
-        Kind::GYearMonth if at_start && day == 1 => Some(Value::GYearMonth { year, month, zone }),
-        Kind::GMonth if at_start && reference_year && day == 29 => Some(Value::GMonth { month, zone }),
-        Kind::GMonthDay if at_start && reference_year => Some(Value::GMonthDay { month, day, zone }),
-        Kind::GDay if at_start && reference_year && month == 12 => Some(Value::GDay { day, zone }),
+        Kind::Date if tick == 0 => Some(Value::Date { day, zone }),
+        Kind::Time if day as i128 == REFERENCE_DAY => Some(Value::Time { tick, zone }),
+        Kind::DateTime => Some(Value::DateTime { tick: day as i128 * ticks_a_day() + tick, zone }),
         _ => None,
     }
 }

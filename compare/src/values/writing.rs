@@ -1,4 +1,4 @@
-//! From value to text: document 01, "Writing text", and document 02, letter n.
+//! From value to text: document 01, "Writing text".
 
 use super::calendar::{civil_from_days, Civil};
 use super::ticks::fraction_digits;
@@ -13,14 +13,8 @@ pub fn write(value: &Value) -> String {
             let clock = tick.rem_euclid(ticks_a_day());
             format!("{}T{}{}", date_text(day), clock_text(clock), zone_text(zone))
         }
-        Value::DayTime(ticks) => duration_text(0, ticks, "PT0S"),
-        Value::YearMonth(months) => duration_text(months, 0, "P0M"),
-        Value::GYear { year, zone } => format!("{year:04}{}", zone_text(zone)),
-        Value::GYearMonth { year, month, zone } => format!("{year:04}-{month:02}{}", zone_text(zone)),
-        Value::GMonth { month, zone } => format!("--{month:02}{}", zone_text(zone)),
-        Value::GMonthDay { month, day, zone } => format!("--{month:02}-{day:02}{}", zone_text(zone)),
-        Value::GDay { day, zone } => format!("---{day:02}{}", zone_text(zone)),
-        Value::Duration { months, ticks } => duration_text(months, ticks, "PT0S"),
+        Value::DayTime(ticks) => day_time_text(ticks),
+        Value::YearMonth(months) => year_month_text(months),
     }
 }
 
@@ -55,30 +49,14 @@ fn zone_text(zone: Zone) -> String {
     }
 }
 
-/// The parts of both numbers that are not zero, or the text of zero.
-fn duration_text(months: i128, ticks: i128, zero: &str) -> String {
-    if (months, ticks) == (0, 0) {
-        return zero.to_string();
+fn day_time_text(ticks: i128) -> String {
+    if ticks == 0 {
+        return "PT0S".to_string();
     }
-    let sign = if months < 0 || ticks < 0 { "-" } else { "" };
-    format!("{sign}P{}{}", month_parts(months.abs()), tick_parts(ticks.abs()))
-}
-
-fn month_parts(months: i128) -> String {
-    let mut text = String::new();
-    if months >= 12 {
-        text += &format!("{}Y", months / 12);
-    }
-    if months % 12 > 0 {
-        text += &format!("{}M", months % 12);
-    }
-    text
-}
-
-fn tick_parts(ticks: i128) -> String {
-    let days = ticks / ticks_a_day();
-    let clock = ticks % ticks_a_day();
-    let mut text = String::new();
+    let magnitude = ticks.abs();
+    let days = magnitude / ticks_a_day();
+    let clock = magnitude % ticks_a_day();
+    let mut text = String::from(if ticks < 0 { "-P" } else { "P" });
     if days > 0 {
         text += &format!("{days}D");
     }
@@ -94,6 +72,20 @@ fn tick_parts(ticks: i128) -> String {
     if clock % ticks_a_minute() > 0 {
         let second = clock % ticks_a_minute() / ticks_a_second();
         text += &format!("{second}{}S", fraction_text(clock % ticks_a_second()));
+    }
+    text
+}
+
+fn year_month_text(months: i128) -> String {
+    if months == 0 {
+        return "P0M".to_string();
+    }
+    let mut text = String::from(if months < 0 { "-P" } else { "P" });
+    if months.abs() >= 12 {
+        text += &format!("{}Y", months.abs() / 12);
+    }
+    if months.abs() % 12 > 0 {
+        text += &format!("{}M", months.abs() % 12);
     }
     text
 }

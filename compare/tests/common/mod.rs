@@ -18,12 +18,6 @@ fn full_name(field: &str) -> &str {
         "dateTime" => "xs:dateTime",
         "dt" => "xs:dayTimeDuration",
         "ym" => "xs:yearMonthDuration",
-        "gYear" => "xs:gYear",
-        "gYearMonth" => "xs:gYearMonth",
-        "gMonth" => "xs:gMonth",
-        "gMonthDay" => "xs:gMonthDay",
-        "gDay" => "xs:gDay",
-        "duration" => "xs:duration",
         _ => field,
     }
 }

@@ -1,8 +1,7 @@
 -- docs/LINES.md, "The calculator": the answer to a line. Which call it is stands first; "Then each text is read, from the
 -- left; the first that does not read gives `refused→` and its number." "Then the call is made; a refusal gives `refused→` and
 -- its number".
-use Rattle.std.specs.Prelude.{Bool, false, List, ◌∷◌, ◌++◌, ℕ}
-use Rattle.basis.specs.Choice.{pick}
+use Rattle.std.specs.Prelude.{false, List, ◌∷◌, ◌++◌, ℕ}
 use Rattle.basis.specs.Answer.{Answer, gives, refuses_for}
 use Rattle.basis.specs.Letters.{bytes}
 use Rattle.timetable.specs.Fields.{tab, field_at}
@@ -13,7 +12,6 @@ use Rattle.value.specs.declared.Value.{Value}
 use Rattle.text.specs.Reading.{read_as}
 use Rattle.text.specs.Writing.{text_of}
 use Rattle.operation_ordering.specs.Order.{Order, less, equal, greater, order_in}
-use Rattle.operation_equality.specs.Equality.{equal_in}
 use Rattle.operation_arithmetic.specs.Sums.{plus_of, minus_in}
 use Rattle.operation_arithmetic.specs.Products.{times_of}
 use Rattle.operation_casting.specs.Casts as casts
@@ -42,9 +40,6 @@ order_text less = bytes "lt"
 order_text equal = bytes "eq"
 order_text greater = bytes "gt"
 
-abbrev pub truth_text : Bool → List ℕ
-truth_text same = pick same (bytes "true") (bytes "false")
-
 -- the calls on one value
 unfoldable pub one_text : One → Value → List ℕ
 one_text O.Read v = text_of v
@@ -54,7 +49,6 @@ one_text O.Components v = said parts_text (components_of v)
 -- the calls on two values
 unfoldable pub two_text : Two → Value → Value → List ℕ
 two_text T.Compare a b = said order_text (order_in utc a b)
-two_text T.Equal a b = said truth_text (equal_in utc a b)
 two_text T.Add a b = said text_of (plus_of a b)
 two_text T.Subtract a b = said text_of (minus_in utc a b)
 two_text T.Adjust a z = said text_of (adjust_of a z)

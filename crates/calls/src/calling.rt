@@ -5,7 +5,6 @@ ghost use Rattle.value_components.specs.Components as components;
 ghost use Rattle.value.specs.Kinds as kinds;
 ghost use Rattle.value.specs.Carried.{valid};
 ghost use Rattle.operation_ordering.specs.Order as order;
-ghost use Rattle.operation_equality.specs.Equality as equality;
 ghost use Rattle.calls_replies.specs.Replies.{reply_of};
 ghost use Rattle.calls_replies.specs.ReplyParts.{parts_text};
 ghost use Rattle.calls.specs.Answers as the;
@@ -14,7 +13,6 @@ use calls_asked::{One, Two};
 use calls_replies::building::{joined, nothing, with_text};
 use calls_replies::numbers::with_number;
 use calls_replies::{Reply, parts};
-use operation_equality::Equated;
 use operation_ordering::Compared;
 use value::{Outcome, Refusal, Value};
 use value_components::Components;
@@ -54,20 +52,6 @@ fn order_said(a: Compared) -> Reply
     }
 }
 
-fn equality_said(a: Equated) -> Reply
-    ensures { result ≡ reply_of (the.said the.truth_text (equality.equated_meaning a)) }
-{
-    match a {
-        Equated::Is(same) => {
-            if same {
-                return joined(nothing(), b"true");
-            }
-            joined(nothing(), b"false")
-        }
-        Equated::Refused(r) => refused(r),
-    }
-}
-
 fn components_said(a: Components) -> Reply
     ensures { result ≡ reply_of (the.said parts_text (components.components_meaning a)) }
 {
@@ -94,7 +78,6 @@ pub fn two_said(o: Two, a: Value, b: Value) -> Reply
 {
     match o {
         Two::Compare => order_said(operation::compare(a, b)),
-        Two::Equal => equality_said(operation::equal(a, b)),
         Two::Add => value_said(operation::plus(a, b)),
         Two::Subtract => value_said(operation::minus(a, b)),
         Two::Adjust => value_said(operation::adjust(a, b)),

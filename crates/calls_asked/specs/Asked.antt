@@ -77,10 +77,9 @@ cast_form line = pick (exactly line 4) (cast_by (named (field_at line 2)) (named
 unfoldable pub pair_by : List ℕ → List ℕ → CallForm
 pair_by line word =
     pick (same word (bytes "compare")) (two_form line T.Compare)
-    (pick (same word (bytes "equal")) (two_form line T.Equal)
     (pick (same word (bytes "add")) (two_form line T.Add)
     (pick (same word (bytes "subtract")) (two_form line T.Subtract)
-    (pick (same word (bytes "adjust")) (two_form line T.Adjust) F.No))))
+    (pick (same word (bytes "adjust")) (two_form line T.Adjust) F.No)))
 
 unfoldable pub form_by : List ℕ → List ℕ → CallForm
 form_by line word =

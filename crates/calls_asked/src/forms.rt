@@ -128,9 +128,6 @@ fn pair_form(line: &[u8], word: &[u8]) -> CallForm
     if same(word, b"compare") {
         return two(line, Two::Compare);
     }
-    if same(word, b"equal") {
-        return two(line, Two::Equal);
-    }
     if same(word, b"add") {
         return two(line, Two::Add);
     }

@@ -15,7 +15,6 @@ pub enum One {
 #[derive(Drop)]
 pub enum Two {
     Compare,
-    Equal,
     Add,
     Subtract,
     Adjust,

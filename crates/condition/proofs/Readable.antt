@@ -9,7 +9,6 @@ use native.Mathlib.Omega.{arith}
 use Rattle.basis.specs.Choice.{pick}
 use Rattle.basis.specs.Answer.{Answer, gives, refuses_for, refuses, and_then}
 use Rattle.value.specs.Refusals.{no_field, wrong_kind}
-use Rattle.value.specs.Rows.{ordered_kinds}
 use Rattle.value.specs.Kinds.{kind_of, ok_value}
 use Rattle.value.specs.Values.{ok_offset}
 use Rattle.value.specs.declared.Offset.{Offset}
@@ -20,8 +19,8 @@ use Rattle.text_layouts.proofs.Valid.{Valid}
 use Rattle.text.specs.Reading.{read_as}
 use Rattle.text_fields.specs.Fields.{read_field}
 use Rattle.text.proofs.RoundTrip.{what_reads_is_valid}
+use Rattle.value.specs.Rows.{same_kind}
 use Rattle.operation_ordering.specs.Order.{order_for}
-use Rattle.operation_equality.specs.Equality as equality
 use Rattle.operation_arithmetic.specs.Sums.{plus_of, minus_for}
 use Rattle.operation_arithmetic.specs.Products.{times_of}
 use Rattle.operation_casting.specs.Casts.{casts_to, cast_of}
@@ -32,14 +31,14 @@ use Rattle.condition_symbols.specs.declared.Op.{Op}
 use Rattle.condition_operators.specs.Roles.{role_of, joins, settles}
 use Rattle.condition_operators.specs.declared.Role.{Role}
 use Rattle.condition_operators.specs.declared.Role.TheVariants as R
-use Rattle.condition_sorts.specs.Sorts.{equated_kinds, compared_kinds, added_kinds, less_kinds, kinds_of, sort_two, sort_cast, sort_times}
+use Rattle.condition_sorts.specs.Sorts.{compared_kinds, added_kinds, less_kinds, kinds_of, sort_two, sort_cast, sort_times}
 use Rattle.condition_givens.specs.Data.{Datum, value, truth, valued}
-use Rattle.condition_parts.specs.Evaluation.{equated, tested, of_values, applied, joined, cast_datum, times_datum}
+use Rattle.condition_parts.specs.Evaluation.{tested, of_values, applied, joined, cast_datum, times_datum}
 use Rattle.condition_sorts.specs.declared.Sort.{Sort}
 use Rattle.condition_sorts.specs.declared.Sort.TheVariants as S
 use Rattle.condition_parts.specs.Numbers.{at_row}
 use Rattle.condition_parts.proofs.Numbers.{Only, read_only, text_at_row}
-use Rattle.condition_parts.proofs.Settled.{Fits, FitsSort, plus_settled, minus_settled, equality_settled, order_settled, times_settled, cast_settled}
+use Rattle.condition_parts.proofs.Settled.{Fits, FitsSort, plus_settled, minus_settled, order_settled, times_settled, cast_settled}
 use Rattle.condition_grammar.specs.Grammar.{Parsed, none, got}
 use Rattle.condition_grammar.specs.Trees.{Tree, leaf, one, two, literal, field, cast, times, parse}
 use Rattle.condition_readers.specs.Meaning.{sort_of, eval}
@@ -111,27 +110,17 @@ times_typed b v x (refuses_for r) l n h = h
 
 module _ (zone : Offset) (good : ok_offset zone ≡ true) where
   -- two parts
-  equated_typed : (e : Bool) (v w : Value) → ok_value v ≡ true → ok_value w ≡ true → (equated_kinds (kind_of v) (kind_of w) ≡ S.Clash → ⊥) →
-      Typed (equated_kinds (kind_of v) (kind_of w)) (equated e (equality.equal_for zone v w))
-  unfolding equated_kinds
-  equated_typed e v w p q n = by (equality.equal_kinds (kind_of v) (kind_of w)) refl n
-    where
-      by : (b : Bool) → equality.equal_kinds (kind_of v) (kind_of w) ≡ b → (pick b S.Truth S.Clash ≡ S.Clash → ⊥) → Typed (pick b S.Truth S.Clash) (equated e (equality.equal_for zone v w))
-      by true s m = rw (equality_settled v p w q zone good s) refl
-      by false s m = absurd (m refl)
-
   compared_typed : (l e g : Bool) (v w : Value) → ok_value v ≡ true → ok_value w ≡ true → (compared_kinds (kind_of v) (kind_of w) ≡ S.Clash → ⊥) →
       Typed (compared_kinds (kind_of v) (kind_of w)) (tested l e g (order_for zone v w))
   unfolding compared_kinds
-  compared_typed l e g v w p q n = by (ordered_kinds (kind_of v) (kind_of w)) refl n
+  compared_typed l e g v w p q n = by (same_kind (kind_of v) (kind_of w)) refl n
     where
-      by : (b : Bool) → ordered_kinds (kind_of v) (kind_of w) ≡ b → (pick b S.Truth S.Clash ≡ S.Clash → ⊥) → Typed (pick b S.Truth S.Clash) (tested l e g (order_for zone v w))
+      by : (b : Bool) → same_kind (kind_of v) (kind_of w) ≡ b → (pick b S.Truth S.Clash ≡ S.Clash → ⊥) → Typed (pick b S.Truth S.Clash) (tested l e g (order_for zone v w))
       by true s m = rw (order_settled v p w q zone good s) refl
       by false s m = absurd (m refl)
 
   values_typed : (r : Role) (v w : Value) → ok_value v ≡ true → ok_value w ≡ true → (kinds_of r (kind_of v) (kind_of w) ≡ S.Clash → ⊥) → Typed (kinds_of r (kind_of v) (kind_of w)) (of_values zone r v w)
   values_typed (R.Joins by) v w p q n = absurd (n refl)
-  values_typed (R.Equates e) v w p q n = equated_typed e v w p q n
   values_typed (R.Compares l e g) v w p q n = compared_typed l e g v w p q n
   values_typed R.Adds v w p q n =
       sort_typed (added_kinds (kind_of v) (kind_of w)) (plus_of v w) n (plus_settled v p w q) (plus_within v w)

@@ -30,11 +30,9 @@ day w i p = leaf K.Date w (field i p)
 pub texts_state :
     States (bytes "xs:date($1) - xs:date($2)+xs:date( $3 )  ") (two O.Plus 0 25 (two O.Minus 0 12 (day 0 1 8) (day 14 2 22)) (day 26 3 35)) ×
     States (bytes "xs:date($1) and xs:date($2) or xs:date($3) and xs:date($4)") (two O.Or 0 28 (two O.And 0 12 (day 0 1 8) (day 16 2 24)) (two O.And 31 43 (day 31 3 39) (day 47 4 55))) ×
-    States (bytes "xs:date($1)* -5 * 07") (one (times false 7) 18 (one (times true 5) 13 (day 0 1 8))) ×
-    States (bytes "xs:gMonthDay($2) ne xs:gYear($3)") (two O.Ne 0 17 (leaf K.GMonthDay 0 (field 2 13)) (leaf K.GYear 20 (field 3 29))) ×
-    States (bytes "xs:duration($4)") (leaf K.Duration 0 (field 4 12))
-unfolding parse condition_in condition_more_in clause_in clause_more_in test_in sum_in sum_more_in term_in term_more_in factor_in held_in inner many repeated closed_at the.mark_at the.operator_at the.comparing the.comparison_at the.sign_at the.named the.other_named the.start_at the.text_from the.field_of the.field_from the.held_at the.whole_of the.whole_from the.multiplier_at number is_digit both letter belongs stretch_end_in stretch_end same
-texts_state = (parsed_is_stated _ _ 39 refl, parsed_is_stated _ _ 58 refl, parsed_is_stated _ _ 20 refl, parsed_is_stated _ _ 32 refl, parsed_is_stated _ _ 15 refl)
+    States (bytes "xs:date($1)* -5 * 07") (one (times false 7) 18 (one (times true 5) 13 (day 0 1 8)))
+unfolding parse condition_in condition_more_in clause_in clause_more_in test_in sum_in sum_more_in term_in term_more_in factor_in held_in inner many repeated closed_at the.mark_at the.operator_at the.comparing the.comparison_at the.sign_at the.named the.start_at the.text_from the.field_of the.field_from the.held_at the.whole_of the.whole_from the.multiplier_at number is_digit both letter belongs stretch_end_in stretch_end same
+texts_state = (parsed_is_stated _ _ 39 refl, parsed_is_stated _ _ 58 refl, parsed_is_stated _ _ 20 refl)
 
 -- a text with at most sixteen opening parentheses is not too deep
 unfoldable pub openings : List ℕ → ℕ
@@ -77,8 +75,6 @@ pub texts_state_none :
     StatesNone (bytes "xs:date($1) eq xs:date($2) eq xs:date($3)") ×
     StatesNone (bytes "xs:date($1) * - 5") ×
     StatesNone (bytes "xs:date((\"2000-01-01\"))") ×
-    StatesNone (bytes "xs:date($1)orxs:date($2)") ×
-    StatesNone (bytes "xs:gmonth($1)") ×
-    StatesNone (bytes "xs:gMonthDays($1)")
-unfolding parse condition_in condition_more_in clause_in clause_more_in test_in sum_in sum_more_in term_in term_more_in factor_in held_in inner many repeated closed_at the.mark_at the.operator_at the.comparing the.comparison_at the.sign_at the.named the.other_named the.start_at the.text_from the.field_of the.field_from the.held_at the.whole_of the.whole_from the.multiplier_at number is_digit both letter belongs stretch_end_in stretch_end same openings
-texts_state_none = (none_stated _ refl refl, none_stated _ refl refl, none_stated _ refl refl, none_stated _ refl refl, none_stated _ refl refl, none_stated _ refl refl, none_stated _ refl refl)
+    StatesNone (bytes "xs:date($1)orxs:date($2)")
+unfolding parse condition_in condition_more_in clause_in clause_more_in test_in sum_in sum_more_in term_in term_more_in factor_in held_in inner many repeated closed_at the.mark_at the.operator_at the.comparing the.comparison_at the.sign_at the.named the.start_at the.text_from the.field_of the.field_from the.held_at the.whole_of the.whole_from the.multiplier_at number is_digit both letter belongs stretch_end_in stretch_end same openings
+texts_state_none = (none_stated _ refl refl, none_stated _ refl refl, none_stated _ refl refl, none_stated _ refl refl, none_stated _ refl refl)

@@ -149,17 +149,6 @@ module _ (s : List ℕ) (a : ℕ) where
   abbrev MakesStand : Named → Type 0
   MakesStand n = StartStands (the.makes s (skipped s a) n)
 
-  other_named_stands : MakesStand (the.other_named word)
-  unfolding the.other_named
-  other_named_stands =
-      picked MakesStand (same word (bytes "xs:gYear")) _ _ (λ e. made_stands K.GYear _ _ (word_stands s a "xs:gYear" _ _ refl e refl)) (λ f.
-      picked MakesStand (same word (bytes "xs:gYearMonth")) _ _ (λ e. made_stands K.GYearMonth _ _ (word_stands s a "xs:gYearMonth" _ _ refl e refl)) (λ f.
-      picked MakesStand (same word (bytes "xs:gMonth")) _ _ (λ e. made_stands K.GMonth _ _ (word_stands s a "xs:gMonth" _ _ refl e refl)) (λ f.
-      picked MakesStand (same word (bytes "xs:gMonthDay")) _ _ (λ e. made_stands K.GMonthDay _ _ (word_stands s a "xs:gMonthDay" _ _ refl e refl)) (λ f.
-      picked MakesStand (same word (bytes "xs:gDay")) _ _ (λ e. made_stands K.GDay _ _ (word_stands s a "xs:gDay" _ _ refl e refl)) (λ f.
-      picked MakesStand (same word (bytes "xs:duration")) _ _ (λ e. made_stands K.Duration _ _ (word_stands s a "xs:duration" _ _ refl e refl))
-      (λ f. tt))))))
-
   named_stands : MakesStand (the.named word)
   unfolding the.named
   named_stands =
@@ -168,7 +157,7 @@ module _ (s : List ℕ) (a : ℕ) where
       picked MakesStand (same word (bytes "xs:dateTime")) _ _ (λ e. made_stands K.DateTime _ _ (word_stands s a "xs:dateTime" _ _ refl e refl)) (λ f.
       picked MakesStand (same word (bytes "xs:dayTimeDuration")) _ _ (λ e. made_stands K.DayTimeDuration _ _ (word_stands s a "xs:dayTimeDuration" _ _ refl e refl)) (λ f.
       picked MakesStand (same word (bytes "xs:yearMonthDuration")) _ _ (λ e. made_stands K.YearMonthDuration _ _ (word_stands s a "xs:yearMonthDuration" _ _ refl e refl))
-      (λ f. other_named_stands)))))
+      (λ f. tt)))))
 
   start_stands : StartStands (the.start_at s a)
   unfolding the.start_at

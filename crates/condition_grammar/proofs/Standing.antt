@@ -65,18 +65,12 @@ digit_no_minus : (b : ℕ) → Digit b → eqb b (code "-") ≡ false
 digit_no_minus b x = let h : code "0" ≤ b = x.from in ne_eqb b (code "-") (λ q. omega arith)
 
 named_is : (k : Kind) → the.named (bytes (name_of k)) ≡ N.Is k
-unfolding the.named the.other_named same both
+unfolding the.named same both
 named_is K.Date = refl
 named_is K.Time = refl
 named_is K.DateTime = refl
 named_is K.DayTimeDuration = refl
 named_is K.YearMonthDuration = refl
-named_is K.GYear = refl
-named_is K.GYearMonth = refl
-named_is K.GMonth = refl
-named_is K.GMonthDay = refl
-named_is K.GDay = refl
-named_is K.Duration = refl
 
 -- every kind's name begins with x
 pub name_first : (s : List ℕ) (k : Kind) (p n : ℕ) → between s p n ≡ bytes (name_of k) → get_or s p 0 ≡ code "x"
@@ -85,12 +79,6 @@ name_first s K.Time p n e = first_of s p n _ _ e
 name_first s K.DateTime p n e = first_of s p n _ _ e
 name_first s K.DayTimeDuration p n e = first_of s p n _ _ e
 name_first s K.YearMonthDuration p n e = first_of s p n _ _ e
-name_first s K.GYear p n e = first_of s p n _ _ e
-name_first s K.GYearMonth p n e = first_of s p n _ _ e
-name_first s K.GMonth p n e = first_of s p n _ _ e
-name_first s K.GMonthDay p n e = first_of s p n _ _ e
-name_first s K.GDay p n e = first_of s p n _ _ e
-name_first s K.Duration p n e = first_of s p n _ _ e
 
 -- what stands is found
 module _ {s : List ℕ} where

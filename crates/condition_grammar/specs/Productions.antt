@@ -88,20 +88,13 @@ pub data Comparison (s : List ℕ) : Op → ℕ → ℕ → ℕ → Type 0 where
   gt : {a p n : ℕ} → Word s "gt" a p n → Comparison s O.Gt a p n
   ge : {a p n : ℕ} → Word s "ge" a p n → Comparison s O.Ge a p n
 
--- "`xs:date`, `xs:time`, `xs:dateTime`, `xs:dayTimeDuration` or `xs:yearMonthDuration`"; document 02, n: "Add gYear,
--- gYearMonth, gMonth, gMonthDay, gDay and the general duration"
+-- "`xs:date`, `xs:time`, `xs:dateTime`, `xs:dayTimeDuration` or `xs:yearMonthDuration`"
 abbrev pub name_of : Kind → String
 name_of K.Date = "xs:date"
 name_of K.Time = "xs:time"
 name_of K.DateTime = "xs:dateTime"
 name_of K.DayTimeDuration = "xs:dayTimeDuration"
 name_of K.YearMonthDuration = "xs:yearMonthDuration"
-name_of K.GYear = "xs:gYear"
-name_of K.GYearMonth = "xs:gYearMonth"
-name_of K.GMonth = "xs:gMonth"
-name_of K.GMonthDay = "xs:gMonthDay"
-name_of K.GDay = "xs:gDay"
-name_of K.Duration = "xs:duration"
 
 -- the parts of a condition; an argument is what stands in the parentheses after a kind's name, whose offset it has
 pub data Phrase : Type 0 where

@@ -5,16 +5,15 @@ use Rattle.basis.specs.Choice.{pick}
 use Rattle.condition_symbols.specs.declared.Op.{Op}
 use Rattle.condition_symbols.specs.declared.Op.TheVariants as O
 use Rattle.condition_operators.specs.declared.Role.{Role}
-use Rattle.condition_operators.specs.declared.Role.TheVariants.{Joins, Equates, Compares, Adds, Subtracts}
+use Rattle.condition_operators.specs.declared.Role.TheVariants.{Joins, Compares, Adds, Subtracts}
 
--- `or` and `and` join truth values: a true left settles `or`, a false one `and`. `eq` and `ne` say of equal values
--- whether they hold, and of others the opposite. The comparisons by order say of a left value that is less, of one that
--- is equal and of one that is greater whether they hold. `+` adds, `-` subtracts.
+-- `or` and `and` join truth values: a true left settles `or`, a false one `and`. A comparison says of a left value that is less, of one
+-- that is equal and of one that is greater whether it holds. `+` adds, `-` subtracts.
 abbrev pub role_of : Op → Role
 role_of O.Or = Joins true
 role_of O.And = Joins false
-role_of O.Eq = Equates true
-role_of O.Ne = Equates false
+role_of O.Eq = Compares false true false
+role_of O.Ne = Compares true false true
 role_of O.Lt = Compares true false false
 role_of O.Le = Compares true true false
 role_of O.Gt = Compares false false true
@@ -25,7 +24,6 @@ role_of O.Minus = Subtracts
 -- `and` and `or` join truth values
 abbrev pub joins : Role → Bool
 joins (Joins by) = true
-joins (Equates equal) = false
 joins (Compares less equal greater) = false
 joins Adds = false
 joins Subtracts = false
@@ -33,7 +31,6 @@ joins Subtracts = false
 -- whether a truth value left of an operator leaves the right side without evaluation: of `or` a true left, of `and` a false one
 abbrev pub settles : Role → Bool → Bool
 settles (Joins by) left = pick by left (not left)
-settles (Equates equal) left = false
 settles (Compares less equal greater) left = false
 settles Adds left = false
 settles Subtracts left = false

@@ -4,13 +4,11 @@ ghost use Rattle.condition_operators.specs.Roles as the;
 
 use condition_symbols::Op;
 
-// What an operator does. Joins: it joins two truth values, and this one on the left settles it. Equates: whether it
-// holds of equal values; of others it is the opposite. Compares: whether it holds of a left value that is less than the
-// right one, of one that is equal, and of one that is greater.
+// What an operator does. Joins: it joins two truth values, and this one on the left settles it. Compares: whether it holds of a left
+// value that is less than the right one, of one that is equal, and of one that is greater.
 #[derive(Drop)]
 pub enum Role {
     Joins(bool),
-    Equates(bool),
     Compares(bool, bool, bool),
     Adds,
     Subtracts,
@@ -22,8 +20,8 @@ pub fn role_of(op: Op) -> Role
     match op {
         Op::Or => Role::Joins(true),
         Op::And => Role::Joins(false),
-        Op::Eq => Role::Equates(true),
-        Op::Ne => Role::Equates(false),
+        Op::Eq => Role::Compares(false, true, false),
+        Op::Ne => Role::Compares(true, false, true),
         Op::Lt => Role::Compares(true, false, false),
         Op::Le => Role::Compares(true, true, false),
         Op::Gt => Role::Compares(false, false, true),
@@ -39,7 +37,6 @@ pub fn joins(role: Role) -> bool
 {
     match role {
         Role::Joins(_) => true,
-        Role::Equates(_) => false,
         Role::Compares(_, _, _) => false,
         Role::Adds => false,
         Role::Subtracts => false,
@@ -57,7 +54,6 @@ pub fn settles(role: Role, left: bool) -> bool
             }
             !left
         }
-        Role::Equates(_) => false,
         Role::Compares(_, _, _) => false,
         Role::Adds => false,
         Role::Subtracts => false,

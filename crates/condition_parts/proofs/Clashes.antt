@@ -7,7 +7,7 @@ use native.Mathlib.Omega.{arith}
 use Rattle.basis.specs.Choice.{pick, both}
 use Rattle.basis.specs.Answer.{Reason, Answer, gives, refuses_for, refuses, and_then}
 use Rattle.basis.specs.Exactly.{Exactly}
-use Rattle.value.specs.Rows.{ordered_kinds}
+use Rattle.value.specs.Rows.{same_kind}
 use Rattle.value.specs.Kinds.{kind_of, ok_value}
 use Rattle.value.specs.Refusals.{wrong_kind}
 use Rattle.value.specs.Values.{ok_offset}
@@ -16,12 +16,10 @@ use Rattle.value.specs.declared.Kind.{Kind}
 use Rattle.value.specs.declared.Value.{Value}
 use Rattle.operation_ordering.specs.Order.{order_in, order_for, value_order}
 use Rattle.operation_ordering.proofs.OrderLaws.{order_in_zone}
-use Rattle.operation_equality.specs.Equality as equality
-use Rattle.operation_equality.proofs.EqualityLaws.{equal_in_zone}
 use Rattle.operation_casting.specs.Casts.{casts_to, cast_to, cast_of}
 use Rattle.operation_arithmetic.specs.Sums.{plus_of, minus_for}
 use Rattle.operation_arithmetic.specs.Products.{times_of}
-use Rattle.condition_sorts.specs.Sorts.{equated_kinds, compared_kinds, added_kinds, less_kinds, sort_cast, sort_times}
+use Rattle.condition_sorts.specs.Sorts.{compared_kinds, added_kinds, less_kinds, sort_cast, sort_times}
 use Rattle.condition_parts.specs.Evaluation.{joined, ShortCircuit}
 use Rattle.condition_parts.specs.Fitting.{ClashIs9}
 use Rattle.basis.proofs.Answers.{refuses_same}
@@ -58,13 +56,7 @@ module _ (a : Value) (p : ok_value a ≡ true) where
       Exactly (compared_kinds (kind_of a) (kind_of b) ≡ S.Clash) (order_for zone a b ≡ refuses wrong_kind)
   unfolding order_in compared_kinds both
   order_clash zone b h q =
-      rw (order_in_zone zone a b h, p, q) (by_test (ordered_kinds (kind_of a) (kind_of b)) S.Truth (value_order zone a b) truth_no_clash)
-
-  equality_clash : (zone : Offset) (b : Value) → ok_offset zone ≡ true → ok_value b ≡ true →
-      Exactly (equated_kinds (kind_of a) (kind_of b) ≡ S.Clash) (equality.equal_for zone a b ≡ refuses wrong_kind)
-  unfolding equality.equal_in equated_kinds both
-  equality_clash zone b h q =
-      rw (equal_in_zone zone a b h, p, q) (by_test (equality.equal_kinds (kind_of a) (kind_of b)) S.Truth (equality.same_value zone a b) truth_no_clash)
+      rw (order_in_zone zone a b h, p, q) (by_test (same_kind (kind_of a) (kind_of b)) S.Truth (value_order zone a b) truth_no_clash)
 
   cast_clash : (k : Kind) → Exactly (sort_cast k (S.Of (kind_of a)) ≡ S.Clash) (cast_of a k ≡ refuses wrong_kind)
   unfolding cast_of
@@ -75,7 +67,6 @@ clash_is_9 =
     record {
       of_plus = λ a b p q. by_sort (added_kinds (kind_of a) (kind_of b)) (plus_of a b) (plus_settled a p b q);
       of_minus = λ zone a b h p q. by_sort (less_kinds (kind_of a) (kind_of b)) (minus_for zone a b) (minus_settled a p b q zone h);
-      of_equality = λ zone a b h p q. equality_clash a p zone b h q;
       of_order = λ zone a b h p q. order_clash a p zone b h q;
       of_times = λ a c n p h. by_sort (sort_times (S.Of (kind_of a))) (times_of a c n) (times_settled a p c n h);
       of_cast = λ a k p. cast_clash a p k;

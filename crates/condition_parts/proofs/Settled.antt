@@ -12,7 +12,7 @@ use Rattle.value.specs.Bounds.{min_year, max_year}
 use Rattle.value.specs.Refusals.{wrong_kind}
 use Rattle.value.specs.Values.{ok_offset, ok_day_time, ok_year_month}
 use Rattle.value.specs.Durations.{less_ticks, less_months}
-use Rattle.value.specs.Rows.{is_moment, has, is_dated, is_clocked, is_ordered, ordered_kinds}
+use Rattle.value.specs.Rows.{same_kind, is_moment, has, is_dated, is_clocked}
 use Rattle.value.specs.Kinds.{kind_of, ok_value}
 use Rattle.value_instants.specs.Ticks.{placed_at, local_of, instant_of}
 use Rattle.value.specs.declared.Offset.{Offset}
@@ -30,8 +30,6 @@ use Rattle.operation_shifting.specs.Shifts.{month_of, moved_to, moved, wrapped, 
 use Rattle.operation_ordering.specs.Order.{order_in, order_for, value_order}
 use Rattle.operation_arithmetic.specs.Sums.{sum_of, plus_of, less_moment, difference_in, minus_in, minus_for}
 use Rattle.operation_ordering.proofs.OrderLaws.{order_in_zone}
-use Rattle.operation_equality.specs.Equality as equality
-use Rattle.operation_equality.proofs.EqualityLaws.{equal_in_zone}
 use Rattle.operation_arithmetic.proofs.Differences.{minus_in_zone}
 use Rattle.operation_arithmetic.specs.Products.{product_of, times_of, max_factor}
 use Rattle.operation_casting.specs.Casts.{casts_to, cast_of}
@@ -71,10 +69,6 @@ year_month_none : is_moment K.YearMonthDuration ≡ false
 unfolding is_moment
 year_month_none = refl
 
-general_none : is_moment K.Duration ≡ false
-unfolding is_moment
-general_none = refl
-
 -- a moment and a duration: of the moment's kind where that takes the duration, 9 where it does not
 module _ (k : Kind) where
   placed_fit : (p : Placed) → Fits k (of_placed k p)
@@ -107,91 +101,71 @@ takes_none : (j k : Kind) → is_moment k ≡ true → takes j k ≡ false
 unfolding takes
 takes_none j k m = rw (moment_apart k K.DayTimeDuration m day_time_none, moment_apart k K.YearMonthDuration m year_month_none) refl
 
-both_no : (a : Bool) → both a false ≡ false
-unfolding both
-both_no true = refl
-both_no false = refl
-
 -- what is settled of a moment's kind and a duration's
 module _ (k j : Kind) (m : is_moment k ≡ true) (n : is_moment j ≡ false) where
   added_right : pick (takes k j) (S.Of k) S.Clash ≡ added_kinds k j
-  unfolding added_kinds both
+  unfolding added_kinds
   added_right = rw (takes_none j k m, m) refl
 
   added_left : pick (takes k j) (S.Of k) S.Clash ≡ added_kinds j k
   unfolding added_kinds
-  added_left = rw (takes_none j k m, n, apart_moment j k n m, both_no (is_ordered j)) refl
+  added_left = rw (takes_none j k m, n, apart_moment j k n m) refl
 
   less_right : pick (takes k j) (S.Of k) S.Clash ≡ less_kinds k j
-  unfolding less_kinds both
+  unfolding less_kinds
   less_right = rw (moment_apart k j m n) refl
 
   less_left : S.Clash ≡ less_kinds j k
-  unfolding less_kinds both
+  unfolding less_kinds
   less_left = rw (takes_none j k m, apart_moment j k n m) refl
 
 settled : (a : Answer Value) (x : Sort) {y : Sort} → x ≡ y → FitsSort x a → FitsSort y a
 settled a x e f = subst (λ (z : Sort). FitsSort z a) e f
 
--- two moments: never added, and subtracted where they are of one kind that has an order
+-- two moments: never added, and subtracted where they are of one kind
 module _ (j k : Kind) (m : is_moment j ≡ true) (n : is_moment k ≡ true) where
   added_moments : FitsSort (added_kinds j k) (refuses wrong_kind)
-  unfolding added_kinds both
+  unfolding added_kinds
   added_moments = settled (refuses wrong_kind) S.Clash {y = added_kinds j k} (rw (takes_none j k n, takes_none k j m, m) refl) refl
 
   less_moments : (o : Offset) (d e : DateTime) → FitsSort (less_kinds j k) (less_moment o (V'.Moment j d) k e)
   unfolding less_kinds less_moment
-  less_moments o d e = go (ordered_kinds j k)
+  less_moments o d e = go (same_kind j k)
     where
       go : (b : Bool) → FitsSort (pick (takes j k) (S.Of j) (pick b (pick (is_moment j) (S.Of K.DayTimeDuration) (S.Of j)) S.Clash)) (pick b (in_ticks (instant_of o d) (instant_of o e)) (refuses wrong_kind))
       go true = settled (in_ticks (instant_of o d) (instant_of o e)) (S.Of K.DayTimeDuration) {y = pick (takes j k) (S.Of j) (pick (is_moment j) (S.Of K.DayTimeDuration) (S.Of j))} (rw (takes_none j k n, m) refl) (ticks_fit _ _)
       go false = settled (refuses wrong_kind) S.Clash {y = pick (takes j k) (S.Of j) S.Clash} (rw (takes_none j k n) refl) refl
 
--- a moment and a duration added, either way round; durations of one kind that are one number
+-- a moment and a duration added, either way round; durations of one kind
 sum_fits : (a b : Value) → ok_value a ≡ true → ok_value b ≡ true → FitsSort (added_kinds (kind_of a) (kind_of b)) (sum_of a b)
-unfolding added_kinds takes is_moment is_dated is_clocked is_ordered has every both sum_of
+unfolding added_kinds takes is_moment is_dated is_clocked has every both sum_of
 sum_fits (V'.Moment j d) (V'.Moment k e) p q = added_moments j k (moment_good _ p j d refl).0 (moment_good _ q k e refl).0
 sum_fits (V'.Moment k d) (V'.DayTime t) p q = settled (sum_of (V'.Moment k d) (V'.DayTime t)) (pick (takes k K.DayTimeDuration) (S.Of k) S.Clash) (added_right k K.DayTimeDuration (moment_good _ p k d refl).0 day_time_none) (shifted_fits k d _ _)
 sum_fits (V'.Moment k d) (V'.YearMonth m) p q = settled (sum_of (V'.Moment k d) (V'.YearMonth m)) (pick (takes k K.YearMonthDuration) (S.Of k) S.Clash) (added_right k K.YearMonthDuration (moment_good _ p k d refl).0 year_month_none) (moved_fits k d _ _)
-sum_fits (V'.Moment k d) (V'.Duration f) p q = settled (refuses wrong_kind) S.Clash (added_right k K.Duration (moment_good _ p k d refl).0 general_none) refl
 sum_fits (V'.DayTime t) (V'.Moment k d) p q = settled (sum_of (V'.DayTime t) (V'.Moment k d)) (pick (takes k K.DayTimeDuration) (S.Of k) S.Clash) (added_left k K.DayTimeDuration (moment_good _ q k d refl).0 day_time_none) (shifted_fits k d _ _)
 sum_fits (V'.DayTime t) (V'.DayTime u) p q = ticks_fit _ _
 sum_fits (V'.DayTime t) (V'.YearMonth m) p q = refl
-sum_fits (V'.DayTime t) (V'.Duration f) p q = refl
 sum_fits (V'.YearMonth m) (V'.Moment k d) p q = settled (sum_of (V'.YearMonth m) (V'.Moment k d)) (pick (takes k K.YearMonthDuration) (S.Of k) S.Clash) (added_left k K.YearMonthDuration (moment_good _ q k d refl).0 year_month_none) (moved_fits k d _ _)
 sum_fits (V'.YearMonth m) (V'.DayTime t) p q = refl
 sum_fits (V'.YearMonth m) (V'.YearMonth n) p q = months_fit _ _
-sum_fits (V'.YearMonth m) (V'.Duration f) p q = refl
-sum_fits (V'.Duration f) (V'.Moment k d) p q = settled (refuses wrong_kind) S.Clash (added_left k K.Duration (moment_good _ q k d refl).0 general_none) refl
-sum_fits (V'.Duration f) (V'.DayTime t) p q = refl
-sum_fits (V'.Duration f) (V'.YearMonth m) p q = refl
-sum_fits (V'.Duration f) (V'.Duration g) p q = refl
 
 difference_fits : (o : Offset) (a b : Value) → ok_value a ≡ true → ok_value b ≡ true → FitsSort (less_kinds (kind_of a) (kind_of b)) (difference_in o a b)
-unfolding less_kinds takes is_moment is_dated is_clocked is_ordered has every both difference_in less_moment sum_of
+unfolding less_kinds takes is_moment is_dated is_clocked has every both difference_in less_moment sum_of
 difference_fits o (V'.Moment j d) (V'.Moment k e) p q = less_moments j k (moment_good _ p j d refl).0 (moment_good _ q k e refl).0 o d e
 difference_fits o (V'.Moment k d) (V'.DayTime t) p q = settled (difference_in o (V'.Moment k d) (V'.DayTime t)) (pick (takes k K.DayTimeDuration) (S.Of k) S.Clash) (less_right k K.DayTimeDuration (moment_good _ p k d refl).0 day_time_none) (shifted_fits k d _ _)
 difference_fits o (V'.Moment k d) (V'.YearMonth m) p q = settled (difference_in o (V'.Moment k d) (V'.YearMonth m)) (pick (takes k K.YearMonthDuration) (S.Of k) S.Clash) (less_right k K.YearMonthDuration (moment_good _ p k d refl).0 year_month_none) (moved_fits k d _ _)
-difference_fits o (V'.Moment k d) (V'.Duration f) p q = settled (refuses wrong_kind) S.Clash (less_right k K.Duration (moment_good _ p k d refl).0 general_none) refl
 difference_fits o (V'.DayTime t) (V'.Moment k d) p q = settled (refuses wrong_kind) S.Clash (less_left k K.DayTimeDuration (moment_good _ q k d refl).0 day_time_none) refl
 difference_fits o (V'.DayTime t) (V'.DayTime u) p q = ticks_fit _ _
 difference_fits o (V'.DayTime t) (V'.YearMonth m) p q = refl
-difference_fits o (V'.DayTime t) (V'.Duration f) p q = refl
 difference_fits o (V'.YearMonth m) (V'.Moment k d) p q = settled (refuses wrong_kind) S.Clash (less_left k K.YearMonthDuration (moment_good _ q k d refl).0 year_month_none) refl
 difference_fits o (V'.YearMonth m) (V'.DayTime t) p q = refl
 difference_fits o (V'.YearMonth m) (V'.YearMonth n) p q = months_fit _ _
-difference_fits o (V'.YearMonth m) (V'.Duration f) p q = refl
-difference_fits o (V'.Duration f) (V'.Moment k d) p q = settled (refuses wrong_kind) S.Clash (less_left k K.Duration (moment_good _ q k d refl).0 general_none) refl
-difference_fits o (V'.Duration f) (V'.DayTime t) p q = refl
-difference_fits o (V'.Duration f) (V'.YearMonth m) p q = refl
-difference_fits o (V'.Duration f) (V'.Duration g) p q = refl
 
 product_fits : (a : Value) (b : Bool) (n : ℕ) → ok_value a ≡ true → FitsSort (sort_times (S.Of (kind_of a))) (product_of a b n)
-unfolding product_of is_moment is_ordered
-product_fits (V'.Moment k d) b n p = settled (refuses wrong_kind) S.Clash (λ i. pick (pick (sym (moment_good _ p k d refl).0 i) false (is_ordered k)) (S.Of k) S.Clash) refl
+unfolding product_of is_moment
+product_fits (V'.Moment k d) b n p = settled (refuses wrong_kind) S.Clash (λ i. pick (sym (moment_good _ p k d refl).0 i) S.Clash (S.Of k)) refl
 product_fits (V'.DayTime t) b n p = fits_either K.DayTimeDuration b _ _ (ticks_fit _ _) (ticks_fit _ _)
 product_fits (V'.YearMonth m) b n p = fits_either K.YearMonthDuration b _ _ (months_fit _ _) (months_fit _ _)
-product_fits (V'.Duration f) b n p = refl
 
 module _ (a : Value) (p : ok_value a ≡ true) where
   module _ (b : Value) (q : ok_value b ≡ true) where
@@ -203,15 +177,10 @@ module _ (a : Value) (p : ok_value a ≡ true) where
     unfolding minus_in both
     minus_settled zone g = rw (minus_in_zone zone a b g, p, q) (difference_fits zone a b p q)
 
-    pub order_settled : (zone : Offset) → ok_offset zone ≡ true → ordered_kinds (kind_of a) (kind_of b) ≡ true
+    pub order_settled : (zone : Offset) → ok_offset zone ≡ true → same_kind (kind_of a) (kind_of b) ≡ true
         → order_for zone a b ≡ gives (value_order zone a b)
     unfolding order_in both
     order_settled zone g h = rw (order_in_zone zone a b g, p, q, h)
-
-    pub equality_settled : (zone : Offset) → ok_offset zone ≡ true → equality.equal_kinds (kind_of a) (kind_of b) ≡ true
-        → equality.equal_for zone a b ≡ gives (equality.same_value zone a b)
-    unfolding equality.equal_in both
-    equality_settled zone g h = rw (equal_in_zone zone a b g, p, q, h)
 
   pub times_settled : (b : Bool) (n : ℕ) → n ≤ max_factor → FitsSort (sort_times (S.Of (kind_of a))) (times_of a b n)
   unfolding times_of both

@@ -2,7 +2,7 @@
 -- false left, isn't evaluated; all else is, up to the first refusal." What an operator gives of what its sides give: a value or a
 -- truth value, or the first refusal. Kinds that do not fit are 9; an accepted condition has none. Values without zone count in the zone
 -- given.
-use Rattle.std.specs.Prelude.{◌≡◌, Bool, true, false, not, ℕ}
+use Rattle.std.specs.Prelude.{◌≡◌, Bool, true, false, ℕ}
 use Rattle.basis.specs.Choice.{pick}
 use Rattle.basis.specs.Answer.{Reason, Answer, gives, refuses_for, refuses, and_then}
 use Rattle.value.specs.Refusals.{wrong_kind}
@@ -10,7 +10,6 @@ use Rattle.value.specs.declared.Offset.{Offset}
 use Rattle.value.specs.declared.Kind.{Kind}
 use Rattle.value.specs.declared.Value.{Value}
 use Rattle.operation_ordering.specs.Order.{Order, less, equal, greater, order_for}
-use Rattle.operation_equality.specs.Equality.{equal_for}
 use Rattle.operation_arithmetic.specs.Sums.{plus_of, minus_for}
 use Rattle.operation_arithmetic.specs.Products.{times_of}
 use Rattle.operation_casting.specs.Casts.{cast_of}
@@ -18,13 +17,8 @@ use Rattle.condition_symbols.specs.declared.Op.{Op}
 use Rattle.condition_symbols.specs.declared.Op.TheVariants as O
 use Rattle.condition_operators.specs.Roles.{role_of, joins, settles}
 use Rattle.condition_operators.specs.declared.Role.{Role}
-use Rattle.condition_operators.specs.declared.Role.TheVariants.{Joins, Equates, Compares, Adds, Subtracts}
+use Rattle.condition_operators.specs.declared.Role.TheVariants.{Joins, Compares, Adds, Subtracts}
 use Rattle.condition_givens.specs.Data.{Datum, value, truth, valued}
-
--- what `eq` and `ne` give of the answer whether the two are equal: that it is so, or the opposite
-abbrev pub equated : Bool → Answer Bool → Answer Datum
-equated e (gives same) = gives (truth (pick same e (not e)))
-equated e (refuses_for r) = refuses_for r
 
 -- whether a comparison holds, by what it says of a left value that is less (l), equal (e) or greater (g)
 abbrev pub holds : Bool → Bool → Bool → Order → Bool
@@ -40,7 +34,6 @@ tested l e g (refuses_for r) = refuses_for r
 -- an operator between two values, by what it does
 abbrev pub of_values : Offset → Role → Value → Value → Answer Datum
 of_values zone (Joins by) a b = refuses wrong_kind
-of_values zone (Equates e) a b = equated e (equal_for zone a b)
 of_values zone (Compares l e g) a b = tested l e g (order_for zone a b)
 of_values zone Adds a b = valued (plus_of a b)
 of_values zone Subtracts a b = valued (minus_for zone a b)

@@ -12,19 +12,16 @@ use Rattle.value.specs.declared.Offset.{Offset}
 use Rattle.value.specs.declared.Kind.{Kind}
 use Rattle.value.specs.declared.Value.{Value}
 use Rattle.operation_ordering.specs.Order.{order_for}
-use Rattle.operation_equality.specs.Equality.{equal_for}
 use Rattle.operation_casting.specs.Casts.{cast_of}
 use Rattle.operation_arithmetic.specs.Sums.{plus_of, minus_for}
 use Rattle.operation_arithmetic.specs.Products.{times_of, max_factor}
-use Rattle.condition_sorts.specs.Sorts.{equated_kinds, compared_kinds, added_kinds, less_kinds, sort_cast, sort_times}
+use Rattle.condition_sorts.specs.Sorts.{compared_kinds, added_kinds, less_kinds, sort_cast, sort_times}
 use Rattle.condition_sorts.specs.declared.Sort.TheVariants.{Clash, Of}
 
 pub record ClashIs9 : Type 0 where
   pub of_plus : (a b : Value) → ok_value a ≡ true → ok_value b ≡ true → Exactly (added_kinds (kind_of a) (kind_of b) ≡ Clash) (plus_of a b ≡ refuses wrong_kind)
   pub of_minus : (zone : Offset) (a b : Value) → ok_offset zone ≡ true → ok_value a ≡ true → ok_value b ≡ true →
       Exactly (less_kinds (kind_of a) (kind_of b) ≡ Clash) (minus_for zone a b ≡ refuses wrong_kind)
-  pub of_equality : (zone : Offset) (a b : Value) → ok_offset zone ≡ true → ok_value a ≡ true → ok_value b ≡ true →
-      Exactly (equated_kinds (kind_of a) (kind_of b) ≡ Clash) (equal_for zone a b ≡ refuses wrong_kind)
   pub of_order : (zone : Offset) (a b : Value) → ok_offset zone ≡ true → ok_value a ≡ true → ok_value b ≡ true →
       Exactly (compared_kinds (kind_of a) (kind_of b) ≡ Clash) (order_for zone a b ≡ refuses wrong_kind)
   pub of_times : (a : Value) (negative : Bool) (n : ℕ) → ok_value a ≡ true → n ≤ max_factor →

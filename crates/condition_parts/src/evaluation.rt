@@ -1,7 +1,6 @@
 // What the operations give of what the parts below them give.
 ghost use Rattle.std.specs.Prelude.{◌≡◌};
 ghost use Rattle.operation_ordering.specs.Order as orders;
-ghost use Rattle.operation_equality.specs.Equality as equality;
 ghost use Rattle.condition_givens.specs.Data.{value, truth};
 ghost use Rattle.condition_givens.specs.Carried.{given_of};
 ghost use Rattle.condition_parts.specs.Evaluation as its;
@@ -10,7 +9,6 @@ ghost use Rattle.condition_parts.specs.Carried as the;
 use condition_givens::{Given, Mode, refused, valued};
 use condition_operators::{Role, joins, role_of, settles};
 use condition_symbols::Op;
-use operation_equality::Equated;
 use operation_ordering::Compared;
 use value::{Kind, Offset, Refusal, Value};
 
@@ -36,21 +34,6 @@ pub fn times(negative: bool, n: u32, a: Given) -> Given
     }
 }
 
-// What `eq` and `ne` give of the answer whether the two are equal.
-fn equated(equal: bool, answer: Equated) -> Given
-    ensures { result ≡ given_of (its.equated equal (equality.equated_meaning answer)) }
-{
-    match answer {
-        Equated::Is(same) => {
-            if same {
-                return Given::Truth(equal);
-            }
-            Given::Truth(!equal)
-        }
-        Equated::Refused(r) => Given::Refused(r),
-    }
-}
-
 // What a comparison gives of the order that was answered.
 fn tested(less: bool, equal: bool, greater: bool, order: Compared) -> Given
     ensures { result ≡ given_of (its.tested less equal greater (orders.compared_meaning order)) }
@@ -69,7 +52,6 @@ fn of_values(role: Role, a: Value, b: Value, zone: Offset) -> Given
 {
     match role {
         Role::Joins(_) => refused(Refusal::WRONG_KIND),
-        Role::Equates(equal) => equated(equal, operation::equal_for(a, b, zone)),
         Role::Compares(less, equal, greater) => tested(
             less,
             equal,

@@ -1,18 +1,15 @@
--- Document 01, "Conditions": "Kinds are settled by the text alone. Only values of one kind are compared; `and`, `or`
--- and the whole condition need truth values, which are never compared or added." Which kinds fit each operation of
--- "Operations". Document 02, n, goes beyond it: the kinds that it adds have "`eq` and `ne` only", and these two also
--- hold between durations of different kinds.
+-- Document 01, "Conditions": "Kinds are settled by the text alone. Only values of one kind are compared; `and`, `or` and the
+-- whole condition need truth values, which are never compared or added." Which kinds fit each operation of "Operations".
 use Rattle.std.specs.Prelude.{Bool, true, false}
-use Rattle.basis.specs.Choice.{pick, both}
-use Rattle.value.specs.Rows.{same_kind, is_moment, is_dated, is_clocked, is_ordered, ordered_kinds}
+use Rattle.basis.specs.Choice.{pick}
+use Rattle.value.specs.Rows.{same_kind, is_moment, is_dated, is_clocked}
 use Rattle.value.specs.declared.Kind.{Kind}
 use Rattle.value.specs.declared.Kind.TheVariants as K
 use Rattle.operation_casting.specs.Casts.{casts_to}
-use Rattle.operation_equality.specs.Equality.{equal_kinds}
 use Rattle.condition_symbols.specs.declared.Op.{Op}
 use Rattle.condition_operators.specs.Roles.{role_of, joins}
 use Rattle.condition_operators.specs.declared.Role.{Role}
-use Rattle.condition_operators.specs.declared.Role.TheVariants.{Joins, Equates, Compares, Adds, Subtracts}
+use Rattle.condition_operators.specs.declared.Role.TheVariants.{Joins, Compares, Adds, Subtracts}
 use Rattle.condition_sorts.specs.declared.Sort.{Sort}
 use Rattle.condition_sorts.specs.declared.Sort.TheVariants.{Clash, Truth, Of}
 
@@ -22,30 +19,21 @@ unfoldable pub takes : Kind → Kind → Bool
 takes j k =
     pick (same_kind k K.DayTimeDuration) (pick (is_dated j) true (is_clocked j)) (pick (same_kind k K.YearMonthDuration) (is_dated j) false)
 
--- `eq` and `ne`: moments of one kind, and durations of any two
-unfoldable pub equated_kinds : Kind → Kind → Sort
-equated_kinds j k = pick (equal_kinds j k) Truth Clash
-
--- `lt le gt ge`: values of one kind that has an order
+-- "Only values of one kind are compared"
 unfoldable pub compared_kinds : Kind → Kind → Sort
-compared_kinds j k = pick (ordered_kinds j k) Truth Clash
-
--- whether durations of a kind add and are multiplied: those that have an order
-abbrev pub is_quantity : Kind → Bool
-is_quantity k = pick (is_moment k) false (is_ordered k)
+compared_kinds j k = pick (same_kind j k) Truth Clash
 
 -- "A duration may stand left of plus"; "Durations of one kind add"
 unfoldable pub added_kinds : Kind → Kind → Sort
-added_kinds j k = pick (takes j k) (Of j) (pick (takes k j) (Of k) (pick (both (is_quantity j) (same_kind j k)) (Of j) Clash))
+added_kinds j k = pick (takes j k) (Of j) (pick (takes k j) (Of k) (pick (is_moment j) Clash (pick (same_kind j k) (Of j) Clash)))
 
 -- "dateTime - dateTime, date - date, time - time: a dayTimeDuration"; "Durations of one kind .. subtract"
 unfoldable pub less_kinds : Kind → Kind → Sort
-less_kinds j k = pick (takes j k) (Of j) (pick (ordered_kinds j k) (pick (is_moment j) (Of K.DayTimeDuration) (Of j)) Clash)
+less_kinds j k = pick (takes j k) (Of j) (pick (same_kind j k) (pick (is_moment j) (Of K.DayTimeDuration) (Of j)) Clash)
 
 -- two kinds with an operator between, by what it does
 abbrev pub kinds_of : Role → Kind → Kind → Sort
 kinds_of (Joins by) j k = Clash
-kinds_of (Equates equal) j k = equated_kinds j k
 kinds_of (Compares less equal greater) j k = compared_kinds j k
 kinds_of Adds j k = added_kinds j k
 kinds_of Subtracts j k = less_kinds j k
@@ -70,4 +58,4 @@ sort_cast k (Of j) = pick (casts_to j k) (Of k) Clash
 abbrev pub sort_times : Sort → Sort
 sort_times Clash = Clash
 sort_times Truth = Clash
-sort_times (Of k) = pick (is_quantity k) (Of k) Clash
+sort_times (Of k) = pick (is_moment k) Clash (Of k)

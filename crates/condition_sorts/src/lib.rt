@@ -1,5 +1,4 @@
-// What the text alone settles of a condition's parts: which kinds fit each operation (document 01, "Conditions", and
-// document 02, n).
+// What the text alone settles of a condition's parts: which kinds fit each operation (document 01, "Conditions").
 ghost use Rattle.std.specs.Prelude.{◌≡◌};
 ghost use Rattle.condition_sorts.specs.Sorts as the;
 
@@ -7,7 +6,7 @@ use condition_operators::{Role, joins, role_of};
 use condition_symbols::Op;
 use operation_casting::casts_to;
 use value::Kind;
-use value::kinds::{is_clocked, is_dated, is_moment, is_ordered, ordered, same};
+use value::kinds::{is_clocked, is_dated, is_moment, same};
 
 // What the text alone settles of a part: that kinds do not fit, a truth value, or a value of a kind.
 #[derive(Drop)]
@@ -33,32 +32,13 @@ fn takes(kind: Kind, by: Kind) -> bool
     false
 }
 
-fn equated(a: Kind, b: Kind) -> Sort
-    ensures { result ≡ the.equated_kinds a b }
-{
-    if operation_equality::equal_kinds(a, b) {
-        return Sort::Truth;
-    }
-    Sort::Clash
-}
-
 fn compared(a: Kind, b: Kind) -> Sort
     ensures { result ≡ the.compared_kinds a b }
 {
-    if ordered(a, b) {
+    if same(a, b) {
         return Sort::Truth;
     }
     Sort::Clash
-}
-
-// Whether durations of a kind add and are multiplied.
-fn is_quantity(kind: Kind) -> bool
-    ensures { result ≡ the.is_quantity kind }
-{
-    if is_moment(kind) {
-        return false;
-    }
-    is_ordered(kind)
 }
 
 fn added(a: Kind, b: Kind) -> Sort
@@ -70,7 +50,7 @@ fn added(a: Kind, b: Kind) -> Sort
     if takes(b, a) {
         return Sort::Of(b);
     }
-    if !is_quantity(a) {
+    if is_moment(a) {
         return Sort::Clash;
     }
     if same(a, b) {
@@ -85,7 +65,7 @@ fn less(a: Kind, b: Kind) -> Sort
     if takes(a, b) {
         return Sort::Of(a);
     }
-    if ordered(a, b) {
+    if same(a, b) {
         if is_moment(a) {
             return Sort::Of(Kind::DayTimeDuration);
         }
@@ -99,7 +79,6 @@ fn kinds(role: Role, a: Kind, b: Kind) -> Sort
 {
     match role {
         Role::Joins(_) => Sort::Clash,
-        Role::Equates(_) => equated(a, b),
         Role::Compares(_, _, _) => compared(a, b),
         Role::Adds => added(a, b),
         Role::Subtracts => less(a, b),
@@ -155,10 +134,10 @@ pub fn times(a: Sort) -> Sort
         Sort::Clash => Sort::Clash,
         Sort::Truth => Sort::Clash,
         Sort::Of(k) => {
-            if is_quantity(k) {
-                return Sort::Of(k);
+            if is_moment(k) {
+                return Sort::Clash;
             }
-            Sort::Clash
+            Sort::Of(k)
         }
     }
 }

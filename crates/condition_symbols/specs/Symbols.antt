@@ -67,25 +67,14 @@ sign_at s at =
     pick (eqb (get_or s (skipped s at) 0) (code "+")) (J.At O.Plus (skipped s at) (skipped s at + 1))
     (pick (eqb (get_or s (skipped s at) 0) (code "-")) (J.At O.Minus (skipped s at) (skipped s at + 1)) J.No)
 
--- the six names of document 02, n: "Add gYear, gYearMonth, gMonth, gMonthDay, gDay and the general duration"
-unfoldable pub other_named : List ℕ → Named
-other_named w =
-    pick (same w (bytes "xs:gYear")) (N.Is K.GYear)
-    (pick (same w (bytes "xs:gYearMonth")) (N.Is K.GYearMonth)
-    (pick (same w (bytes "xs:gMonth")) (N.Is K.GMonth)
-    (pick (same w (bytes "xs:gMonthDay")) (N.Is K.GMonthDay)
-    (pick (same w (bytes "xs:gDay")) (N.Is K.GDay)
-    (pick (same w (bytes "xs:duration")) (N.Is K.Duration) N.No)))))
-
--- the kind that a word names: "`xs:date`, `xs:time`, `xs:dateTime`, `xs:dayTimeDuration` or `xs:yearMonthDuration`", or
--- one of the six
+-- "`xs:date`, `xs:time`, `xs:dateTime`, `xs:dayTimeDuration` or `xs:yearMonthDuration`"
 unfoldable pub named : List ℕ → Named
 named w =
     pick (same w (bytes "xs:date")) (N.Is K.Date)
     (pick (same w (bytes "xs:time")) (N.Is K.Time)
     (pick (same w (bytes "xs:dateTime")) (N.Is K.DateTime)
     (pick (same w (bytes "xs:dayTimeDuration")) (N.Is K.DayTimeDuration)
-    (pick (same w (bytes "xs:yearMonthDuration")) (N.Is K.YearMonthDuration) (other_named w)))))
+    (pick (same w (bytes "xs:yearMonthDuration")) (N.Is K.YearMonthDuration) N.No))))
 
 -- a kind's name goes on with a parenthesis
 abbrev pub kind_start : Kind → ℕ → Mark → Start

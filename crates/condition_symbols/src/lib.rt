@@ -198,31 +198,6 @@ pub fn kind_named(w: &[u8]) -> Named
     if same(w, b"xs:yearMonthDuration") {
         return Named::Is(Kind::YearMonthDuration);
     }
-    other_kind_named(w)
-}
-
-// The kind of document 02, n, that a word names.
-fn other_kind_named(w: &[u8]) -> Named
-    ensures { result ≡ the.other_named w.now }
-{
-    if same(w, b"xs:gYear") {
-        return Named::Is(Kind::GYear);
-    }
-    if same(w, b"xs:gYearMonth") {
-        return Named::Is(Kind::GYearMonth);
-    }
-    if same(w, b"xs:gMonth") {
-        return Named::Is(Kind::GMonth);
-    }
-    if same(w, b"xs:gMonthDay") {
-        return Named::Is(Kind::GMonthDay);
-    }
-    if same(w, b"xs:gDay") {
-        return Named::Is(Kind::GDay);
-    }
-    if same(w, b"xs:duration") {
-        return Named::Is(Kind::Duration);
-    }
     Named::No
 }
 

@@ -25,13 +25,12 @@ use Rattle.value.specs.declared.DateTime.{DateTime}
 use Rattle.value.specs.declared.Kind.{Kind}
 use Rattle.value.specs.declared.Kind.TheVariants as KV
 use Rattle.value.specs.declared.Value.TheVariants as VV
-use Rattle.library_lines.specs.Given.{two_bytes, one_byte, four_bytes, with_sign, no_signed, after_sign, signed_of, offset_of, zone_by, zone_given, day_given, day_at, time_given, time_at, lasting_given, lasting_at, general_given, general_at, record_parts, moment_given, moment_at, given_moment, day_time_in, given_day_time, given_year_month, general_in, given_general, unless_more, moment_by, day_time_by, year_month_by, general_by, duration_by, record_by, record_named, record_at}
+use Rattle.library_lines.specs.Given.{two_bytes, one_byte, four_bytes, with_sign, no_signed, after_sign, signed_of, offset_of, zone_by, zone_given, day_given, day_at, time_given, time_at, lasting_given, lasting_at, record_parts, moment_given, moment_at, given_moment, day_time_in, given_day_time, given_year_month, unless_more, moment_by, day_time_by, year_month_by, duration_by, record_by, record_named, record_at}
 use Rattle.library_lines.specs.declared.given.Signed.{Signed}
 use Rattle.library_lines.specs.declared.given.Zoned.{Zoned}
 use Rattle.library_lines.specs.declared.given.Day.{Day}
 use Rattle.library_lines.specs.declared.given.TimeGiven.{TimeGiven}
 use Rattle.library_lines.specs.declared.given.LastingGiven.{LastingGiven}
-use Rattle.library_lines.specs.declared.given.GeneralGiven.{GeneralGiven}
 use Rattle.library_lines.specs.declared.given.Moment.{Moment}
 use Rattle.library_lines.specs.declared.given.GivenRecord.{GivenRecord}
 use Rattle.library_lines.specs.declared.given.GivenRecord.TheVariants as G
@@ -121,16 +120,6 @@ lasting_read line i {g} {s} {n} eg efs es efn en =
     ap (λ (b : Bool). lasting_with b s n) eg
     ∙ (λ j. lasting_given ((es ∙ ap (signed_of greatest) efs) j) ((en ∙ ap (number_of four_bytes) efn) j))
 
-abbrev general_of_all : Bool → Signed → FieldNumber → FieldNumber → GeneralGiven
-general_of_all g m s n = record { good = g; negative = m.negative; months = m.value; seconds = s.value; nanoseconds = n.value }
-
-pub general_read : (line : List ℕ) (i : ℕ) {g : Bool} {m : Signed} {s n : FieldNumber} {fm fs fn : List ℕ} → g ≡ every (m.good ∷ s.good ∷ n.good ∷ [])
-    → fm ≡ field_at line i → m ≡ signed_of four_bytes fm → fs ≡ field_at line (i + 1) → s ≡ number_of greatest fs → fn ≡ field_at line (i + 2) → n ≡ number_of four_bytes fn → general_of_all g m s n ≡ general_at line i
-unfolding general_at
-general_read line i {g} {m} {s} {n} eg efm em efs es efn en =
-    ap (λ (b : Bool). general_of_all b m s n) eg
-    ∙ (λ j. general_given ((em ∙ ap (signed_of four_bytes) efm) j) ((es ∙ ap (number_of greatest) efs) j) ((en ∙ ap (number_of four_bytes) efn) j))
-
 abbrev moment_with : Bool → DateTime → Moment
 moment_with g p = record { good = g; parts = p }
 
@@ -159,12 +148,6 @@ no_year_month n q = second_of {b = n.good} (G.Is (VV.YearMonth (record { negativ
 pub is_year_month : (n : Signed) → not n.good ≡ false → G.Is (VV.YearMonth (record { negative = n.negative; months = n.value })) ≡ given_year_month n
 is_year_month n q = first_of {b = n.good} (G.Is (VV.YearMonth (record { negative = n.negative; months = n.value }))) G.No (yes refl q)
 
-pub no_general : (n : GeneralGiven) → not n.good ≡ true → G.No ≡ given_general n
-no_general n q = second_of {b = n.good} (G.Is (VV.Duration (general_in n))) G.No (no refl q)
-
-pub is_general : (n : GeneralGiven) → not n.good ≡ false → G.Is (VV.Duration (general_in n)) ≡ given_general n
-is_general n q = first_of {b = n.good} (G.Is (VV.Duration (general_in n))) G.No (yes refl q)
-
 module _ (line : List ℕ) (i : ℕ) {r g : GivenRecord} {h : Bool} (er : r ≡ unless_more h g) where
   pub by_moment : (k : Kind) {m : Moment} → h ≡ has_field line (i + 6) → m ≡ moment_at line i → g ≡ given_moment k m → r ≡ moment_by k line i
   by_moment k eh em eg = er ∙ (λ j. unless_more (eh j) ((eg ∙ ap (given_moment k) em) j))
@@ -174,16 +157,6 @@ module _ (line : List ℕ) (i : ℕ) {r g : GivenRecord} {h : Bool} (er : r ≡ 
 
   pub by_year_month : {n : Signed} {f : List ℕ} → h ≡ has_field line (i + 1) → f ≡ field_at line i → n ≡ signed_of four_bytes f → g ≡ given_year_month n → r ≡ year_month_by line i
   by_year_month eh ef en eg = er ∙ (λ j. unless_more (eh j) ((eg ∙ ap given_year_month (en ∙ ap (signed_of four_bytes) ef)) j))
-
-  pub by_general : {n : GeneralGiven} → h ≡ has_field line (i + 3) → n ≡ general_at line i → g ≡ given_general n → r ≡ general_by line i
-  by_general eh en eg = er ∙ (λ j. unless_more (eh j) ((eg ∙ ap given_general en) j))
-
--- the durations after the first kind of them, and after the second
-abbrev third_by : Kind → List ℕ → ℕ → GivenRecord
-third_by k line i = pick (same_kind k KV.Duration) (general_by line i) G.No
-
-abbrev second_by : Kind → List ℕ → ℕ → GivenRecord
-second_by k line i = pick (same_kind k KV.YearMonthDuration) (year_month_by line i) (third_by k line i)
 
 module _ (k : Kind) (line : List ℕ) (i : ℕ) {r : GivenRecord} where
   pub of_moment_lem : is_moment k ≡ true → r ≡ moment_by k line i → r ≡ record_by k line i
@@ -196,24 +169,17 @@ module _ (k : Kind) (line : List ℕ) (i : ℕ) {r : GivenRecord} where
     of_duration_lem e = e ∙ second_of (moment_by k line i) (duration_by k line i) p
 
     pub of_day_time : same_kind k KV.DayTimeDuration ≡ true → r ≡ day_time_by line i → r ≡ record_by k line i
-    of_day_time q e = of_duration_lem (e ∙ first_of (day_time_by line i) (second_by k line i) q)
+    of_day_time q e = of_duration_lem (e ∙ first_of (day_time_by line i) (pick (same_kind k KV.YearMonthDuration) (year_month_by line i) G.No) q)
 
     module _ (q : same_kind k KV.DayTimeDuration ≡ false) where
-      of_other : r ≡ second_by k line i → r ≡ record_by k line i
-      of_other e = of_duration_lem (e ∙ second_of (day_time_by line i) (second_by k line i) q)
+      of_other : r ≡ pick (same_kind k KV.YearMonthDuration) (year_month_by line i) G.No → r ≡ record_by k line i
+      of_other e = of_duration_lem (e ∙ second_of (day_time_by line i) (pick (same_kind k KV.YearMonthDuration) (year_month_by line i) G.No) q)
 
       pub of_year_month : same_kind k KV.YearMonthDuration ≡ true → r ≡ year_month_by line i → r ≡ record_by k line i
-      of_year_month w e = of_other (e ∙ first_of (year_month_by line i) (third_by k line i) w)
+      of_year_month w e = of_other (e ∙ first_of (year_month_by line i) G.No w)
 
-      module _ (w : same_kind k KV.YearMonthDuration ≡ false) where
-        of_last : r ≡ third_by k line i → r ≡ record_by k line i
-        of_last e = of_other (e ∙ second_of (year_month_by line i) (third_by k line i) w)
-
-        pub of_general : same_kind k KV.Duration ≡ true → r ≡ general_by line i → r ≡ record_by k line i
-        of_general z e = of_last (e ∙ first_of (general_by line i) G.No z)
-
-        pub of_none : same_kind k KV.Duration ≡ false → r ≡ G.No → r ≡ record_by k line i
-        of_none z e = of_last (e ∙ second_of (general_by line i) G.No z)
+      pub of_none : same_kind k KV.YearMonthDuration ≡ false → r ≡ G.No → r ≡ record_by k line i
+      of_none w e = of_other (e ∙ second_of (year_month_by line i) G.No w)
 
 pub record_named_lem : (line : List ℕ) (i : ℕ) {f : List ℕ} {x y : Named} → f ≡ field_at line i → x ≡ named f → x ≡ y → record_named y line (i + 1) ≡ record_at line i
 unfolding record_at

@@ -12,14 +12,13 @@ use Rattle.condition_symbols.specs.declared.Named.TheVariants as N
 use Rattle.line_fields.specs.Numbers.{greatest, number_of}
 use Rattle.line_fields.specs.declared.numbers.FieldNumber.{FieldNumber}
 use Rattle.value.specs.Rows.{same_kind, is_moment}
-use Rattle.value.specs.Clocks.{with_time, with_size, general_with}
+use Rattle.value.specs.Clocks.{with_time, with_size}
 use Rattle.value.specs.declared.Offset.{Offset}
 use Rattle.value.specs.declared.Offset.TheVariants.{East, West}
 use Rattle.value.specs.declared.Zone.{Zone}
 use Rattle.value.specs.declared.Zone.TheVariants.{Absent, At}
 use Rattle.value.specs.declared.DateTime.{DateTime}
 use Rattle.value.specs.declared.DayTime.{DayTime}
-use Rattle.value.specs.declared.Duration.{Duration}
 use Rattle.value.specs.declared.Kind.{Kind}
 use Rattle.value.specs.declared.Kind.TheVariants as KV
 use Rattle.value.specs.declared.Value.TheVariants as VV
@@ -28,7 +27,6 @@ use Rattle.library_lines.specs.declared.given.Zoned.{Zoned}
 use Rattle.library_lines.specs.declared.given.Day.{Day}
 use Rattle.library_lines.specs.declared.given.TimeGiven.{TimeGiven}
 use Rattle.library_lines.specs.declared.given.LastingGiven.{LastingGiven}
-use Rattle.library_lines.specs.declared.given.GeneralGiven.{GeneralGiven}
 use Rattle.library_lines.specs.declared.given.Moment.{Moment}
 use Rattle.library_lines.specs.declared.given.GivenRecord.{GivenRecord}
 use Rattle.library_lines.specs.declared.given.GivenRecord.TheVariants as G
@@ -92,24 +90,6 @@ lasting_given s n =
 unfoldable pub lasting_at : List ℕ → ℕ → LastingGiven
 lasting_at line i = lasting_given (signed_of greatest (field_at line i)) (number_of four_bytes (field_at line (i + 1)))
 
--- S in months, SECONDS and NANO in three fields: one sign for all
-abbrev pub general_given : Signed → FieldNumber → FieldNumber → GeneralGiven
-general_given m s n =
-    record {
-      good = every (m.good ∷ s.good ∷ n.good ∷ []);
-      negative = m.negative;
-      months = m.value;
-      seconds = s.value;
-      nanoseconds = n.value;
-    }
-
-unfoldable pub general_at : List ℕ → ℕ → GeneralGiven
-general_at line i =
-    general_given
-    (signed_of four_bytes (field_at line i))
-    (number_of greatest (field_at line (i + 1)))
-    (number_of four_bytes (field_at line (i + 2)))
-
 abbrev pub record_parts : Day → TimeGiven → Zone → DateTime
 record_parts d t zone = with_time (record { year = d.year; month = d.month; day = d.day }) t.second t.nanosecond zone
 
@@ -120,7 +100,7 @@ moment_given d t z = record { good = every (d.good ∷ t.good ∷ z.good ∷ [])
 unfoldable pub moment_at : List ℕ → ℕ → Moment
 moment_at line i = moment_given (day_at line i) (time_at line (i + 3)) (zone_given (field_at line (i + 5)))
 
--- the moment that such fields are
+-- the date, time or dateTime that such fields are
 abbrev pub given_moment : Kind → Moment → GivenRecord
 given_moment k m = pick m.good (G.Is (VV.Moment k m.parts)) G.No
 
@@ -132,12 +112,6 @@ given_day_time n = pick n.good (G.Is (VV.DayTime (day_time_in n))) G.No
 
 abbrev pub given_year_month : Signed → GivenRecord
 given_year_month n = pick n.good (G.Is (VV.YearMonth (record { negative = n.negative; months = n.value }))) G.No
-
-abbrev pub general_in : GeneralGiven → Duration
-general_in n = general_with n.negative n.months n.seconds n.nanoseconds
-
-abbrev pub given_general : GeneralGiven → GivenRecord
-given_general n = pick n.good (G.Is (VV.Duration (general_in n))) G.No
 
 -- "V is the rest of the line": no field stands after it
 abbrev pub unless_more : Bool → GivenRecord → GivenRecord
@@ -152,16 +126,11 @@ day_time_by line i = unless_more (has_field line (i + 2)) (given_day_time (lasti
 abbrev pub year_month_by : List ℕ → ℕ → GivenRecord
 year_month_by line i = unless_more (has_field line (i + 1)) (given_year_month (signed_of four_bytes (field_at line i)))
 
-abbrev pub general_by : List ℕ → ℕ → GivenRecord
-general_by line i = unless_more (has_field line (i + 3)) (given_general (general_at line i))
-
 abbrev pub duration_by : Kind → List ℕ → ℕ → GivenRecord
 duration_by k line i =
-    pick (same_kind k KV.DayTimeDuration) (day_time_by line i)
-    (pick (same_kind k KV.YearMonthDuration) (year_month_by line i)
-    (pick (same_kind k KV.Duration) (general_by line i) G.No))
+    pick (same_kind k KV.DayTimeDuration) (day_time_by line i) (pick (same_kind k KV.YearMonthDuration) (year_month_by line i) G.No)
 
--- the record of a kind: a moment, or a duration
+-- the record of a kind: a date, time or dateTime, or a duration
 unfoldable pub record_by : Kind → List ℕ → ℕ → GivenRecord
 record_by k line i = pick (is_moment k) (moment_by k line i) (duration_by k line i)
 

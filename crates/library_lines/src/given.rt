@@ -13,9 +13,9 @@ use timetable::fields::{field, has_field};
 use value::{DateTime, Kind, Offset, Value, YearMonth, Zone, clocks, kinds};
 
 // The greatest numbers of one, two and four bytes.
-pub const ONE_BYTE: usize = 255;
+const ONE_BYTE: usize = 255;
 
-pub const TWO_BYTES: usize = 65_535;
+const TWO_BYTES: usize = 65_535;
 
 pub const FOUR_BYTES: usize = 4_294_967_295;
 
@@ -60,17 +60,7 @@ pub struct LastingGiven {
     pub nanoseconds: u32,
 }
 
-// The numbers of a general duration, whether there is such a one or not.
-#[derive(Drop)]
-pub struct GeneralGiven {
-    pub good: bool,
-    pub negative: bool,
-    pub months: u32,
-    pub seconds: u64,
-    pub nanoseconds: u32,
-}
-
-// The record of a moment.
+// The record of a date, a time or a dateTime.
 #[derive(Drop)]
 pub struct Moment {
     pub good: bool,
@@ -208,24 +198,6 @@ pub fn lasting_at(line: &[u8], at: usize) -> LastingGiven
     }
 }
 
-// Months with a sign, seconds and nanoseconds, in three fields.
-pub fn general_at(line: &[u8], at: usize) -> GeneralGiven
-    requires { at ≤ 5 }
-    ensures { result ≡ the.general_at line.now at }
-{
-    let m = signed_number(field(line, at), FOUR_BYTES);
-    let s = read(field(line, at + 1), GREATEST);
-    let n = read(field(line, at + 2), FOUR_BYTES);
-    let good = all_three(m.good, s.good, n.good);
-    GeneralGiven {
-        good,
-        negative: m.negative,
-        months: m.value as u32,
-        seconds: s.value as u64,
-        nanoseconds: n.value as u32,
-    }
-}
-
 fn parts_of(d: Day, t: TimeGiven, zone: Zone) -> DateTime
     ensures { result ≡ the.record_parts d t zone }
 {
@@ -283,20 +255,6 @@ fn given_year_month(n: Signed) -> GivenRecord
     }))
 }
 
-fn given_general(n: GeneralGiven) -> GivenRecord
-    ensures { result ≡ the.given_general n }
-{
-    if !n.good {
-        return GivenRecord::No;
-    }
-    GivenRecord::Is(Value::Duration(clocks::general_with(
-        n.negative,
-        n.months,
-        n.seconds,
-        n.nanoseconds,
-    )))
-}
-
 // What a field after the last one makes of a record: none.
 fn unless_more(more: bool, g: GivenRecord) -> GivenRecord
     ensures { result ≡ the.unless_more more g }
@@ -331,14 +289,6 @@ fn year_month_by(line: &[u8], at: usize) -> GivenRecord
     unless_more(has_field(line, at + 1), given_year_month(n))
 }
 
-fn general_by(line: &[u8], at: usize) -> GivenRecord
-    requires { at ≤ 5 }
-    ensures { result ≡ the.general_by line.now at }
-{
-    let n = general_at(line, at);
-    unless_more(has_field(line, at + 3), given_general(n))
-}
-
 fn record_by(kind: Kind, line: &[u8], at: usize) -> GivenRecord
     requires { at ≤ 5 }
     ensures { result ≡ the.record_by kind line.now at }
@@ -351,9 +301,6 @@ fn record_by(kind: Kind, line: &[u8], at: usize) -> GivenRecord
     }
     if kinds::same(kind, Kind::YearMonthDuration) {
         return year_month_by(line, at);
-    }
-    if kinds::same(kind, Kind::Duration) {
-        return general_by(line, at);
     }
     GivenRecord::No
 }

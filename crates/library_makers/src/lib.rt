@@ -1,14 +1,12 @@
 // Values that are made of numbers. A maker answers the value, or 16 where a number is outside the bounds of its kind.
 use condition_words::cut;
 use library_lines::given::{
-    FOUR_BYTES, day_at, general_at, lasting_at, moment_at, signed_number, time_at, zone,
+    FOUR_BYTES, day_at, lasting_at, moment_at, signed_number, time_at, zone,
 };
 use library_told::{tell, tell_end, tell_no_call, tell_refused};
 use text::Written;
 use timetable::fields::{field, has_field};
-use value::{DateTime, DayTime, Duration, Outcome, Value, YearMonth};
-
-pub mod parts; // parts.rt: values that have parts of a date and no more
+use value::{DateTime, DayTime, Outcome, Value, YearMonth};
 
 // The longest text of a value has so many bytes.
 const LONGEST: usize = numerals::LONGEST;
@@ -26,7 +24,7 @@ fn tell_value(v: Value) {
     }
 }
 
-pub fn tell_made(made: Outcome) {
+fn tell_made(made: Outcome) {
     match made {
         Outcome::Is(v) => tell_value(v),
         Outcome::Refused(refusal) => tell_refused(refusal.number),
@@ -92,15 +90,4 @@ pub fn make_year_month(line: &[u8]) {
         return;
     }
     tell_made(YearMonth::new(n.negative, n.value as u32));
-}
-
-// `duration→S→SECONDS→NANO`
-pub fn make_duration(line: &[u8]) {
-    let n = general_at(line, 2);
-    let good = n.good & !has_field(line, 5);
-    if !good {
-        tell_no_call();
-        return;
-    }
-    tell_made(Duration::new(n.negative, n.months, n.seconds, n.nanoseconds));
 }

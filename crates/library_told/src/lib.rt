@@ -1,7 +1,6 @@
 // The lines that are written: what a call answered, a refusal by its number.
 use libc::STDOUT_FILENO;
 use library_lines::late::Lateness;
-use operation_equality::Equated;
 use operation_ordering::Compared;
 use value::Refusal;
 
@@ -37,22 +36,8 @@ pub fn tell_order(answer: Compared) {
         Compared::Less => tell(b"lt\n"),
         Compared::Equal => tell(b"eq\n"),
         Compared::Greater => tell(b"gt\n"),
-        // 16: a value given is outside the bounds; 9: the two are of different kinds, or of one without an order
+        // 16: a value given is outside the bounds; 9: the two are of different kinds
         Compared::Refused(refusal) => tell_refused(refusal.number),
-    }
-}
-
-pub fn tell_equality(answer: Equated) {
-    match answer {
-        Equated::Is(same) => {
-            if same {
-                tell(b"true\n");
-                return;
-            }
-            tell(b"false\n");
-        }
-        // 16: a value given is outside the bounds; 9: the two are of kinds that are not compared
-        Equated::Refused(refusal) => tell_refused(refusal.number),
     }
 }
 

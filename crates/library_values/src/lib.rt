@@ -1,14 +1,9 @@
 // The calls of the library example that are about values (docs/LINES.md, "Library example"): each reads the fields of a line, makes
 // the library's call, and writes what it answered.
 use condition_words::same;
-use library_makers::parts::{
-    make_g_day, make_g_month, make_g_month_day, make_g_year, make_g_year_month,
-};
-use library_makers::{
-    make_date, make_date_time, make_day_time, make_duration, make_time, make_year_month,
-};
+use library_makers::{make_date, make_date_time, make_day_time, make_time, make_year_month};
 use library_told::tell_no_call;
-use texts::{compare, compare_delay, equate, write_bytes, write_record, write_text};
+use texts::{compare, compare_delay, write_bytes, write_record, write_text};
 use timetable::fields::field;
 
 mod texts; // texts.rt: values read from text, written, compared and computed with
@@ -27,36 +22,10 @@ fn answer_text(line: &[u8], word: &[u8]) {
     if same(word, b"compare") {
         return compare(line);
     }
-    if same(word, b"equal") {
-        return equate(line);
-    }
     if same(word, b"late") {
         return compare_delay(line);
     }
     tell_no_call()
-}
-
-// The makers of the kinds of document 02, n, and the calls after them.
-fn answer_part(line: &[u8], word: &[u8]) {
-    if same(word, b"gYear") {
-        return make_g_year(line);
-    }
-    if same(word, b"gYearMonth") {
-        return make_g_year_month(line);
-    }
-    if same(word, b"gMonth") {
-        return make_g_month(line);
-    }
-    if same(word, b"gMonthDay") {
-        return make_g_month_day(line);
-    }
-    if same(word, b"gDay") {
-        return make_g_day(line);
-    }
-    if same(word, b"duration") {
-        return make_duration(line);
-    }
-    answer_text(line, word)
 }
 
 // Answers a call that is about values, and a line that is no call.
@@ -77,5 +46,5 @@ pub fn answer(line: &[u8]) {
     if same(word, b"yearMonth") {
         return make_year_month(line);
     }
-    answer_part(line, word)
+    answer_text(line, word)
 }

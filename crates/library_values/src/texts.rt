@@ -3,7 +3,7 @@ use condition_symbols::{Named, kind_named};
 use library_lines::given::{GivenRecord, record_at};
 use library_lines::late::late;
 use library_told::{
-    tell, tell_end, tell_equality, tell_late, tell_no_call, tell_number, tell_order, tell_refused,
+    tell, tell_end, tell_late, tell_no_call, tell_number, tell_order, tell_refused,
 };
 use line_fields::fields::after_tab;
 use line_fields::hex::named;
@@ -115,24 +115,6 @@ pub fn compare(line: &[u8]) {
         GivenRecord::Is(v) => match kind_named(field(line, 2)) {
             Named::No => tell_no_call(),
             Named::Is(kind) => compare_read(kind, field(line, 3), v),
-        },
-    }
-}
-
-fn equate_read(kind: Kind, s: &[u8], v: Value) {
-    match text::read(kind, s) {
-        Outcome::Is(a) => tell_equality(operation::equal(a, v)),
-        Outcome::Refused(refusal) => tell_refused(refusal.number),
-    }
-}
-
-// `equal→K→T→V`: likewise.
-pub fn equate(line: &[u8]) {
-    match record_at(line, 4) {
-        GivenRecord::No => tell_no_call(),
-        GivenRecord::Is(v) => match kind_named(field(line, 2)) {
-            Named::No => tell_no_call(),
-            Named::Is(kind) => equate_read(kind, field(line, 3), v),
         },
     }
 }

@@ -93,7 +93,7 @@ decimal_more n h = rw (le-ltb n 10 h) (ap (λ (x : List ℕ). x ++ (code "0" + n
     less (suc n) h = enough n (suc n / 10) (suc n / 10) (omega (arith, few_digits n, pow-suc 10 n)) (few_digits (suc n / 10))
 
 -- a number below 10 ^ k has at most k digits, and one at least
-pub decimal_made : (k n : ℕ) → n < 10 ^ suc k → decimal n ≡ shortest (suc k) n
+decimal_made : (k n : ℕ) → n < 10 ^ suc k → decimal n ≡ shortest (suc k) n
 unfolding decimal
 decimal_made k n h = enough n k n (few_digits n) h
 

@@ -5,9 +5,9 @@ use Rattle.basis.specs.Choice.{pick}
 use Rattle.numerals.specs.Reading.{fraction_digits}
 use Rattle.numerals.specs.declared.Kept.{Kept}
 
--- Document 02, n: "The longest text has 40 bytes"
+-- Document 02, e: "The longest text has 35 bytes"
 abbrev pub longest : ℕ
-longest = 40
+longest = 35
 
 -- the last k decimal digits of n, with leading zeros
 unfoldable pub digits : ℕ → ℕ → List ℕ

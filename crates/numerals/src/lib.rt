@@ -9,7 +9,7 @@ ghost use Rattle.numerals.specs.Writing as its;
 pub const FRACTION_DIGITS: usize = 9;
 
 // The longest text has so many bytes.
-pub const LONGEST: usize = 40;
+pub const LONGEST: usize = 35;
 
 // A stretch of digits: where it ends, and its number as far as a cap.
 #[derive(Drop)]

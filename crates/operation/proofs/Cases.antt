@@ -1,6 +1,5 @@
--- Worked cases by computation, beside those of document 01's table (crate `calls_cases`): the order of the refusals,
--- 16, 9, 5, 4, either side of a nanosecond, and the kinds of document 02, n, which have no sums, no products and no
--- adjustment.
+-- Worked cases by computation, beside those of document 01's table (crate `calls_cases`): the order of the refusals, 16, 9, 5, 4, and
+-- either side of a nanosecond.
 use mathlib.Core.Path.{◌≡◌, refl}
 use mathlib.Core.Bool.{Bool, true, false}
 use Prim.Native.Nat.{ℕ, ◌+◌, ◌-◌, ◌*◌}
@@ -9,24 +8,23 @@ use Rattle.basis.specs.Answer.{gives, refuses}
 use Rattle.calendar.specs.Calendar.{total, period_of, date_of}
 use Rattle.value.specs.Bounds.{minute_ticks, hour_ticks, max_day_time}
 use Rattle.value.specs.Carried.{max_clock}
-use Rattle.value.specs.Clocks.{clock_of, at_clock, same_clock, ticks_in, duration_of, month_part, time_part, general_with}
-use Rattle.value.specs.Values.{ok_date, ok_offset, ok_zone, ok_time_part, ok_date_time, ok_signed, ok_day_time, ok_duration}
-use Rattle.value.specs.Rows.{has, is_moment, is_dated, is_clocked, is_ordered, of_kind}
-use Rattle.value.specs.Kinds.{on_day, ok_value}
+use Rattle.value.specs.Clocks.{clock_of, at_clock, same_clock, ticks_in, duration_of}
+use Rattle.value.specs.Values.{ok_date, ok_offset, ok_zone, ok_time_part, ok_date_time, ok_signed, ok_day_time}
+use Rattle.value.specs.Rows.{has, is_moment, is_dated, is_clocked, of_kind}
+use Rattle.value.specs.Kinds.{ok_value}
 use Rattle.value_instants.specs.Ticks.{utc, local_of, instant_of, in_years, placed_at}
 use Rattle.value.specs.declared.Offset.TheVariants.{East, West}
 use Rattle.value.specs.declared.Zone.{Zone}
 use Rattle.value.specs.declared.Zone.TheVariants.{Absent, At}
 use Rattle.value.specs.declared.Value.{Value}
 use Rattle.value.specs.declared.Kind.TheVariants as KV
-use Rattle.value.specs.declared.Value.TheVariants.{Moment, DayTime, YearMonth, Duration}
+use Rattle.value.specs.declared.Value.TheVariants.{Moment, DayTime}
 use Rattle.operation_quantities.specs.Results.{in_ticks, at_ticks}
-use Rattle.operation_shifting.specs.Shifts.{moved, shifted}
+use Rattle.operation_shifting.specs.Shifts.{shifted}
 use Rattle.operation_ordering.specs.Order.{order_in, order_for}
-use Rattle.operation_equality.specs.Equality.{equal_kinds, equal_in, equal_for}
 use Rattle.operation_arithmetic.specs.Sums.{sum_of, plus_of, less_moment, difference_in, minus_in, minus_for}
 use Rattle.operation_arithmetic.specs.Products.{product_of, times_of}
-use Rattle.operation_adjusting.specs.Adjustment.{is_zone, adjusted_from, moment_to, value_to, adjust_of, without_zone, unzone_of}
+use Rattle.operation_adjusting.specs.Adjustment.{is_zone, adjusted_from, moment_to, value_to, adjust_of}
 
 abbrev date : ℕ → ℕ → ℕ → Value
 date y m d = Moment KV.Date (at_clock (record { year = y; month = m; day = d }) 0 Absent)
@@ -58,12 +56,8 @@ zone_beyond :
     × (order_for (East 840) (date 2000 1 1) (time 0 0 Absent) ≡ refuses 9)
     × (minus_for (West 841) (date 2000 1 1) (time 0 0 Absent) ≡ refuses 16)
     × (order_for (West 840) (date 2000 1 1) (time 0 0 Absent) ≡ refuses 9)
-    × (equal_for (East 841) (date 2000 1 1) (time 0 0 Absent) ≡ refuses 16)
-    × (equal_for (East 840) (date 2000 1 1) (time 0 0 Absent) ≡ refuses 9)
-    × (equal_for (West 841) (date 2000 1 1) (time 0 0 Absent) ≡ refuses 16)
-    × (equal_for (West 840) (date 2000 1 1) (time 0 0 Absent) ≡ refuses 9)
-unfolding order_for minus_for equal_for order_in equal_in equal_kinds ok_offset ok_value is_moment has ok_date_time ok_time_part clock_of same_clock ok_date ok_zone of_kind both every
-zone_beyond = (refl, refl, refl, refl, refl, refl, refl, refl)
+unfolding order_for minus_for order_in ok_offset ok_value is_moment has ok_date_time ok_time_part clock_of same_clock ok_date ok_zone of_kind both every
+zone_beyond = (refl, refl, refl, refl)
 
 -- kinds that do not fit before a bad zone, and a bad zone before a result beyond the years
 zone_last :
@@ -71,7 +65,7 @@ zone_last :
     × (adjust_of (date_time 9999 12 31 23 0 (At (East 0))) (lasts false (15 * hour_ticks)) ≡ refuses 5)
     × (adjust_of (date_time 9999 12 31 23 0 (At (East 0))) (lasts false hour_ticks) ≡ refuses 4)
     × (adjust_of (date_time 9999 12 31 22 0 (At (East 0))) (lasts false hour_ticks) ≡ gives (date_time 9999 12 31 23 0 (At (East 60))))
-unfolding adjust_of value_to moment_to adjusted_from is_zone at_ticks placed_at in_years local_of ok_value is_moment of_kind same_clock has ok_date_time ok_time_part clock_of ok_date ok_zone ok_offset ok_day_time ticks_in ok_signed both every total period_of date_of is_dated is_ordered
+unfolding adjust_of value_to moment_to adjusted_from is_zone at_ticks placed_at in_years local_of ok_value is_moment of_kind same_clock has ok_date_time ok_time_part clock_of ok_date ok_zone ok_offset ok_day_time ticks_in ok_signed both every total period_of date_of
 zone_last = (refl, refl, refl, refl)
 
 -- a factor beyond its bound is refused before a kind that has no product
@@ -92,7 +86,7 @@ over_the_year :
     × (minus_in utc (moment 2000 1 1 0) (lasts false 1) ≡ gives (moment 1999 12 31 max_clock))
     × (minus_in utc (moment 2000 1 1 0) (moment 1999 12 31 max_clock) ≡ gives (lasts false 1))
     × (plus_of (moment 9999 12 31 max_clock) (lasts false 1) ≡ refuses 4)
-unfolding plus_of minus_in sum_of difference_in less_moment shifted in_ticks at_ticks placed_at in_years local_of instant_of ok_value is_moment of_kind same_clock has is_dated is_clocked is_ordered ok_date_time ok_time_part clock_of ok_date ok_zone ok_day_time ticks_in ok_signed both every total period_of date_of
+unfolding plus_of minus_in sum_of difference_in less_moment shifted in_ticks at_ticks placed_at in_years local_of instant_of ok_value is_moment of_kind same_clock has is_dated is_clocked ok_date_time ok_time_part clock_of ok_date ok_zone ok_day_time ticks_in ok_signed both every total period_of date_of
 over_the_year = (refl, refl, refl, refl)
 
 -- exactly the bound is good, a nanosecond more is not: of sums, and of products, of which 7 times 142857142857142857143 is one more
@@ -116,33 +110,5 @@ zone_and_a_nanosecond :
     × (adjust_of (date_time 2000 1 1 12 0 (At (East 0))) (lasts true 1) ≡ refuses 5)
     × (adjust_of (date_time 2000 1 1 12 0 (At (East 0))) (lasts false (14 * hour_ticks + 1)) ≡ refuses 5)
     × (adjust_of (date_time 2000 1 1 12 0 (At (East 0))) (lasts false (14 * hour_ticks)) ≡ gives (date_time 2000 1 2 2 0 (At (East 840))))
-unfolding adjust_of value_to moment_to adjusted_from is_zone at_ticks placed_at in_years local_of ok_value is_moment of_kind same_clock has ok_date_time ok_time_part clock_of ok_date ok_zone ok_offset ok_day_time ticks_in ok_signed both every total period_of date_of is_dated is_ordered
+unfolding adjust_of value_to moment_to adjusted_from is_zone at_ticks placed_at in_years local_of ok_value is_moment of_kind same_clock has ok_date_time ok_time_part clock_of ok_date ok_zone ok_offset ok_day_time ticks_in ok_signed both every total period_of date_of
 zone_and_a_nanosecond = (refl, refl, refl, refl)
-
--- the kinds of document 02, n: 9 for sums, differences and products, also of equal values, and with the durations that
--- other kinds take
-abbrev general : ℕ → ℕ → Value
-general m t = Duration (general_with false m t 0)
-
-no_sums_lem :
-    (plus_of (on_day KV.GYear 2000 1 1 Absent) (lasts false 0) ≡ refuses 9)
-    × (plus_of (YearMonth (record { negative = false; months = 1 })) (on_day KV.GYearMonth 2000 1 1 Absent) ≡ refuses 9)
-    × (minus_in utc (on_day KV.GMonthDay 1972 2 29 Absent) (on_day KV.GMonthDay 1972 2 29 Absent) ≡ refuses 9)
-    × (plus_of (date 2000 1 1) (general 1 0) ≡ refuses 9)
-    × (plus_of (general 1 0) (general 1 0) ≡ refuses 9)
-    × (minus_in utc (general 1 0) (general 1 0) ≡ refuses 9)
-    × (minus_in utc (general 0 1) (lasts false 1) ≡ refuses 9)
-    × (times_of (general 1 0) false 0 ≡ refuses 9)
-    × (times_of (general 1 0) false 1_000_000 ≡ refuses 16)
-unfolding plus_of minus_in sum_of difference_in less_moment times_of product_of shifted moved ok_value is_moment of_kind same_clock has is_dated is_clocked is_ordered ok_date_time ok_time_part clock_of ok_date ok_zone ok_duration ok_day_time month_part time_part ticks_in ok_signed both every
-no_sums_lem = (refl, refl, refl, refl, refl, refl, refl, refl, refl)
-
--- and for adjustment, before a bad zone, and for removal of the zone
-no_adjustment :
-    (adjust_of (on_day KV.GMonthDay 1972 2 29 Absent) (lasts false (15 * hour_ticks)) ≡ refuses 9)
-    × (adjust_of (general 0 0) (lasts false 0) ≡ refuses 9)
-    × (adjust_of (date 2000 1 1) (general 0 0) ≡ refuses 9)
-    × (unzone_of (on_day KV.GDay 1972 12 1 (At (East 0))) ≡ refuses 9)
-    × (unzone_of (general 0 0) ≡ refuses 9)
-unfolding adjust_of value_to moment_to unzone_of without_zone ok_value is_moment of_kind same_clock has is_dated is_clocked is_ordered ok_date_time ok_time_part clock_of ok_date ok_zone ok_offset ok_duration ok_day_time month_part time_part ticks_in ok_signed both every
-no_adjustment = (refl, refl, refl, refl, refl)

@@ -8,12 +8,11 @@ use lib.Dec.{eqb, ltb}
 use borrow.Author.Tests.{ltb-true, ltb-false, eq-eqb, ne_eqb}
 use Rattle.basis.specs.Choice.{pick, both}
 use Rattle.basis.specs.Answer.{gives}
-use Rattle.basis.proofs.Tests.{both_left}
 use Rattle.value.specs.Refusals.{outside, wrong_kind, beyond_result}
 use Rattle.value.specs.Clocks.{ticks_in}
 use Rattle.value.specs.Durations.{plus_half, minus_half, plus_ticks, minus_ticks, apart, less_ticks, less_months}
 use Rattle.value.specs.Values.{ok_day_time, ok_year_month}
-use Rattle.value.specs.Rows.{same_kind, is_moment, is_ordered}
+use Rattle.value.specs.Rows.{same_kind, is_moment}
 use Rattle.value.specs.Kinds.{kind_of, ok_value}
 use Rattle.value_instants.specs.Ticks.{instant_of}
 use Rattle.value.specs.declared.Offset.{Offset}
@@ -29,7 +28,7 @@ use Rattle.operation_arithmetic.proofs.Opposites.{plus_opposite, minus_opposite,
 use Rattle.operation_ordering.specs.Order.{Order, less, equal, greater, up, down, order, value_order, order_in}
 use Rattle.operation_ordering.proofs.OrderLaws.{ordered, comparable}
 
--- how a duration that is one number stands to zero, by its sign and magnitude; the other values have neither
+-- how a duration stands to zero, by its sign and magnitude; the other values have neither
 abbrev sign_order : Bool → ℕ → Order
 sign_order negative n = pick negative less (pick (eqb n 0) equal greater)
 
@@ -37,7 +36,6 @@ abbrev pub to_zero : Value → Order
 to_zero (VV.Moment k d) = equal
 to_zero (VV.DayTime t) = sign_order t.negative (ticks_in t)
 to_zero (VV.YearMonth m) = sign_order m.negative m.months
-to_zero (VV.Duration d) = equal
 
 -- p - q stands to zero as p stands to q
 sign_is_order : (p q : ℕ) → sign_order (ltb p q) (apart p q) ≡ order p q
@@ -79,24 +77,21 @@ abbrev holds_moment : Value → Bool
 holds_moment (VV.Moment k d) = true
 holds_moment (VV.DayTime t) = false
 holds_moment (VV.YearMonth m) = false
-holds_moment (VV.Duration d) = false
 
 moment_by_kind : (a : Value) → ok_value a ≡ true → holds_moment a ≡ is_moment (kind_of a)
 unfolding is_moment
 moment_by_kind (VV.Moment k d) g = sym (moment_good (VV.Moment k d) g k d refl).0
 moment_by_kind (VV.DayTime t) g = refl
 moment_by_kind (VV.YearMonth m) g = refl
-moment_by_kind (VV.Duration d) g = refl
 
 module _ (o : Offset) where
   value_sign : (x y : Value) (v : Value) → holds_moment x ≡ holds_moment y → difference_in o x y ≡ gives v → to_zero v ≡ value_order o x y
   unfolding difference_in less_moment sum_of up down
   value_sign (VV.Moment j d) (VV.Moment k e) v h g =
-      ticks_order (instant_of o d) (instant_of o e) v (given_rest (both (same_kind j k) (is_ordered j)) (in_ticks (instant_of o d) (instant_of o e)) wrong_kind v g)
+      ticks_order (instant_of o d) (instant_of o e) v (given_rest (same_kind j k) (in_ticks (instant_of o d) (instant_of o e)) wrong_kind v g)
       ∙ plain (instant_of o d) (instant_of o e)
   value_sign (VV.Moment j d) (VV.DayTime s) v h g = cc
   value_sign (VV.Moment j d) (VV.YearMonth n) v h g = cc
-  value_sign (VV.Moment j d) (VV.Duration f) v h g = cc
   value_sign (VV.DayTime t) (VV.Moment k e) v h g = cc
   value_sign (VV.DayTime t) (VV.DayTime s) v h g =
       let p = plus_ticks_opposite s in
@@ -106,7 +101,6 @@ module _ (o : Offset) where
       ticks_order _ _ v f
       ∙ swapped (plus_ticks t) (minus_ticks t) (plus_ticks s) (minus_ticks s)
   value_sign (VV.DayTime t) (VV.YearMonth n) v h g = cc
-  value_sign (VV.DayTime t) (VV.Duration f) v h g = cc
   value_sign (VV.YearMonth m) (VV.Moment k e) v h g = cc
   value_sign (VV.YearMonth m) (VV.DayTime s) v h g = cc
   value_sign (VV.YearMonth m) (VV.YearMonth n) v h g =
@@ -116,18 +110,13 @@ module _ (o : Offset) where
       = sym (λ i. in_months (plus_half m.negative m.months + p i) (minus_half m.negative m.months + q i)) ∙ g in
       months_order _ _ v f
       ∙ swapped (plus_half m.negative m.months) (minus_half m.negative m.months) (plus_half n.negative n.months) (minus_half n.negative n.months)
-  value_sign (VV.YearMonth m) (VV.Duration f) v h g = cc
-  value_sign (VV.Duration f) (VV.Moment k e) v h g = cc
-  value_sign (VV.Duration f) (VV.DayTime s) v h g = cc
-  value_sign (VV.Duration f) (VV.YearMonth n) v h g = cc
-  value_sign (VV.Duration f) (VV.Duration u) v h g = cc
 
   -- what the comparison answers is how the difference stands to zero
   pub order_by_difference : (a b v : Value) (r : Order) → order_in o a b ≡ gives r → minus_in o a b ≡ gives v → to_zero v ≡ r
   unfolding minus_in
   order_by_difference a b v r e f =
       let c = comparable o a b r e in
-      let k : kind_of a ≡ kind_of b = same_kind_lem (kind_of a) (kind_of b) (both_left _ _ c.same) in
+      let k : kind_of a ≡ kind_of b = same_kind_lem (kind_of a) (kind_of b) c.same in
       let m : holds_moment a ≡ holds_moment b = moment_by_kind a c.left_ok ∙ ap is_moment k ∙ sym (moment_by_kind b c.right_ok) in
       let g = given_rest (both (ok_value a) (ok_value b)) (difference_in o a b) outside v f in
       value_sign a b v m g ∙ gives_same _ _ (sym (ordered o a b c) ∙ e)

@@ -5,16 +5,16 @@ use mathlib.Core.Path.{◌≡◌, refl, ap, sym, ◌∙◌}
 use mathlib.Core.Bool.{true, false}
 use Prim.Native.Nat.{ℕ, ◌+◌, ◌-◌, ◌*◌, ◌/◌, ◌%◌, ◌≤◌, ◌<◌}
 use native.Mathlib.Omega.{arith}
-use Rattle.basis.specs.Choice.{pick, both}
-use Rattle.basis.specs.Answer.{gives, refuses}
+use Rattle.basis.specs.Choice.{both}
+use Rattle.basis.specs.Answer.{gives}
 use Rattle.basis.proofs.Tests.{both_left, both_right}
 use Rattle.calendar.specs.declared.Date.{Date}
 use Rattle.calendar.specs.Calendar.{day_of, date_of}
 use Rattle.value.specs.Bounds.{max_zone, minute_ticks, day_ticks}
 use Rattle.value.specs.Clocks.{clock_of, at_clock_of}
-use Rattle.value.specs.Refusals.{outside, wrong_kind, bad_zone}
+use Rattle.value.specs.Refusals.{outside, bad_zone}
 use Rattle.value.specs.Values.{date_in, ok_date_time, ok_offset}
-use Rattle.value.specs.Rows.{layout_of, template_of, is_dated, is_clocked, is_ordered, kept}
+use Rattle.value.specs.Rows.{layout_of, template_of, is_dated, is_clocked, kept}
 use Rattle.value.specs.Kinds.{ok_value}
 use Rattle.value_instants.specs.Ticks.{local_of, at_local, instant_at, instant_of, offset_in, east, west}
 use Rattle.value.specs.declared.Offset.{Offset}
@@ -68,9 +68,8 @@ adjusted_by : (k : Kind) (d e : DateTime) (t : D.DayTime) (w : Offset) → d.zon
 unfolding adjust_of value_to moment_to adjusted_from ok_value
 adjusted_by k d e t w z h =
     let v : Value = VV.Moment k e in
-    let g = given_test (both (ok_value (VV.Moment k d)) (ok_value (VV.DayTime t))) (pick (is_ordered k) (adjusted_to k d t) (refuses wrong_kind)) outside v h in
-    let n = given_rest (both (ok_value (VV.Moment k d)) (ok_value (VV.DayTime t))) (pick (is_ordered k) (adjusted_to k d t) (refuses wrong_kind)) outside v h in
-    let f = given_rest (is_ordered k) (adjusted_to k d t) wrong_kind v n in
+    let g = given_test (both (ok_value (VV.Moment k d)) (ok_value (VV.DayTime t))) (adjusted_to k d t) outside v h in
+    let f = given_rest (both (ok_value (VV.Moment k d)) (ok_value (VV.DayTime t))) (adjusted_to k d t) outside v h in
     let i = given_test (is_zone t) (adjusted_from k d d.zone (zone_of t)) bad_zone v f in
     let r = given_rest (is_zone t) (adjusted_from k d d.zone (zone_of t)) bad_zone v f in
     let l : ℕ = local_at (instant_at (local_of d) w) (zone_of t) in

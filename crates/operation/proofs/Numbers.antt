@@ -1,5 +1,5 @@
--- The numbers that each call refuses with: comparing, equality, casting and removing a zone 16 and 9; adjustment 16, 9,
--- 5 and 4. (Those of plus, minus and times are in crate `operation_arithmetic`.)
+-- The numbers that each call refuses with: comparing, casting and removing a zone 16 and 9; adjustment 16, 9, 5 and 4.
+-- (Those of plus, minus and times are in crate `operation_arithmetic`.)
 use mathlib.Core.Path.{◌≡◌, refl}
 use mathlib.Core.Bool.{true}
 use mathlib.Core.List.{List, [], ◌∷◌}
@@ -8,7 +8,7 @@ use Rattle.basis.specs.Choice.{pick, both, among}
 use Rattle.basis.specs.Answer.{Reason, gives, refuses_for, refuses}
 use Rattle.value.specs.Refusals.{outside, wrong_kind, bad_zone, beyond_result}
 use Rattle.value.specs.Values.{ok_offset}
-use Rattle.value.specs.Rows.{is_ordered, ordered_kinds}
+use Rattle.value.specs.Rows.{same_kind}
 use Rattle.value.specs.Kinds.{kind_of, ok_value}
 use Rattle.value_instants.specs.Ticks.{local_of, instant_at}
 use Rattle.value.specs.declared.Offset.{Offset}
@@ -17,13 +17,12 @@ use Rattle.value.specs.declared.Zone.TheVariants.{Absent, At}
 use Rattle.value.specs.declared.DateTime.{DateTime}
 use Rattle.value.specs.declared.Kind.{Kind}
 use Rattle.value.specs.declared.Value.{Value}
-use Rattle.value.specs.declared.Value.TheVariants.{Moment, DayTime, YearMonth, Duration}
+use Rattle.value.specs.declared.Value.TheVariants.{Moment, DayTime, YearMonth}
 use Rattle.value.proofs.Numbers.{only, only_either, only_refused}
 use Rattle.operation_quantities.proofs.Numbers.{placed_numbers}
 use Rattle.operation_ordering.specs.Order.{value_order, order_in, order_for}
-use Rattle.operation_equality.specs.Equality.{equal_kinds, same_value, equal_in, equal_for}
 use Rattle.operation_casting.specs.Casts.{casts_to, cast_to, cast_of}
-use Rattle.operation_adjusting.specs.Adjustment.{is_zone, zone_of, local_at, with_zone, adjusted_from, adjusted_to, moment_to, value_to, adjust_of, without_zone, unzone_of}
+use Rattle.operation_adjusting.specs.Adjustment.{is_zone, zone_of, local_at, adjusted_from, moment_to, value_to, adjust_of, without_zone, unzone_of}
 
 abbrev pub kind_numbers : List ℕ
 kind_numbers = outside ∷ wrong_kind ∷ []
@@ -35,8 +34,8 @@ order_numbers : (o : Offset) (a b : Value) → only kind_numbers (order_in o a b
 unfolding order_in
 order_numbers o a b =
     only_either kind_numbers (both (ok_value a) (ok_value b))
-    (pick (ordered_kinds (kind_of a) (kind_of b)) (gives (value_order o a b)) (refuses wrong_kind)) (refuses outside)
-    (only_either kind_numbers (ordered_kinds (kind_of a) (kind_of b)) (gives (value_order o a b)) (refuses wrong_kind) refl refl) refl
+    (pick (same_kind (kind_of a) (kind_of b)) (gives (value_order o a b)) (refuses wrong_kind)) (refuses outside)
+    (only_either kind_numbers (same_kind (kind_of a) (kind_of b)) (gives (value_order o a b)) (refuses wrong_kind) refl refl) refl
 
 pub compare_refuses : (o : Offset) (a b : Value) (r : Reason) → order_in o a b ≡ refuses_for r → among kind_numbers r.number ≡ true
 compare_refuses o a b r e = only_refused kind_numbers (order_in o a b) r (order_numbers o a b) e
@@ -46,23 +45,6 @@ unfolding order_for
 compare_for_refuses zone a b r e =
     only_refused kind_numbers (order_for zone a b) r
     (only_either kind_numbers (ok_offset zone) (order_in zone a b) (refuses outside) (order_numbers zone a b) refl)
-    e
-
-equal_numbers : (o : Offset) (a b : Value) → only kind_numbers (equal_in o a b) ≡ true
-unfolding equal_in
-equal_numbers o a b =
-    only_either kind_numbers (both (ok_value a) (ok_value b))
-    (pick (equal_kinds (kind_of a) (kind_of b)) (gives (same_value o a b)) (refuses wrong_kind)) (refuses outside)
-    (only_either kind_numbers (equal_kinds (kind_of a) (kind_of b)) (gives (same_value o a b)) (refuses wrong_kind) refl refl) refl
-
-pub equal_refuses : (o : Offset) (a b : Value) (r : Reason) → equal_in o a b ≡ refuses_for r → among kind_numbers r.number ≡ true
-equal_refuses o a b r e = only_refused kind_numbers (equal_in o a b) r (equal_numbers o a b) e
-
-pub equal_for_refuses : (zone : Offset) (a b : Value) (r : Reason) → equal_for zone a b ≡ refuses_for r → among kind_numbers r.number ≡ true
-unfolding equal_for
-equal_for_refuses zone a b r e =
-    only_refused kind_numbers (equal_for zone a b) r
-    (only_either kind_numbers (ok_offset zone) (equal_in zone a b) (refuses outside) (equal_numbers zone a b) refl)
     e
 
 pub cast_refuses : (a : Value) (k : Kind) (r : Reason) → cast_of a k ≡ refuses_for r → among kind_numbers r.number ≡ true
@@ -75,10 +57,9 @@ cast_refuses a k r e =
 
 without_numbers : (x : Value) → only kind_numbers (without_zone x) ≡ true
 unfolding without_zone
-without_numbers (Moment k d) = only_either kind_numbers (is_ordered k) (gives (Moment k (with_zone d Absent))) (refuses wrong_kind) refl refl
+without_numbers (Moment k d) = refl
 without_numbers (DayTime t) = refl
 without_numbers (YearMonth m) = refl
-without_numbers (Duration t) = refl
 
 pub unzone_refuses : (a : Value) (r : Reason) → unzone_of a ≡ refuses_for r → among kind_numbers r.number ≡ true
 unfolding unzone_of
@@ -96,18 +77,14 @@ moment_numbers : (k : Kind) (d : DateTime) (y : Value) → only adjust_numbers (
 unfolding moment_to
 moment_numbers k d (Moment j e) = refl
 moment_numbers k d (DayTime t) =
-    only_either adjust_numbers (is_ordered k) (adjusted_to k d t) (refuses wrong_kind)
-    (only_either adjust_numbers (is_zone t) (adjusted_from k d d.zone (zone_of t)) (refuses bad_zone) (adjusted_numbers k d d.zone (zone_of t)) refl)
-    refl
+    only_either adjust_numbers (is_zone t) (adjusted_from k d d.zone (zone_of t)) (refuses bad_zone) (adjusted_numbers k d d.zone (zone_of t)) refl
 moment_numbers k d (YearMonth m) = refl
-moment_numbers k d (Duration t) = refl
 
 value_numbers : (x y : Value) → only adjust_numbers (value_to x y) ≡ true
 unfolding value_to
 value_numbers (Moment k d) y = moment_numbers k d y
 value_numbers (DayTime t) y = refl
 value_numbers (YearMonth m) y = refl
-value_numbers (Duration t) y = refl
 
 pub adjust_refuses : (a z : Value) (r : Reason) → adjust_of a z ≡ refuses_for r → among adjust_numbers r.number ≡ true
 unfolding adjust_of

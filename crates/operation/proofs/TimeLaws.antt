@@ -15,7 +15,7 @@ use Rattle.calendar.proofs.Years.{years_grow, years_next, year_starts, year_ends
 use Rattle.value.specs.Bounds.{min_year, max_year, max_zone, minute_ticks, day_ticks}
 use Rattle.value.specs.Carried.{max_clock}
 use Rattle.value.specs.Clocks.{clock_of}
-use Rattle.value.specs.Refusals.{outside, wrong_kind, bad_zone}
+use Rattle.value.specs.Refusals.{outside, bad_zone}
 use Rattle.value.specs.Values.{ok_offset, date_in}
 use Rattle.value.specs.Durations.{plus_ticks, minus_ticks}
 use Rattle.value.specs.Rows.{layout_of, template_of, is_dated, is_clocked, kept}
@@ -32,7 +32,6 @@ use Rattle.value.proofs.ClockLaws.{clock_to}
 use Rattle.value.proofs.Good.{good}
 use Rattle.value_instants.proofs.Within.{east_to, west_to}
 use Rattle.value.proofs.KindParts.{moment_good, of_kind_kept}
-use Rattle.value.proofs.OrderedKinds.{clocked_ordered}
 use Rattle.value.proofs.RowTests.{rows_pass}
 use Rattle.value.proofs.RowLaws.{row_day}
 use Rattle.operation_shifting.specs.Shifts.{wrapped, shifted}
@@ -82,12 +81,6 @@ rows_inside KV.Time = refl
 rows_inside KV.DateTime = refl
 rows_inside KV.DayTimeDuration = refl
 rows_inside KV.YearMonthDuration = refl
-rows_inside KV.GYear = refl
-rows_inside KV.GYearMonth = refl
-rows_inside KV.GMonth = refl
-rows_inside KV.GMonthDay = refl
-rows_inside KV.GDay = refl
-rows_inside KV.Duration = refl
 
 -- so its day has days either side
 three_years : total year_days min_year + 3 ≤ total year_days (min_year + 3)
@@ -157,5 +150,5 @@ time_adjust_given k d t w p c z g h i =
     let s : l ≡ reference_day k * day_ticks + clock_of d + west w * minute_ticks - east w * minute_ticks + east (zone_of t) * minute_ticks - west (zone_of t) * minute_ticks
     = ap (λ (x : ℕ). local_at (instant_at x w) (zone_of t)) (time_local k d p c g) in
     let y : in_years l ≡ true = ap in_years s ∙ near_reference k _ r.0 r.1 in
-    (λ j. pick (b j) (pick (clocked_ordered k c j) (adjusted_to k d t) (refuses wrong_kind)) (refuses outside)) ∙ (λ j. pick (i j) (adjusted_from k d (z j) (zone_of t)) (refuses bad_zone))
+    (λ j. pick (b j) (adjusted_to k d t) (refuses outside)) ∙ (λ j. pick (i j) (adjusted_from k d (z j) (zone_of t)) (refuses bad_zone))
     ∙ placed_gives k l (At (zone_of t)) y

@@ -6,7 +6,6 @@ use Rattle.basis.specs.Answer.{gives, refuses}
 use Rattle.basis.proofs.Tests.{both_left, both_right}
 use Rattle.value.specs.Refusals.{outside, wrong_kind, bad_zone}
 use Rattle.value.specs.Values.{date_in, ok_date_time, ok_offset, ok_zone}
-use Rattle.value.specs.Rows.{is_ordered}
 use Rattle.value.specs.Kinds.{kind_of, ok_value}
 use Rattle.value.specs.Carried.{valid}
 use Rattle.value_instants.specs.Ticks.{local_of, instant_at}
@@ -16,7 +15,7 @@ use Rattle.value.specs.declared.Zone.TheVariants.{Absent, At}
 use Rattle.value.specs.declared.DateTime.{DateTime}
 use Rattle.value.specs.declared.Kind.{Kind}
 use Rattle.value.specs.declared.Value.{Value}
-use Rattle.value.specs.declared.Value.TheVariants.{Moment, DayTime, YearMonth, Duration}
+use Rattle.value.specs.declared.Value.TheVariants.{Moment, DayTime, YearMonth}
 use Rattle.value.proofs.ClockLaws.{time_part_kept}
 use Rattle.value.proofs.Good.{good, record_ok}
 use Rattle.value.proofs.KindParts.{moment_good, moment_ok}
@@ -25,7 +24,7 @@ use Rattle.operation_quantities.proofs.Given.{valid_given, valid_pick, valid_tes
 use Rattle.operation_shifting.proofs.Valid.{placed_valid}
 use Rattle.operation_casting.specs.Casts.{casts_to, cast_to, cast_of}
 use Rattle.operation_casting.proofs.CastLaws.{cast_to_valid}
-use Rattle.operation_adjusting.specs.Adjustment.{is_zone, zone_of, local_at, with_zone, adjusted_from, adjusted_to, moment_to, value_to, adjust_of, without_zone, unzone_of}
+use Rattle.operation_adjusting.specs.Adjustment.{is_zone, zone_of, local_at, with_zone, adjusted_from, moment_to, value_to, adjust_of, without_zone, unzone_of}
 use Rattle.operation_adjusting.proofs.Zones.{zone_ok}
 
 -- casts
@@ -57,18 +56,15 @@ moment_to_valid : (k : Kind) (d : DateTime) (y : Value) → ok_value (Moment k d
 unfolding moment_to ok_value
 moment_to_valid k d (Moment j e) gx gy = refl
 moment_to_valid k d (DayTime t) gx gy =
-    valid_pick (is_ordered k) (adjusted_to k d t) (refuses wrong_kind)
-    (λ o. valid_pick (is_zone t) (adjusted_from k d d.zone (zone_of t)) (refuses bad_zone) (λ e. adjusted_valid k d d.zone (zone_of t) gx (zone_ok t gy e)) refl)
-    refl
+    valid_pick (is_zone t) (adjusted_from k d d.zone (zone_of t)) (refuses bad_zone)
+    (λ e. adjusted_valid k d d.zone (zone_of t) gx (zone_ok t gy e)) refl
 moment_to_valid k d (YearMonth m) gx gy = refl
-moment_to_valid k d (Duration t) gx gy = refl
 
 value_to_valid : (x y : Value) → ok_value x ≡ true → ok_value y ≡ true → valid (value_to x y) ≡ true
 unfolding value_to
 value_to_valid (Moment k d) y gx gy = moment_to_valid k d y gx gy
 value_to_valid (DayTime t) y gx gy = refl
 value_to_valid (YearMonth m) y gx gy = refl
-value_to_valid (Duration t) y gx gy = refl
 
 pub adjust_valid : (a z : Value) → valid (adjust_of a z) ≡ true
 unfolding adjust_of
@@ -78,11 +74,9 @@ adjust_valid a z =
 
 without_valid : (x : Value) → ok_value x ≡ true → valid (without_zone x) ≡ true
 unfolding without_zone ok_zone
-without_valid (Moment k d) g =
-    valid_pick (is_ordered k) (gives (Moment k (with_zone d Absent))) (refuses wrong_kind) (λ o. zoned_valid k d Absent g refl) refl
+without_valid (Moment k d) g = zoned_valid k d Absent g refl
 without_valid (DayTime t) g = refl
 without_valid (YearMonth m) g = refl
-without_valid (Duration t) g = refl
 
 pub unzone_valid : (a : Value) → valid (unzone_of a) ≡ true
 unfolding unzone_of

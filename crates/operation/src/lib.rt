@@ -1,18 +1,15 @@
-// The operations of documents 01 and 02 on values: order and equality, sums and differences, products, casts,
-// adjustment to a zone. Each call checks what it is given (16), then the kinds (9), an adjustment's zone (5), and the
-// result (4).
+// The operations of document 01 on values: order, sums and differences, products, casts, adjustment to a zone.
+// Each call checks what it is given (16), then the kinds (9), an adjustment's zone (5), and the result (4).
 ghost use Rattle.std.specs.Prelude.{◌≡◌};
 ghost use Rattle.value.specs.Kinds.{meaning};
 ghost use Rattle.value_instants.specs.Ticks.{utc};
 ghost use Rattle.operation_ordering.specs.Order as order;
-ghost use Rattle.operation_equality.specs.Equality as equality;
 ghost use Rattle.operation_arithmetic.specs.Sums as sums;
 ghost use Rattle.operation_arithmetic.specs.Products as products;
 ghost use Rattle.operation_casting.specs.Casts as casts;
 ghost use Rattle.operation_adjusting.specs.Adjustment as adjustment;
 
 use operation_arithmetic::{products, sums};
-use operation_equality::Equated;
 use operation_ordering::Compared;
 use operation_quantities::results;
 use value::{Kind, Offset, Outcome, Refusal, Value, valid};
@@ -32,22 +29,6 @@ pub fn compare_for(a: Value, b: Value, zone: Offset) -> Compared
         return Compared::Refused(Refusal::numbered(Refusal::OUTSIDE));
     }
     operation_ordering::compare_in(a, b, zone)
-}
-
-pub fn equal(a: Value, b: Value) -> Equated
-    ensures { equality.equated_meaning result ≡ equality.equal_in utc a b }
-{
-    operation_equality::equal_in(a, b, ticks::utc())
-}
-
-// The same in any zone; one beyond its bounds is 16.
-pub fn equal_for(a: Value, b: Value, zone: Offset) -> Equated
-    ensures { equality.equated_meaning result ≡ equality.equal_for zone a b }
-{
-    if !valid::offset_ok(zone) {
-        return Equated::Refused(Refusal::numbered(Refusal::OUTSIDE));
-    }
-    operation_equality::equal_in(a, b, zone)
 }
 
 pub fn plus(a: Value, b: Value) -> Outcome

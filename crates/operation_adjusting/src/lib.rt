@@ -8,7 +8,7 @@ ghost use Rattle.operation_adjusting.specs.Adjustment as the;
 
 use calendar::Date;
 use operation_quantities::results;
-use value::{DateTime, DayTime, Kind, Offset, Outcome, Refusal, Span, Value, Zone, clocks, kinds};
+use value::{DateTime, DayTime, Kind, Offset, Outcome, Refusal, Span, Value, Zone, clocks};
 use value_instants::ticks;
 
 fn is_zone(z: DayTime) -> bool
@@ -97,14 +97,8 @@ fn moment_to(kind: Kind, d: DateTime, z: Value) -> Outcome
 {
     match z {
         Value::Moment(_, _) => results::refused(Refusal::WRONG_KIND),
-        Value::DayTime(t) => {
-            if !kinds::is_ordered(kind) {
-                return results::refused(Refusal::WRONG_KIND);
-            }
-            adjusted_to(kind, d, t)
-        }
+        Value::DayTime(t) => adjusted_to(kind, d, t),
         Value::YearMonth(_) => results::refused(Refusal::WRONG_KIND),
-        Value::Duration(_) => results::refused(Refusal::WRONG_KIND),
     }
 }
 
@@ -116,7 +110,6 @@ pub fn value_to(a: Value, z: Value) -> Outcome
         Value::Moment(kind, d) => moment_to(kind, d, z),
         Value::DayTime(_) => results::refused(Refusal::WRONG_KIND),
         Value::YearMonth(_) => results::refused(Refusal::WRONG_KIND),
-        Value::Duration(_) => results::refused(Refusal::WRONG_KIND),
     }
 }
 
@@ -124,14 +117,8 @@ pub fn without_zone(a: Value) -> Outcome
     ensures { meaning result ≡ the.without_zone a }
 {
     match a {
-        Value::Moment(kind, d) => {
-            if !kinds::is_ordered(kind) {
-                return results::refused(Refusal::WRONG_KIND);
-            }
-            Outcome::Is(Value::Moment(kind, with_zone(d, Zone::Absent)))
-        }
+        Value::Moment(kind, d) => Outcome::Is(Value::Moment(kind, with_zone(d, Zone::Absent))),
         Value::DayTime(_) => results::refused(Refusal::WRONG_KIND),
         Value::YearMonth(_) => results::refused(Refusal::WRONG_KIND),
-        Value::Duration(_) => results::refused(Refusal::WRONG_KIND),
     }
 }

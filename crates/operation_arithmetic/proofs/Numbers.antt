@@ -11,14 +11,14 @@ use Rattle.value.specs.Bounds.{min_year, max_year}
 use Rattle.value.specs.Refusals.{outside, wrong_kind, beyond_result}
 use Rattle.value.specs.Durations.{less_ticks, less_months}
 use Rattle.value.specs.Values.{ok_offset, ok_day_time, ok_year_month}
-use Rattle.value.specs.Rows.{is_dated, is_clocked, ordered_kinds}
+use Rattle.value.specs.Rows.{same_kind, is_dated, is_clocked}
 use Rattle.value.specs.Kinds.{ok_value}
 use Rattle.value_instants.specs.Ticks.{local_of, instant_of}
 use Rattle.value.specs.declared.Offset.{Offset}
 use Rattle.value.specs.declared.DateTime.{DateTime}
 use Rattle.value.specs.declared.Kind.{Kind}
 use Rattle.value.specs.declared.Value.{Value}
-use Rattle.value.specs.declared.Value.TheVariants.{Moment, DayTime, YearMonth, Duration}
+use Rattle.value.specs.declared.Value.TheVariants.{Moment, DayTime, YearMonth}
 use Rattle.value.proofs.Numbers.{only, only_either, only_refused}
 use Rattle.operation_quantities.specs.Results.{in_ticks, in_months}
 use Rattle.operation_shifting.specs.Shifts.{month_of, in_month, moved_to, moved, wrapped, shifted}
@@ -63,37 +63,30 @@ unfolding sum_of
 sum_numbers (Moment k d) (Moment j e) = refl
 sum_numbers (Moment k d) (DayTime t) = shifted_numbers k d _ _
 sum_numbers (Moment k d) (YearMonth m) = moved_numbers k d _ _
-sum_numbers (Moment k d) (Duration e) = refl
 sum_numbers (DayTime t) (Moment k d) = shifted_numbers k d _ _
 sum_numbers (DayTime t) (DayTime s) = ticks_numbers _ _
 sum_numbers (DayTime t) (YearMonth m) = refl
-sum_numbers (DayTime t) (Duration e) = refl
 sum_numbers (YearMonth m) (Moment k d) = moved_numbers k d _ _
 sum_numbers (YearMonth m) (DayTime t) = refl
 sum_numbers (YearMonth m) (YearMonth n) = months_numbers _ _
-sum_numbers (YearMonth m) (Duration e) = refl
-sum_numbers (Duration d) y = refl
 
 less_numbers : (o : Offset) (x : Value) (k : Kind) (e : DateTime) → Fits (less_moment o x k e)
 unfolding less_moment
-less_numbers o (Moment j d) k e = either (ordered_kinds j k) _ _ (ticks_numbers (instant_of o d) (instant_of o e)) refl
+less_numbers o (Moment j d) k e = either (same_kind j k) _ _ (ticks_numbers (instant_of o d) (instant_of o e)) refl
 less_numbers o (DayTime t) k e = refl
 less_numbers o (YearMonth m) k e = refl
-less_numbers o (Duration t) k e = refl
 
 difference_numbers : (o : Offset) (x y : Value) → Fits (difference_in o x y)
 unfolding difference_in
 difference_numbers o x (Moment k e) = less_numbers o x k e
 difference_numbers o x (DayTime t) = sum_numbers x (DayTime (opposite t))
 difference_numbers o x (YearMonth m) = sum_numbers x (YearMonth (opposite_months m))
-difference_numbers o x (Duration d) = refl
 
 product_numbers : (x : Value) (negative : Bool) (n : ℕ) → Fits (product_of x negative n)
 unfolding product_of
 product_numbers (Moment k d) negative n = refl
 product_numbers (DayTime t) negative n = either negative _ _ (ticks_numbers _ _) (ticks_numbers _ _)
 product_numbers (YearMonth m) negative n = either negative _ _ (months_numbers _ _) (months_numbers _ _)
-product_numbers (Duration d) negative n = refl
 
 pub plus_refuses : (a b : Value) (r : Reason) → plus_of a b ≡ refuses_for r → among result_numbers r.number ≡ true
 unfolding plus_of

@@ -9,7 +9,7 @@ use Rattle.value.specs.Refusals.{outside}
 use Rattle.value.specs.Durations.{plus_half, minus_half, plus_ticks, minus_ticks}
 use Rattle.value.specs.Kinds.{ok_value}
 use Rattle.value.specs.declared.Value.{Value}
-use Rattle.value.specs.declared.Value.TheVariants.{Moment, DayTime, YearMonth, Duration}
+use Rattle.value.specs.declared.Value.TheVariants.{Moment, DayTime, YearMonth}
 use Rattle.operation_quantities.specs.Results.{in_ticks, in_months}
 use Rattle.operation_arithmetic.specs.Sums.{sum_of, plus_of}
 
@@ -28,23 +28,16 @@ unfolding sum_of
 sum_turned (Moment k d) (Moment j e) = refl
 sum_turned (Moment k d) (DayTime t) = refl
 sum_turned (Moment k d) (YearMonth m) = refl
-sum_turned (Moment k d) (Duration e) = refl
 sum_turned (DayTime t) (Moment k d) = refl
 sum_turned (DayTime t) (DayTime s) =
     λ i. in_ticks (added_turned (plus_ticks t) (plus_ticks s) i) (added_turned (minus_ticks t) (minus_ticks s) i)
 sum_turned (DayTime t) (YearMonth m) = refl
-sum_turned (DayTime t) (Duration e) = refl
 sum_turned (YearMonth m) (Moment k d) = refl
 sum_turned (YearMonth m) (DayTime t) = refl
 sum_turned (YearMonth m) (YearMonth n) =
     λ i.
     in_months (added_turned (plus_half m.negative m.months) (plus_half n.negative n.months) i)
     (added_turned (minus_half m.negative m.months) (minus_half n.negative n.months) i)
-sum_turned (YearMonth m) (Duration e) = refl
-sum_turned (Duration d) (Moment k e) = refl
-sum_turned (Duration d) (DayTime t) = refl
-sum_turned (Duration d) (YearMonth m) = refl
-sum_turned (Duration d) (Duration e) = refl
 
 pub plus_turned : (a b : Value) → plus_of a b ≡ plus_of b a
 unfolding plus_of

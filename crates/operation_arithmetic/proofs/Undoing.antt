@@ -136,7 +136,6 @@ unfolding is_dated is_clocked has every both
 plus_undone o (VV.Moment k d) b t c e = plus_back o k d t c b e
 plus_undone o (VV.DayTime s) b t c e = cc
 plus_undone o (VV.YearMonth m) b t c e = cc
-plus_undone o (VV.Duration d) b t c e = cc
 
 pub minus_undone : (o : Offset) (a b : Value) (t : D.DayTime) → comes_back (kind_of a) t ≡ true
     → minus_in o a (VV.DayTime t) ≡ gives b → plus_of b (VV.DayTime t) ≡ gives a
@@ -144,4 +143,3 @@ unfolding is_dated is_clocked has every both
 minus_undone o (VV.Moment k d) b t c e = minus_back o k d t c b e
 minus_undone o (VV.DayTime s) b t c e = cc
 minus_undone o (VV.YearMonth m) b t c e = cc
-minus_undone o (VV.Duration d) b t c e = cc

@@ -9,7 +9,7 @@ use Rattle.basis.proofs.Tests.{both_left, both_right}
 use Rattle.value.specs.Refusals.{outside, wrong_kind}
 use Rattle.value.specs.Durations.{plus_half, minus_half, plus_ticks, minus_ticks}
 use Rattle.value.specs.Values.{ok_offset}
-use Rattle.value.specs.Rows.{ordered_kinds}
+use Rattle.value.specs.Rows.{same_kind}
 use Rattle.value.specs.Kinds.{ok_value}
 use Rattle.value.specs.Carried.{valid}
 use Rattle.value_instants.specs.Ticks.{instant_of}
@@ -17,7 +17,7 @@ use Rattle.value.specs.declared.Offset.{Offset}
 use Rattle.value.specs.declared.DateTime.{DateTime}
 use Rattle.value.specs.declared.Kind.{Kind}
 use Rattle.value.specs.declared.Value.{Value}
-use Rattle.value.specs.declared.Value.TheVariants.{Moment, DayTime, YearMonth, Duration}
+use Rattle.value.specs.declared.Value.TheVariants.{Moment, DayTime, YearMonth}
 use Rattle.operation_quantities.specs.Results.{in_ticks}
 use Rattle.operation_quantities.proofs.Given.{valid_given, valid_pick}
 use Rattle.operation_shifting.proofs.Valid.{ticks_valid, months_valid, moved_valid, shifted_valid}
@@ -31,16 +31,12 @@ unfolding sum_of
 sum_valid (Moment k d) (DayTime t) gx gy = shifted_valid k d (plus_ticks t) (minus_ticks t) gx
 sum_valid (Moment k d) (YearMonth m) gx gy = moved_valid k d (plus_half m.negative m.months) (minus_half m.negative m.months) gx
 sum_valid (Moment k d) (Moment j e) gx gy = refl
-sum_valid (Moment k d) (Duration e) gx gy = refl
 sum_valid (DayTime t) (Moment k d) gx gy = shifted_valid k d (plus_ticks t) (minus_ticks t) gy
 sum_valid (DayTime t) (DayTime s) gx gy = ticks_valid _ _
 sum_valid (DayTime t) (YearMonth m) gx gy = refl
-sum_valid (DayTime t) (Duration e) gx gy = refl
 sum_valid (YearMonth m) (Moment k d) gx gy = moved_valid k d (plus_half m.negative m.months) (minus_half m.negative m.months) gy
 sum_valid (YearMonth m) (DayTime t) gx gy = refl
 sum_valid (YearMonth m) (YearMonth n) gx gy = months_valid _ _
-sum_valid (YearMonth m) (Duration e) gx gy = refl
-sum_valid (Duration d) y gx gy = refl
 
 pub plus_valid : (a b : Value) → valid (plus_of a b) ≡ true
 unfolding plus_of
@@ -51,17 +47,15 @@ plus_valid a b =
 less_valid : (o : Offset) (x : Value) (k : Kind) (e : DateTime) → valid (less_moment o x k e) ≡ true
 unfolding less_moment
 less_valid o (Moment j d) k e =
-    valid_pick (ordered_kinds j k) (in_ticks (instant_of o d) (instant_of o e)) (refuses wrong_kind) (λ s. ticks_valid (instant_of o d) (instant_of o e)) refl
+    valid_pick (same_kind j k) (in_ticks (instant_of o d) (instant_of o e)) (refuses wrong_kind) (λ s. ticks_valid (instant_of o d) (instant_of o e)) refl
 less_valid o (DayTime t) k e = refl
 less_valid o (YearMonth m) k e = refl
-less_valid o (Duration t) k e = refl
 
 difference_valid : (o : Offset) (x y : Value) → ok_value x ≡ true → ok_value y ≡ true → valid (difference_in o x y) ≡ true
 unfolding difference_in ok_value
 difference_valid o x (Moment k e) gx gy = less_valid o x k e
 difference_valid o x (DayTime t) gx gy = sum_valid x (DayTime (opposite t)) gx (opposite_ok t gy)
 difference_valid o x (YearMonth m) gx gy = sum_valid x (YearMonth (opposite_months m)) gx (opposite_months_ok m gy)
-difference_valid o x (Duration d) gx gy = refl
 
 pub minus_valid : (o : Offset) (a b : Value) → valid (minus_in o a b) ≡ true
 unfolding minus_in
@@ -81,7 +75,6 @@ product_valid (DayTime t) true n = ticks_valid _ _
 product_valid (DayTime t) false n = ticks_valid _ _
 product_valid (YearMonth m) true n = months_valid _ _
 product_valid (YearMonth m) false n = months_valid _ _
-product_valid (Duration d) negative n = refl
 
 pub times_valid : (a : Value) (negative : Bool) (n : ℕ) → valid (times_of a negative n) ≡ true
 unfolding times_of

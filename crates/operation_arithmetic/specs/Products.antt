@@ -1,5 +1,4 @@
 -- Document 01, "Operations": a duration times a whole number -999,999 to 999,999. The number is a sign and a magnitude.
--- Document 02, n: 9 for arithmetic on the general duration.
 use Rattle.std.specs.Prelude.{Bool, ℕ, ◌*◌, leb}
 use Rattle.basis.specs.Choice.{pick, both}
 use Rattle.basis.specs.Answer.{Answer, refuses}
@@ -7,7 +6,7 @@ use Rattle.value.specs.Refusals.{wrong_kind, outside}
 use Rattle.value.specs.Durations.{plus_half, minus_half, plus_ticks, minus_ticks}
 use Rattle.value.specs.Kinds.{ok_value}
 use Rattle.value.specs.declared.Value.{Value}
-use Rattle.value.specs.declared.Value.TheVariants.{Moment, DayTime, YearMonth, Duration}
+use Rattle.value.specs.declared.Value.TheVariants.{Moment, DayTime, YearMonth}
 use Rattle.operation_quantities.specs.Results.{in_ticks, in_months}
 
 abbrev pub max_factor : ℕ
@@ -21,7 +20,6 @@ unfoldable pub product_of : Value → Bool → ℕ → Answer Value
 product_of (Moment k d) negative n = refuses wrong_kind
 product_of (DayTime t) negative n = signed_times in_ticks negative n (plus_ticks t) (minus_ticks t)
 product_of (YearMonth m) negative n = signed_times in_months negative n (plus_half m.negative m.months) (minus_half m.negative m.months)
-product_of (Duration d) negative n = refuses wrong_kind
 
 unfoldable pub times_of : Value → Bool → ℕ → Answer Value
 times_of a negative n = pick (both (ok_value a) (leb n max_factor)) (product_of a negative n) (refuses outside)

@@ -49,6 +49,5 @@ pub fn product(a: Value, negative: bool, n: u32) -> Outcome
         Value::Moment(_, _) => results::refused(Refusal::WRONG_KIND),
         Value::DayTime(t) => day_time_times(t, negative, n),
         Value::YearMonth(m) => year_month_times(m, negative, n),
-        Value::Duration(_) => results::refused(Refusal::WRONG_KIND),
     }
 }

@@ -23,7 +23,6 @@ fn moment_plus(kind: Kind, d: DateTime, b: Value) -> Outcome
         Value::Moment(_, _) => results::refused(Refusal::WRONG_KIND),
         Value::DayTime(t) => shifts::shifted(kind, d, t),
         Value::YearMonth(m) => months::moved(kind, d, m),
-        Value::Duration(_) => results::refused(Refusal::WRONG_KIND),
     }
 }
 
@@ -49,7 +48,6 @@ fn day_time_plus(t: DayTime, b: Value) -> Outcome
         Value::Moment(kind, d) => shifts::shifted(kind, d, t),
         Value::DayTime(s) => results::in_ticks(plus_halves(t, s), minus_halves(t, s)),
         Value::YearMonth(_) => results::refused(Refusal::WRONG_KIND),
-        Value::Duration(_) => results::refused(Refusal::WRONG_KIND),
     }
 }
 
@@ -71,7 +69,6 @@ fn year_month_plus(m: YearMonth, b: Value) -> Outcome
         Value::Moment(kind, d) => months::moved(kind, d, m),
         Value::DayTime(_) => results::refused(Refusal::WRONG_KIND),
         Value::YearMonth(n) => months_sum(m, n),
-        Value::Duration(_) => results::refused(Refusal::WRONG_KIND),
     }
 }
 
@@ -83,7 +80,6 @@ pub fn sum(a: Value, b: Value) -> Outcome
         Value::Moment(kind, d) => moment_plus(kind, d, b),
         Value::DayTime(t) => day_time_plus(t, b),
         Value::YearMonth(m) => year_month_plus(m, b),
-        Value::Duration(_) => results::refused(Refusal::WRONG_KIND),
     }
 }
 
@@ -119,14 +115,13 @@ fn less_moment(a: Value, kind: Kind, e: DateTime, given: Offset) -> Outcome
 {
     match a {
         Value::Moment(own, d) => {
-            if !kinds::ordered(own, kind) {
+            if !kinds::same(own, kind) {
                 return results::refused(Refusal::WRONG_KIND);
             }
             results::in_ticks(ticks::instant(d, given), ticks::instant(e, given))
         }
         Value::DayTime(_) => results::refused(Refusal::WRONG_KIND),
         Value::YearMonth(_) => results::refused(Refusal::WRONG_KIND),
-        Value::Duration(_) => results::refused(Refusal::WRONG_KIND),
     }
 }
 
@@ -138,7 +133,6 @@ fn difference(a: Value, b: Value, given: Offset) -> Outcome
         Value::Moment(kind, e) => less_moment(a, kind, e, given),
         Value::DayTime(t) => sum(a, Value::DayTime(opposite(t))),
         Value::YearMonth(m) => sum(a, Value::YearMonth(opposite_months(m))),
-        Value::Duration(_) => results::refused(Refusal::WRONG_KIND),
     }
 }
 

@@ -37,7 +37,6 @@ unfolding cast_to
 same_value_lem (VV.Moment k d) g = ap (VV.Moment k) (of_kind_kept k d (moment_good (VV.Moment k d) g k d refl).2)
 same_value_lem (VV.DayTime t) g = refl
 same_value_lem (VV.YearMonth m) g = refl
-same_value_lem (VV.Duration d) g = refl
 
 pub cast_to_itself : (a : Value) → ok_value a ≡ true → cast_of a (kind_of a) ≡ gives a
 unfolding cast_of
@@ -71,7 +70,6 @@ unfolding cast_to is_dated has every both
 cast_kind (VV.Moment j d) k c = refl
 cast_kind (VV.DayTime t) k c = only_itself KV.DayTimeDuration k refl c
 cast_kind (VV.YearMonth m) k c = only_itself KV.YearMonthDuration k refl c
-cast_kind (VV.Duration d) k c = only_itself KV.Duration k refl c
 
 -- and within the bounds
 pub cast_to_valid : (a : Value) (k : Kind) → ok_value a ≡ true → casts_to (kind_of a) k ≡ true → ok_value (cast_to k a) ≡ true
@@ -81,7 +79,6 @@ cast_to_valid (VV.Moment j d) k g c =
     moment_ok k (kept k d) (cast_moment j k h.0 c) (cast_good k d h.1) (cast_of_kind k d)
 cast_to_valid (VV.DayTime t) k g c = g
 cast_to_valid (VV.YearMonth m) k g c = g
-cast_to_valid (VV.Duration d) k g c = g
 
 -- by way of another kind
 through_part : {A : Type 0} (a b : Bool) (x y z : A) → pick a b true ≡ true → pick a (pick b x y) z ≡ pick a x z
@@ -120,4 +117,3 @@ unfolding cast_to
 cast_through (VV.Moment i d) j k e = ap (VV.Moment k) (kept_through j k d e)
 cast_through (VV.DayTime t) j k e = refl
 cast_through (VV.YearMonth m) j k e = refl
-cast_through (VV.Duration d) j k e = refl

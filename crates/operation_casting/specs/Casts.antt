@@ -1,5 +1,4 @@
 -- Document 01, "Operations", casts: a kind to itself; dateTime to date or time; date to dateTime at 00:00:00. Zone kept.
--- Document 02, n: casts from date and dateTime to gYear, gYearMonth, gMonth, gMonthDay and gDay.
 use Rattle.std.specs.Prelude.{Bool, true, [], ◌∷◌}
 use Rattle.basis.specs.Choice.{pick, every}
 use Rattle.basis.specs.Answer.{Answer, gives, refuses}
@@ -37,7 +36,6 @@ unfoldable pub cast_to : Kind → Value → Value
 cast_to k (VV.Moment j d) = VV.Moment k (kept k d)
 cast_to k (VV.DayTime t) = VV.DayTime t
 cast_to k (VV.YearMonth m) = VV.YearMonth m
-cast_to k (VV.Duration d) = VV.Duration d
 
 unfoldable pub cast_of : Value → Kind → Answer Value
 cast_of a k = pick (ok_value a) (pick (casts_to (kind_of a) k) (gives (cast_to k a)) (refuses wrong_kind)) (refuses outside)

@@ -68,6 +68,5 @@ pub fn cast_to(kind: Kind, a: Value) -> Value
         Value::Moment(_, d) => Value::Moment(kind, kinds::kept(kind, d)),
         Value::DayTime(t) => Value::DayTime(t),
         Value::YearMonth(m) => Value::YearMonth(m),
-        Value::Duration(d) => Value::Duration(d),
     }
 }

@@ -1,11 +1,11 @@
--- The order is total and transitive over the values of a kind that has one, and equality in it is that of the instants,
--- or of the numbers of durations.
+-- The order is total and transitive over the values of a kind, and equality is that of the instants, or of the numbers of
+-- durations.
 use mathlib.Core.Path.{◌≡◌, refl, ap, sym, ◌∙◌}
 use mathlib.Core.Bool.{Bool, true, false}
 use Prim.Native.Nat.{ℕ, ◌+◌, ◌<◌}
 use native.Mathlib.Omega.{arith}
 use lib.Dec.{ltb}
-use borrow.Author.Tests.{ltb-true, ltb-false, lt-ltb, le-ltb}
+use borrow.Author.Tests.{ltb-true, ltb-false, lt-ltb, le-ltb, eq-eqb, eqb-true}
 use Rattle.basis.specs.Choice.{pick, both}
 use Rattle.basis.specs.Answer.{gives, refuses}
 use Rattle.basis.proofs.Tests.{both_left, both_right, both_true}
@@ -14,7 +14,7 @@ use Rattle.value.specs.Refusals.{outside, wrong_kind}
 use Rattle.value.specs.Clocks.{ticks_in}
 use Rattle.value.specs.Durations.{plus_half, minus_half}
 use Rattle.value.specs.Values.{ok_signed, ok_offset}
-use Rattle.value.specs.Rows.{is_ordered, ordered_kinds}
+use Rattle.value.specs.Rows.{kind_number, same_kind}
 use Rattle.value.specs.Kinds.{kind_of, ok_value}
 use Rattle.value_instants.specs.Ticks.{instant_of}
 use Rattle.value.specs.declared.Offset.{Offset}
@@ -25,7 +25,6 @@ use Rattle.value.specs.declared.Kind.{Kind}
 use Rattle.value.specs.declared.Value.{Value}
 use Rattle.value.specs.declared.Value.TheVariants as VV
 use Rattle.value.proofs.ClockLaws.{one_duration, day_time_signed}
-use Rattle.value.proofs.RowLaws.{same_kind_lem, own_kind}
 use Rattle.value.proofs.Signs.{same_difference, signed_back}
 use Rattle.operation_quantities.proofs.Given.{given_test, given_rest, gives_same}
 use Rattle.operation_ordering.specs.Order.{Order, less, equal, greater, up, down, order, value_order, order_in, order_for}
@@ -87,40 +86,31 @@ one_number bound m n a b g h e =
     let z = same_difference (plus_half a m) (minus_half a m) (plus_half b n) (minus_half b n) e in
     (sym x.0 ∙ z.0 ∙ y.0, sym x.1 ∙ z.1 ∙ y.1)
 
--- two kinds that are ordered are one kind
-kinds_turned : (j k : Kind) → ordered_kinds j k ≡ true → ordered_kinds k j ≡ true
-kinds_turned j k e =
-    let p : j ≡ k = same_kind_lem j k (both_left _ _ e) in
-    sym (λ i. ordered_kinds (p i) (sym p i)) ∙ e
-
-kinds_over : (i j k : Kind) → ordered_kinds i j ≡ true → ordered_kinds j k ≡ true → ordered_kinds i k ≡ true
-kinds_over i j k e f = sym (ap (ordered_kinds i) (same_kind_lem j k (both_left _ _ f))) ∙ e
-
--- values that have an order: both within the bounds, and of one kind that has one
+-- values that have an order: both within the bounds, and of one kind
 pub record Comparable (a b : Value) : Type 0 where
   pub left_ok : ok_value a ≡ true
   pub right_ok : ok_value b ≡ true
-  pub same : ordered_kinds (kind_of a) (kind_of b) ≡ true
+  pub same : same_kind (kind_of a) (kind_of b) ≡ true
 
 module _ (o : Offset) where
-  -- any two values of a kind that has an order have exactly one of the three orders
+  -- any two values of a kind have exactly one of the three orders
   pub ordered : (a b : Value) → Comparable a b → order_in o a b ≡ gives (value_order o a b)
   unfolding order_in
   ordered a b c =
       let t : both (ok_value a) (ok_value b) ≡ true = both_true _ _ c.left_ok c.right_ok in
-      (λ i. pick (t i) (pick (ordered_kinds (kind_of a) (kind_of b)) (gives (value_order o a b)) (refuses wrong_kind)) (refuses outside))
+      (λ i. pick (t i) (pick (same_kind (kind_of a) (kind_of b)) (gives (value_order o a b)) (refuses wrong_kind)) (refuses outside))
       ∙ (λ i. pick (c.same i) (gives (value_order o a b)) (refuses wrong_kind))
 
   module _ (a b : Value) (r : Order) (e : order_in o a b ≡ gives r) where
     pub comparable : Comparable a b
     unfolding order_in
     comparable =
-        let t = given_test (both (ok_value a) (ok_value b)) (pick (ordered_kinds (kind_of a) (kind_of b)) (gives (value_order o a b)) (refuses wrong_kind)) outside r e in
-        let f = given_rest (both (ok_value a) (ok_value b)) (pick (ordered_kinds (kind_of a) (kind_of b)) (gives (value_order o a b)) (refuses wrong_kind)) outside r e in
+        let t = given_test (both (ok_value a) (ok_value b)) (pick (same_kind (kind_of a) (kind_of b)) (gives (value_order o a b)) (refuses wrong_kind)) outside r e in
+        let f = given_rest (both (ok_value a) (ok_value b)) (pick (same_kind (kind_of a) (kind_of b)) (gives (value_order o a b)) (refuses wrong_kind)) outside r e in
         record {
           left_ok = both_left _ _ t;
           right_ok = both_right _ _ t;
-          same = given_test (ordered_kinds (kind_of a) (kind_of b)) (gives (value_order o a b)) wrong_kind r f;
+          same = given_test (same_kind (kind_of a) (kind_of b)) (gives (value_order o a b)) wrong_kind r f;
         }
 
     order_of : value_order o a b ≡ r
@@ -131,7 +121,7 @@ module _ (o : Offset) where
       record {
         left_ok = g.left_ok;
         right_ok = h.right_ok;
-        same = kinds_over (kind_of a) (kind_of b) (kind_of c) g.same h.same;
+        same = eq-eqb (kind_number (kind_of a)) (kind_number (kind_of c)) (eqb-true (kind_number (kind_of a)) (kind_number (kind_of b)) g.same ∙ eqb-true (kind_number (kind_of b)) (kind_number (kind_of c)) h.same);
       }
 
   turned : (a b : Value) → Comparable a b → Comparable b a
@@ -139,16 +129,16 @@ module _ (o : Offset) where
       record {
         left_ok = g.right_ok;
         right_ok = g.left_ok;
-        same = kinds_turned (kind_of a) (kind_of b) g.same;
+        same = eq-eqb (kind_number (kind_of b)) (kind_number (kind_of a)) (sym (eqb-true (kind_number (kind_of a)) (kind_number (kind_of b)) g.same));
       }
 
   -- the sides that are compared
   abbrev side : Value → Value → ℕ
   side a b = up o a + down o b
 
-  pub equal_itself : (a : Value) → ok_value a ≡ true → is_ordered (kind_of a) ≡ true → order_in o a a ≡ gives equal
-  equal_itself a g h =
-      ordered a a (record { left_ok = g; right_ok = g; same = both_true _ _ (own_kind (kind_of a)) h })
+  pub equal_itself : (a : Value) → ok_value a ≡ true → order_in o a a ≡ gives equal
+  equal_itself a g =
+      ordered a a (record { left_ok = g; right_ok = g; same = eq-eqb (kind_number (kind_of a)) (kind_number (kind_of a)) refl })
       ∙ ap gives (equal_order (side a a) (side a a) refl)
 
   pub less_turned : (a b : Value) → order_in o a b ≡ gives less → order_in o b a ≡ gives greater
@@ -190,7 +180,7 @@ module _ (o : Offset) where
       let y = order_less (side b c) (side c b) (order_of b c less f) in
       ordered a c (over a b c (comparable a b equal e) (comparable b c less f)) ∙ ap gives (less_order (side a c) (side c a) (omega arith))
 
-  -- equal dates, times and dateTimes have one instant, and values of one kind and instant that have an order are equal
+  -- equal dates, times and dateTimes have one instant, and values of one kind and instant are equal
   module _ (a b : Value) (k : Kind) (d e : DateTime) (ea : a ≡ VV.Moment k d) (eb : b ≡ VV.Moment k e) where
     sides : (side a b ≡ instant_of o d) × (side b a ≡ instant_of o e)
     unfolding up down

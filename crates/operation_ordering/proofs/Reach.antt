@@ -26,7 +26,6 @@ up_to o (VV.DayTime t) go g =
 up_to o (VV.YearMonth m) go g =
     let h = signed_within max_year_month m.months m.negative g in
     omega (arith, plus_to m.negative m.months)
-up_to o (VV.Duration d) go g = omega arith
 
 pub down_to : (o : Offset) (v : Value) → ok_value v ≡ true → down o v ≤ max_day_time
 unfolding down ok_value
@@ -37,4 +36,3 @@ down_to o (VV.DayTime t) g =
 down_to o (VV.YearMonth m) g =
     let h = signed_within max_year_month m.months m.negative g in
     omega (arith, minus_to m.negative m.months)
-down_to o (VV.Duration d) g = omega arith

@@ -1,7 +1,6 @@
--- Document 01, "Operations", order: dateTimes by UTC instant; dates by the instant at which they start; times as if on
--- 1972-12-31, without wrapping round the day; durations by their number. Document 02, n: the other kinds have no order,
--- "9 for `lt le gt ge`". A value without zone counts in the given offset, which is UTC in the calls of document 01.
--- Equality is crate `operation_equality`.
+-- Document 01, "Operations", order and equality: dateTimes by UTC instant; dates by the instant at which they start;
+-- times as if on 1972-12-31, without wrapping round the day; durations by their number. A value without zone counts in
+-- the given offset, which is UTC in the calls of document 01.
 use Rattle.std.specs.Prelude.{ℕ, ◌+◌, ltb}
 use Rattle.basis.specs.Choice.{pick, both}
 use Rattle.basis.specs.Answer.{Answer, gives, refuses_for, refuses}
@@ -9,12 +8,12 @@ use Rattle.value.specs.Reasons.{reason_of}
 use Rattle.value.specs.Refusals.{outside, wrong_kind}
 use Rattle.value.specs.Durations.{plus_half, minus_half, plus_ticks, minus_ticks}
 use Rattle.value.specs.Values.{ok_offset}
-use Rattle.value.specs.Rows.{ordered_kinds}
+use Rattle.value.specs.Rows.{same_kind}
 use Rattle.value.specs.Kinds.{kind_of, ok_value}
 use Rattle.value_instants.specs.Ticks.{instant_of}
 use Rattle.value.specs.declared.Offset.{Offset}
 use Rattle.value.specs.declared.Value.{Value}
-use Rattle.value.specs.declared.Value.TheVariants.{Moment, DayTime, YearMonth, Duration}
+use Rattle.value.specs.declared.Value.TheVariants.{Moment, DayTime, YearMonth}
 use Rattle.operation_ordering.specs.declared.Compared.{Compared}
 use Rattle.operation_ordering.specs.declared.Compared.TheVariants as CV
 
@@ -31,18 +30,16 @@ compared_meaning CV.Greater = gives greater
 compared_meaning (CV.Refused r) = refuses_for (reason_of r)
 
 -- what a value is ordered by, as the whole number up - down: its instant (a date is at 00:00:00, a time on 1972-12-31),
--- or a duration's number. A general duration is two numbers and has no order: it is not asked for.
+-- or a duration's number
 unfoldable pub up : Offset → Value → ℕ
 up o (Moment k d) = instant_of o d
 up o (DayTime t) = plus_ticks t
 up o (YearMonth m) = plus_half m.negative m.months
-up o (Duration d) = 0
 
 unfoldable pub down : Offset → Value → ℕ
 down o (Moment k d) = 0
 down o (DayTime t) = minus_ticks t
 down o (YearMonth m) = minus_half m.negative m.months
-down o (Duration d) = 0
 
 abbrev pub order : ℕ → ℕ → Order
 order p q = pick (ltb p q) less (pick (ltb q p) greater equal)
@@ -55,7 +52,7 @@ unfoldable pub order_in : Offset → Value → Value → Answer Order
 order_in o a b =
     pick
     (both (ok_value a) (ok_value b))
-    (pick (ordered_kinds (kind_of a) (kind_of b)) (gives (value_order o a b)) (refuses wrong_kind))
+    (pick (same_kind (kind_of a) (kind_of b)) (gives (value_order o a b)) (refuses wrong_kind))
     (refuses outside)
 
 -- in any zone: one beyond its bounds is 16

@@ -19,7 +19,7 @@ pub enum Compared {
     Refused(Refusal),
 }
 
-// Months stand as so many ticks: only durations of one kind are ordered, and a general one has no order.
+// Months stand as so many ticks: only durations of one kind are compared.
 fn up(v: Value, given: Offset) -> Span
     requires { (ok_value v ≡ true) × (ok_offset given ≡ true) }
     ensures { result ≡ span_of (the.up given v) }
@@ -28,7 +28,6 @@ fn up(v: Value, given: Offset) -> Span
         Value::Moment(_, d) => ticks::instant(d, given),
         Value::DayTime(t) => halves::plus_ticks(t),
         Value::YearMonth(m) => clocks::span(halves::plus_half(m.negative, m.months as u64)),
-        Value::Duration(_) => clocks::span(0),
     }
 }
 
@@ -40,7 +39,6 @@ fn down(v: Value, given: Offset) -> Span
         Value::Moment(_, _) => clocks::span(0),
         Value::DayTime(t) => halves::minus_ticks(t),
         Value::YearMonth(m) => clocks::span(halves::minus_half(m.negative, m.months as u64)),
-        Value::Duration(_) => clocks::span(0),
     }
 }
 
@@ -86,7 +84,7 @@ pub fn compare_in(a: Value, b: Value, given: Offset) -> Compared
     if !valid::value_ok(b) {
         return refused(Refusal::OUTSIDE);
     }
-    if !kinds::ordered(a.kind(), b.kind()) {
+    if !kinds::same(a.kind(), b.kind()) {
         return refused(Refusal::WRONG_KIND);
     }
     order_of(a, b, given)

@@ -19,9 +19,9 @@ use Rattle.value.specs.declared.Value.{Value}
 use Rattle.value.specs.declared.Value.TheVariants.{Moment}
 use Rattle.operation_quantities.specs.Results.{at_ticks}
 
--- dateTime ± yearMonthDuration: months move, the day is cut to the new month's last day, time and zone stay. Dates
--- likewise: a kind with year, month and day; any other, as document 02's g-kinds, is 9. Months are counted from January
--- of year 0; before it there is 0, which is beyond the years too.
+-- dateTime ± yearMonthDuration: months move, the day is cut to the new month's last day, time and zone stay.
+-- Dates likewise: a kind with year, month and day. Months are counted from January of year 0; before it there is 0,
+-- which is beyond the years too.
 abbrev pub month_of : DateTime → ℕ
 month_of d = d.year * month_count + (d.month - 1)
 
@@ -45,7 +45,6 @@ moved k d p q = pick (is_dated k) (moved_to k d (month_of d + p - q)) (refuses w
 
 -- dateTime ± dayTimeDuration: local arithmetic, zone kept. A date does so from its 00:00:00 and drops the time.
 -- A time wraps modulo 24 hours and is never refused. (Before 0000-01-01 there is 0, which is beyond the years too.)
--- A kind with neither a whole date nor a time of day, as document 02's g-kinds, is 9.
 abbrev pub wrapped_clock : ℕ → ℕ → ℕ → ℕ
 wrapped_clock u p q = (u + p % day_ticks + (day_ticks - q % day_ticks)) % day_ticks
 

@@ -99,7 +99,6 @@ fn moment(v: Value) -> DateTime
         Value::Moment(_, d) => d,
         Value::DayTime(_) => value::kinds::template(Kind::DayTimeDuration),
         Value::YearMonth(_) => value::kinds::template(Kind::YearMonthDuration),
-        Value::Duration(_) => value::kinds::template(Kind::Duration),
     }
 }
 

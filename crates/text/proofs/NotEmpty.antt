@@ -30,12 +30,6 @@ empty_refused KV.Time = refl
 empty_refused KV.DateTime = refl
 empty_refused KV.DayTimeDuration = refl
 empty_refused KV.YearMonthDuration = refl
-empty_refused KV.GYear = refl
-empty_refused KV.GYearMonth = refl
-empty_refused KV.GMonth = refl
-empty_refused KV.GMonthDay = refl
-empty_refused KV.GDay = refl
-empty_refused KV.Duration = refl
 
 pub written_some : (v : Value) → ok_value v ≡ true → 0 < length (text_of v)
 written_some v g = go (text_of v) (bytes_read_back v g)

@@ -49,7 +49,7 @@ Reads x = only reading_numbers x ≡ true
 either : {A : Type 0} (b : Bool) (x y : Answer A) → Reads x → Reads y → Reads (pick b x y)
 either b x y p q = only_either reading_numbers b x y p q
 
--- moments
+-- dates, times and dateTimes
 start_numbers : (k : Kind) (z : Zone) (d : Dated) → Reads (judging.start_of_day k z d)
 start_numbers k z (On d) = refl
 start_numbers k z Later = refl

@@ -40,15 +40,9 @@ forms_lettered KV.Time = (refl, refl)
 forms_lettered KV.DateTime = (refl, refl)
 forms_lettered KV.DayTimeDuration = (refl, refl)
 forms_lettered KV.YearMonthDuration = (refl, refl)
-forms_lettered KV.GYear = (refl, refl)
-forms_lettered KV.GYearMonth = (refl, refl)
-forms_lettered KV.GMonth = (refl, refl)
-forms_lettered KV.GMonthDay = (refl, refl)
-forms_lettered KV.GDay = (refl, refl)
-forms_lettered KV.Duration = (refl, refl)
 
 module _ (s : List ℕ) (j : ℕ) (h : j < length s) where
-  -- moments
+  -- dates, times and dateTimes
   layout_stranger : (k : Kind) → moment_byte (at s j) ≡ false → read_layout k s ≡ refuses bad_text
   unfolding read_layout judge
   layout_stranger k e = laid (is_moment k)

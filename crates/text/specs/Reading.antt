@@ -1,6 +1,6 @@
 -- Document 01, "Reading text", and document 02, a: what a text reads as, by the kind that is asked for. The blanks
--- round the value are stripped first. Moments are read along the layout of their kind, durations by the components of
--- their form.
+-- round the value are stripped first. Dates, times and dateTimes are read along the layout of their kind, durations
+-- by the components of their form.
 use Rattle.std.specs.Prelude.{List, ℕ}
 use Rattle.basis.specs.Choice.{pick}
 use Rattle.basis.specs.Answer.{Answer}

@@ -16,7 +16,6 @@ unfoldable pub text_of : Value → List ℕ
 text_of (VV.Moment k d) = layouts.kind_text k d
 text_of (VV.DayTime t) = duration_text_of (VV.DayTime t)
 text_of (VV.YearMonth m) = duration_text_of (VV.YearMonth m)
-text_of (VV.Duration d) = duration_text_of (VV.Duration d)
 
 -- what an answer says: the length written, or the number of a refusal
 abbrev pub written_meaning : Written → Answer ℕ

@@ -1,4 +1,4 @@
-// Values from text and to text: the two calls of document 01 over the kinds of documents 01 and 02.
+// Values from text and to text: the two calls of document 01 over the five kinds.
 ghost use Rattle.std.specs.Prelude.{◌≡◌, true, length};
 ghost use Rattle.basis.specs.Answer.{refuses};
 ghost use Rattle.value.specs.Kinds as kinds;
@@ -46,7 +46,6 @@ pub fn text_of(v: Value) -> Text
         Value::Moment(kind, d) => text_layouts::layout_text(kind, d),
         Value::DayTime(_) => text_durations::text_of(v),
         Value::YearMonth(_) => text_durations::text_of(v),
-        Value::Duration(_) => text_durations::text_of(v),
     }
 }
 

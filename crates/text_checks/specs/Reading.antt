@@ -1,6 +1,6 @@
--- Document 01, "Reading text", and document 02, n: what the text of a moment reads as. Its parts are found first (crate
--- `text_scan`); then the checks are made in document 01's order, across the whole text. Each check hands on to the next,
--- so that they stand here from the last to the first; `judge` is where they begin.
+-- Document 01, "Reading text": what the text of a date, a time or a dateTime reads as. Its parts are found first (crate
+-- `text_scan`); then the checks are made in document 01's order, across the whole text. Each check hands on to the next, so that
+-- they stand here from the last to the first; `judge` is where they begin.
 use Rattle.std.specs.Prelude.{Bool, true, [], ◌∷◌, ℕ, ◌+◌, ◌*◌, eqb, leb}
 use Prim.Native.Char.{code}
 use Rattle.basis.specs.Choice.{pick, every}

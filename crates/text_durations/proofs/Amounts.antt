@@ -1,37 +1,34 @@
 -- A value as an amount: within the bounds, with no sign on zero, counted whole by the form of its kind, and that
 -- value again.
 use mathlib.Core.Path.{◌≡◌, refl, ap, sym, ◌∙◌}
-use mathlib.Core.Bool.{Bool, true, false}
+use mathlib.Core.Bool.{Bool, true, false, not}
 use mathlib.Core.List.{List}
-use Prim.Native.Nat.{ℕ, ◌+◌, ◌*◌, ◌/◌, ◌%◌, ◌≤◌, ◌<◌}
+use Prim.Native.Nat.{ℕ, ◌+◌, ◌*◌, ◌/◌, ◌%◌, ◌≤◌}
 use native.Mathlib.Nat.{div-add-mod'}
 use native.Mathlib.Omega.{arith}
-use borrow.Author.Tests.{eqb-true, eqb-false, eq-eqb, le-leb}
-use Rattle.basis.specs.Choice.{pick, both}
+use borrow.Author.Tests.{eqb-true, eq-eqb, le-leb}
+use Rattle.basis.specs.Choice.{pick, both, all_pass}
 use Rattle.basis.proofs.Tests.{never, both_left, both_right}
 use Rattle.value.specs.Bounds.{second_ticks, max_day_time, max_year_month}
 use Rattle.value.specs.Carried.{span_of}
-use Rattle.value.specs.Clocks.{ticks_in, duration_of, time_part, general_of}
-use Rattle.value.specs.Values.{ok_day_time, ok_year_month, ok_duration}
+use Rattle.value.specs.Clocks.{ticks_in, duration_of}
+use Rattle.value.specs.Values.{ok_day_time, ok_year_month}
 use Rattle.value.specs.Rows.{has, is_moment}
 use Rattle.value.specs.Kinds.{kind_of, ok_value}
 use Rattle.value.specs.declared.DayTime.{DayTime}
 use Rattle.value.specs.declared.YearMonth.{YearMonth}
-use Rattle.value.specs.declared.Duration.{Duration}
 use Rattle.value.specs.declared.Span.{Span}
 use Rattle.value.specs.declared.Value.{Value}
 use Rattle.value.specs.declared.Value.TheVariants as VV
 use Rattle.value.proofs.KindParts.{moment_good}
 use Rattle.value.proofs.ClockLaws.{duration_is, day_time_signed, day_time_ok, ticks_to}
-use Rattle.value.proofs.GeneralLaws.{time_part_ok, sign_shown, months_to, time_to, time_ticks, general_is, general_ok}
 use Rattle.value.proofs.Signs.{signed_within, signed_zero, signed_ok}
 use Rattle.text_durations.specs.declared.Sums.{Sums}
 use Rattle.text_durations.specs.declared.Amount.{Amount}
-use Rattle.text_forms.specs.Forms.{Form, minutes, seconds, duration_form, form_months, form_seconds}
-use Rattle.text_durations.specs.Walks.{is_nothing, no_sums, shape, amount_value}
-use Rattle.text_durations.specs.Spelling.{left, day_time_amount, year_month_amount, general_amount, amount_of}
-use Rattle.text_forms.proofs.RowTests.{months_alone, without_months}
-use Rattle.text_durations.proofs.FormTests.{counts_own, form_value}
+use Rattle.text_forms.specs.Forms.{Form, counts_months, minutes, seconds, duration_form, form_months}
+use Rattle.text_durations.specs.Walks.{no_sums, shape, amount_value}
+use Rattle.text_durations.specs.Spelling.{left, day_time_amount, year_month_amount, amount_of}
+use Rattle.text_forms.proofs.RowTests.{one_alone}
 use Rattle.text_durations.proofs.Valid.{Good, Counts, months_within, seconds_within, only_seconds, only_months}
 use Rattle.text_durations.proofs.Trip.{carried, carried_has, left_no_months, left_no_seconds, all_months, all_seconds, same_sums}
 
@@ -62,33 +59,9 @@ year_month_good d ok =
       part = omega arith;
     }
 
-general_good : (d : Duration) → ok_duration d ≡ true → Good (general_amount d)
-unfolding both
-general_good d ok =
-    let h : d.months ≤ max_year_month = months_to d ok in
-    let k : ticks_in (time_part d) ≤ max_day_time = time_to d ok in
-    record {
-      within = rw (le-leb d.months max_year_month h) (le-leb (ticks_in (time_part d) / second_ticks * second_ticks + ticks_in (time_part d) % second_ticks) max_day_time (omega arith));
-      sign = λ e. by d.negative refl (eqb-true _ _ e);
-      part = omega arith;
-    }
-  where
-    by : (b : Bool) → d.negative ≡ b → d.months + ticks_in (time_part d) / second_ticks + ticks_in (time_part d) % second_ticks ≡ 0 → d.negative ≡ false
-    by true e z = let h = sign_shown d ok e in absurd (omega (arith, time_ticks d))
-    by false e z = e
-
 -- the amount of a dayTimeDuration, of whose size the code has the span
 pub size_amount : (d : DayTime) {z : Span} → z ≡ span_of (ticks_in d) → record { negative = d.negative; sums = record { months = 0; seconds = z.seconds }; ticks = z.part } ≡ day_time_amount d
 size_amount d e = λ i. record { negative = d.negative; sums = record { months = 0; seconds = (e i).seconds }; ticks = (e i).part }
-
-pub general_amount_lem : (d : Duration) {t : DayTime} {z : Span} → t ≡ time_part d → z ≡ span_of (ticks_in t)
-    → record { negative = d.negative; sums = record { months = d.months; seconds = z.seconds }; ticks = z.part } ≡ general_amount d
-general_amount_lem d et ez =
-    let e = ez ∙ ap (λ (t : DayTime). span_of (ticks_in t)) et in
-    λ i. record { negative = d.negative; sums = record { months = d.months; seconds = (e i).seconds }; ticks = (e i).part }
-
-pub part_good : (d : Duration) {t : DayTime} → t ≡ time_part d → ok_duration d ≡ true → ok_day_time t ≡ true
-part_good d e ok = ap ok_day_time e ∙ time_part_ok d ok
 
 none_good : Good (record { negative = false; sums = no_sums; ticks = 0 })
 unfolding both
@@ -99,7 +72,6 @@ unfolding ok_value
 value_good (VV.Moment k d) ok = none_good
 value_good (VV.DayTime t) ok = day_time_good t ok
 value_good (VV.YearMonth m) ok = year_month_good m ok
-value_good (VV.Duration d) ok = general_good d ok
 
 -- a form counts an amount whole: of what it has no component for there is none
 pub record Fits (f : Form) (a : Amount) : Type 0 where
@@ -140,46 +112,34 @@ unfolding has
 value_fits (VV.Moment k d) = record { months = λ e. refl; rest = λ e. refl }
 value_fits (VV.DayTime t) = record { months = λ e. refl; rest = λ e. absurd (never (sym e)) }
 value_fits (VV.YearMonth m) = record { months = λ e. absurd (never (sym e)); rest = λ e. refl }
-value_fits (VV.Duration d) = record { months = λ e. absurd (never (sym e)); rest = λ e. absurd (never (sym e)) }
 
 -- and of the amount it has the value
-pub value_back : (v : Value) → is_moment (kind_of v) ≡ false → ok_value v ≡ true → form_value (duration_form (kind_of v)) (amount_of v) ≡ v
+pub value_back : (v : Value) → is_moment (kind_of v) ≡ false → ok_value v ≡ true → amount_value (form_months (duration_form (kind_of v))) (amount_of v) ≡ v
 unfolding has ok_value
 value_back (VV.Moment k d) e ok = absurd (never (sym e ∙ (moment_good (VV.Moment k d) ok k d refl).0))
 value_back (VV.DayTime t) e ok =
     ap (λ (n : ℕ). VV.DayTime (duration_of t.negative n)) (div-add-mod' (ticks_in t) second_ticks) ∙ ap VV.DayTime (duration_is t ok)
 value_back (VV.YearMonth m) e ok = refl
-value_back (VV.Duration d) e ok =
-    ap (λ (n : ℕ). VV.Duration (general_of d.negative d.months n)) (div-add-mod' (ticks_in (time_part d)) second_ticks) ∙ ap VV.Duration (general_is d ok)
 
--- what a form reads is valid, where its components count no more than what its values have
-pub amount_valid : (f : Form) (s : List ℕ) (a : Amount) → counts_own f ≡ true → Counts (shape f.before f.after s) a → ok_value (form_value f a) ≡ true
+-- what a form reads is valid, where its components count one sum alone
+pub amount_valid : (f : Form) (s : List ℕ) (a : Amount) → one_alone f ≡ true → Counts (shape f.before f.after s) a → ok_value (amount_value (form_months f) a) ≡ true
 unfolding ok_value
-amount_valid f s a ok k = go (form_months f) (form_seconds f) (both_left _ _ ok) (both_right (pick (form_months f) true (without_months f)) _ ok)
+amount_valid f s a ok k = go (form_months f) ok
   where
-    n : ℕ
-    n = a.sums.seconds * second_ticks + a.ticks
-
     zero_sums : (a.sums.months + a.sums.seconds + a.ticks ≡ 0) → a.negative ≡ false
     zero_sums z = k.good.sign (eq-eqb (a.sums.months + a.sums.seconds + a.ticks) 0 z)
 
-    some : a.negative ≡ true → 0 < a.sums.months + (a.sums.seconds * second_ticks + a.ticks)
-    some e = by (is_nothing a.sums a.ticks) refl
-      where
-        by : (b : Bool) → is_nothing a.sums a.ticks ≡ b → 0 < a.sums.months + (a.sums.seconds * second_ticks + a.ticks)
-        by true q = absurd (never (sym (k.good.sign q) ∙ e))
-        by false q = let z = eqb-false (a.sums.months + a.sums.seconds + a.ticks) 0 q in pos z
-          where
-            pos : (a.sums.months + a.sums.seconds + a.ticks ≡ 0 → ⊥) → 0 < a.sums.months + (a.sums.seconds * second_ticks + a.ticks)
-            pos z = omega arith
-
-    go : (m t : Bool) → pick m true (without_months f) ≡ true → pick t true (months_alone f) ≡ true → ok_value (amount_value m t a) ≡ true
-    go true true p q = general_ok a.negative a.sums.months n (months_within a k.good) (seconds_within a k.good) some
-    go true false p q =
-        let o = only_months s f.before f.after (both_left _ _ q) (both_right _ _ q) in
+    go : (b : Bool)
+        → pick b
+        (both (all_pass (λ (c : ℕ). counts_months false c) f.before) (all_pass (λ (c : ℕ). counts_months true c) f.after))
+        (both (all_pass (λ (c : ℕ). not (counts_months false c)) f.before) (all_pass (λ (c : ℕ). not (counts_months true c)) f.after)) ≡ true
+        → ok_value (amount_value b a) ≡ true
+    go true p =
+        let o = only_months s f.before f.after (both_left _ _ p) (both_right _ _ p) in
         let m : a.sums.seconds ≡ 0 = sym (ap (λ (x : Sums). x.seconds) k.sums) ∙ o.0 in
         let u : a.ticks ≡ 0 = sym k.ticks ∙ o.1 in
         signed_ok max_year_month a.sums.months a.negative (months_within a k.good) (λ q. zero_sums (omega arith))
-    go false t p q =
+    go false p =
+        let n : ℕ = a.sums.seconds * second_ticks + a.ticks in
         let m : a.sums.months ≡ 0 = sym (ap (λ (x : Sums). x.months) k.sums) ∙ only_seconds s f.before f.after (both_left _ _ p) (both_right _ _ p) in
         day_time_ok a.negative n (signed_ok max_day_time n a.negative (seconds_within a k.good) (λ q. zero_sums (omega arith)))

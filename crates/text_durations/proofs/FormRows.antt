@@ -19,12 +19,12 @@ use Rattle.text_durations.specs.declared.Shape.{Shape}
 use Rattle.text_durations.specs.declared.Amount.{Amount}
 use Rattle.text_durations.specs.declared.Count.{Count}
 use Rattle.text_durations.specs.declared.Count.TheVariants as NV
-use Rattle.text_forms.specs.Forms.{Form, minutes, seconds, duration_form, form_months, form_seconds}
+use Rattle.text_forms.specs.Forms.{Form, minutes, duration_form, form_months}
 use Rattle.text_durations.specs.Walks.{shape, counted, read_by, as_value, amount_value, read_duration}
 use Rattle.text_durations.specs.Carried.{count_meaning, shape_up_to, shape_end}
 use Rattle.text_forms.specs.Carried.{form_in, HoldsForm}
 use Rattle.text_durations.specs.Spelling.{body, duration_text, amount_of, duration_text_of}
-use Rattle.text_durations.proofs.FormTests.{Sane, sane_row, form_value}
+use Rattle.text_durations.proofs.FormTests.{Sane, sane_row}
 use Rattle.text_durations.proofs.Valid.{Good, of_form, shape_ticks, reads_good}
 use Rattle.text_durations.proofs.Lengths.{value_short}
 
@@ -47,19 +47,18 @@ module _ (k : Kind) {row : FormRow} (g : HoldsForm (duration_form k) row) where
       row_counts : count_meaning x ≡ read_by (duration_form k) s
       row_counts = of_form (duration_form k) s of_row er ex
 
-      pub refused_so : as_value (form_value (duration_form k)) (count_meaning x) ≡ read_duration k s
-      refused_so = ap (as_value (form_value (duration_form k))) row_counts
+      pub refused_so : as_value (amount_value (form_months (duration_form k))) (count_meaning x) ≡ read_duration k s
+      refused_so = ap (as_value (amount_value (form_months (duration_form k)))) row_counts
 
     module _ {r : Count} {a : Amount} (er : count_meaning r ≡ counted t) (ex : r ≡ NV.Of a) where
       pub read_good : Good a
       read_good = (reads_good (duration_form k) s a (sym (row_counts er ex))).good
 
-      pub read_so : {months time : Bool} {v : Value} → months ≡ has (take row.before_len row.before) minutes → time ≡ has (take row.after_len row.after) seconds
-          → v ≡ amount_value months time a → gives v ≡ read_duration k s
-      read_so em et ev =
-          let m = em ∙ ap (λ (f : Form). form_months f) g.form in
-          let t = et ∙ ap (λ (f : Form). form_seconds f) g.form in
-          ap gives ev ∙ (λ i. gives (amount_value (m i) (t i) a)) ∙ refused_so er ex
+      pub read_so : {months : Bool} {v : Value} → months ≡ has (take row.before_len row.before) minutes → v ≡ amount_value months a → gives v ≡ read_duration k s
+      read_so em ev =
+          ap gives ev
+          ∙ ap (λ (b : Bool). gives (amount_value b a)) (em ∙ ap (λ (f : Form). form_months f) g.form)
+          ∙ refused_so er ex
 
 -- writing: the text in the form that the arrays hold
 module _ (v : Value) {k : Kind} (ek : k ≡ kind_of v) {row : FormRow} (g : HoldsForm (duration_form k) row) {a : Amount} (ea : a ≡ amount_of v) where

@@ -1,6 +1,6 @@
 -- What a form has to pass, one test over any form, which every row passes by computing: its letters tell its
 -- components apart, they are bytes of a duration's text and S is none before T, its longest text has room, and its
--- components count no more than what its values have.
+-- components count one sum alone.
 use mathlib.Core.Path.{◌≡◌, refl, sym}
 use mathlib.Core.Bool.{Bool, true, false, not}
 use mathlib.Core.List.{List, [], ◌∷◌}
@@ -15,15 +15,14 @@ use Rattle.value.specs.Rows.{has, is_moment}
 use Rattle.value.specs.Kinds.{kind_of}
 use Rattle.value.specs.declared.Kind.{Kind}
 use Rattle.value.specs.declared.Kind.TheVariants as KV
-use Rattle.value.specs.declared.Value.{Value}
 use Rattle.numerals.specs.Reading.{is_digit, number, fraction_digits, fraction_at}
 use Rattle.numerals.specs.Writing.{longest}
 use Rattle.numerals.specs.Carried.{without_zero}
 use Rattle.text_durations.specs.declared.Sums.{Sums}
 use Rattle.text_durations.specs.declared.Shape.{Shape}
 use Rattle.text_durations.specs.declared.Amount.{Amount}
-use Rattle.text_forms.proofs.RowTests.{months_alone, without_months}
-use Rattle.text_forms.specs.Forms.{Form, weight, counts_months, duration_form, form_months, form_seconds, seconds, point}
+use Rattle.text_forms.proofs.RowTests.{one_alone}
+use Rattle.text_forms.specs.Forms.{Form, weight, counts_months, duration_form, form_months, seconds, point}
 use Rattle.text_durations.specs.Walks.{is_nothing, component, components, shape_from, shape, amount_value}
 use Rattle.text_durations.specs.Spelling.{share_of}
 use Rattle.text_durations.proofs.Passed.{duration_byte}
@@ -72,10 +71,6 @@ most_left time (c ∷ cs) a = most_left time cs (most_rest (counts_months time c
 abbrev pub most_bytes : Form → ℕ
 most_bytes f = 2 + (most_all false f.before most_sums + (1 + most_all true f.after (most_left false f.before most_sums)))
 
--- where a form has not M before T none counts months, and where it has not S after T nothing else is counted
-abbrev pub counts_own : Form → Bool
-counts_own f = both (pick (form_months f) true (without_months f)) (pick (form_seconds f) true (months_alone f))
-
 abbrev pub ok_form : Form → Bool
 ok_form f =
     every
@@ -88,7 +83,7 @@ ok_form f =
     ∷ all_pass duration_byte f.after
     ∷ leb (most_bytes f) longest
     ∷ leb (length f.nothing) longest
-    ∷ counts_own f
+    ∷ one_alone f
     ∷ [])
 
 -- what the test says
@@ -102,7 +97,7 @@ pub record Sane (f : Form) : Type 0 where
   pub known_after : all_pass duration_byte f.after ≡ true
   pub room : most_bytes f ≤ longest
   pub zero_room : length f.nothing ≤ longest
-  pub own : counts_own f ≡ true
+  pub alone : one_alone f ≡ true
 
 pub sane : (f : Form) → ok_form f ≡ true → Sane f
 unfolding every
@@ -126,7 +121,7 @@ sane f e =
       known_after = both_left _ _ e6;
       room = leb-true (most_bytes f) longest (both_left _ _ e7);
       zero_room = leb-true (length f.nothing) longest (both_left _ _ e8);
-      own = both_left _ _ e9;
+      alone = both_left _ _ e9;
     }
 
 -- every row passes
@@ -137,12 +132,6 @@ rows_sane KV.Time = refl
 rows_sane KV.DateTime = refl
 rows_sane KV.DayTimeDuration = refl
 rows_sane KV.YearMonthDuration = refl
-rows_sane KV.GYear = refl
-rows_sane KV.GYearMonth = refl
-rows_sane KV.GMonth = refl
-rows_sane KV.GMonthDay = refl
-rows_sane KV.GDay = refl
-rows_sane KV.Duration = refl
 
 pub sane_row : (k : Kind) → Sane (duration_form k)
 sane_row k = sane (duration_form k) (rows_sane k)
@@ -161,27 +150,11 @@ rows_zero KV.Time e = absurd (never (sym e))
 rows_zero KV.DateTime e = absurd (never (sym e))
 rows_zero KV.DayTimeDuration e = refl
 rows_zero KV.YearMonthDuration e = refl
-rows_zero KV.GYear e = absurd (never (sym e))
-rows_zero KV.GYearMonth e = absurd (never (sym e))
-rows_zero KV.GMonth e = absurd (never (sym e))
-rows_zero KV.GMonthDay e = absurd (never (sym e))
-rows_zero KV.GDay e = absurd (never (sym e))
-rows_zero KV.Duration e = refl
 
--- what a form has of an amount
-abbrev pub form_value : Form → Amount → Value
-form_value f a = amount_value (form_months f) (form_seconds f) a
-
-pub rows_own : (k : Kind) (a : Amount) → is_moment k ≡ false → kind_of (form_value (duration_form k) a) ≡ k
+pub rows_own : (k : Kind) (a : Amount) → is_moment k ≡ false → kind_of (amount_value (form_months (duration_form k)) a) ≡ k
 unfolding is_moment has
 rows_own KV.Date a e = absurd (never (sym e))
 rows_own KV.Time a e = absurd (never (sym e))
 rows_own KV.DateTime a e = absurd (never (sym e))
 rows_own KV.DayTimeDuration a e = refl
 rows_own KV.YearMonthDuration a e = refl
-rows_own KV.GYear a e = absurd (never (sym e))
-rows_own KV.GYearMonth a e = absurd (never (sym e))
-rows_own KV.GMonth a e = absurd (never (sym e))
-rows_own KV.GMonthDay a e = absurd (never (sym e))
-rows_own KV.GDay a e = absurd (never (sym e))
-rows_own KV.Duration a e = refl

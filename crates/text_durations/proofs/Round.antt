@@ -22,8 +22,8 @@ use Rattle.text_durations.specs.declared.Sums.{Sums}
 use Rattle.text_durations.specs.declared.Walk.{Walk}
 use Rattle.text_durations.specs.declared.Shape.{Shape}
 use Rattle.text_durations.specs.declared.Amount.{Amount}
-use Rattle.text_forms.specs.Forms.{Form, time_mark, start_mark, minus_sign, no_form, duration_form}
-use Rattle.text_durations.specs.Walks.{is_nothing, no_sums, components, timed, ended, onward, walk_from, shape_from, shape, within_bounds, counted, signed_amount, read_by, as_value, read_in, read_duration}
+use Rattle.text_forms.specs.Forms.{Form, time_mark, start_mark, minus_sign, no_form, duration_form, form_months}
+use Rattle.text_durations.specs.Walks.{is_nothing, no_sums, components, timed, ended, onward, walk_from, shape_from, shape, within_bounds, counted, signed_amount, read_by, as_value, amount_value, read_in, read_duration}
 use Rattle.text_durations.specs.Spelling.{shown_all, left, after_mark, body, spelt, duration_text, amount_of, duration_text_of}
 use Rattle.text_durations.proofs.Going.{no_mark}
 use Rattle.text_durations.proofs.Judging.{no_shape, is_within}
@@ -31,7 +31,7 @@ use Rattle.text_durations.proofs.Lengths.{text_zero, text_some}
 use Rattle.text_durations.proofs.Valid.{Good, reads_good}
 use Rattle.text_durations.proofs.Back.{Apart, apart}
 use Rattle.text_durations.proofs.Trip.{carried, carried_has, All, all_back, none_shown, same_sums}
-use Rattle.text_durations.proofs.FormTests.{Sane, sane_row, zero_reads, rows_zero, form_value, rows_own}
+use Rattle.text_durations.proofs.FormTests.{Sane, sane_row, zero_reads, rows_zero, rows_own}
 use Rattle.text_forms.proofs.RowTests.{rows_none}
 use Rattle.text_durations.proofs.Amounts.{Fits, all_left, fraction_left, value_good, value_fits, value_back, amount_valid}
 
@@ -201,7 +201,7 @@ module _ (f : Form) (s : Sane f) (z : zero_reads f ≡ true) (a : Amount) (good 
 pub duration_round_trip : (v : Value) → is_moment (kind_of v) ≡ false → ok_value v ≡ true → read_duration (kind_of v) (duration_text_of v) ≡ gives v
 duration_round_trip v e ok =
     let f : Form = duration_form (kind_of v) in
-    ap (as_value (form_value f)) (amount_back f (sane_row (kind_of v)) (rows_zero (kind_of v) e) (amount_of v) (value_good v ok) (value_fits v))
+    ap (as_value (amount_value (form_months f))) (amount_back f (sane_row (kind_of v)) (rows_zero (kind_of v) e) (amount_of v) (value_good v ok) (value_fits v))
     ∙ ap gives (value_back v e ok)
 
 -- no text is of a form without components
@@ -224,7 +224,7 @@ none_good s = by (eqb (at s 0) minus_sign)
 
 none_reads : (s : List ℕ) → read_in no_form s ≡ refuses bad_text
 unfolding read_by
-none_reads s = ap (as_value (form_value no_form)) (sym (no_shape (shape [] [] s) (none_good s)))
+none_reads s = ap (as_value (amount_value (form_months no_form))) (sym (no_shape (shape [] [] s) (none_good s)))
 
 -- what reads is valid, and of the kind that it was read as
 pub duration_valid : (k : Kind) (s : List ℕ) (v : Value) → read_duration k s ≡ gives v → (ok_value v ≡ true) × (kind_of v ≡ k)
@@ -236,11 +236,11 @@ duration_valid k s v e = go (is_moment k) refl
     f : Form
     f = duration_form k
 
-    by : is_moment k ≡ false → (x : Answer Amount) → read_by (duration_form k) s ≡ x → as_value (form_value (duration_form k)) x ≡ gives v
+    by : is_moment k ≡ false → (x : Answer Amount) → read_by (duration_form k) s ≡ x → as_value (amount_value (form_months (duration_form k))) x ≡ gives v
         → (ok_value v ≡ true) × (kind_of v ≡ k)
     by m (gives a) q r =
-        let w : form_value (duration_form k) a ≡ v = cc in
-        (ap ok_value (sym w) ∙ amount_valid f s a (sane_row k).own (reads_good f s a q), ap kind_of (sym w) ∙ rows_own k a m)
+        let w : amount_value (form_months (duration_form k)) a ≡ v = cc in
+        (ap ok_value (sym w) ∙ amount_valid f s a (sane_row k).alone (reads_good f s a q), ap kind_of (sym w) ∙ rows_own k a m)
     by m (refuses_for why) q r = let z : ◌≡◌ {A = ℕ} 0 1 = cc in absurd (no z)
 
     go : (b : Bool) → is_moment k ≡ b → (ok_value v ≡ true) × (kind_of v ≡ k)

@@ -1,13 +1,11 @@
--- Document 01, "Writing text", of durations: "dayTimeDuration is normalised to days, hours, minutes, seconds with zero
--- parts dropped; zero is PT0S. yearMonthDuration likewise; zero is P0M." A general duration is written as F&O does,
--- with both: its zero is PT0S.
+-- Document 01, "Writing text", of durations: "dayTimeDuration is normalised to days, hours, minutes, seconds with zero parts
+-- dropped; zero is PT0S. yearMonthDuration likewise; zero is P0M."
 use Rattle.std.specs.Prelude.{Bool, true, false, List, [], ◌∷◌, ◌++◌, ℕ, ◌+◌, ◌/◌, ◌%◌, eqb}
 use Rattle.basis.specs.Choice.{pick}
 use Rattle.value.specs.Bounds.{second_ticks}
-use Rattle.value.specs.Clocks.{ticks_in, time_part}
+use Rattle.value.specs.Clocks.{ticks_in}
 use Rattle.value.specs.declared.DayTime.{DayTime}
 use Rattle.value.specs.declared.YearMonth.{YearMonth}
-use Rattle.value.specs.declared.Duration.{Duration}
 use Rattle.value.specs.Kinds.{kind_of}
 use Rattle.value.specs.declared.Value.{Value}
 use Rattle.value.specs.declared.Value.TheVariants as VV
@@ -63,7 +61,7 @@ unfoldable pub duration_text : Form → Amount → List ℕ
 duration_text f a =
     pick (is_nothing a.sums a.ticks) f.nothing (spelt a.negative (body f.before f.after a.sums a.ticks))
 
--- the duration records as amounts; a moment is none
+-- the two duration records as amounts; a date, time or dateTime is none
 abbrev pub day_time_amount : DayTime → Amount
 day_time_amount d =
     record { negative = d.negative; sums = record { months = 0; seconds = ticks_in d / second_ticks }; ticks = ticks_in d % second_ticks }
@@ -71,19 +69,10 @@ day_time_amount d =
 abbrev pub year_month_amount : YearMonth → Amount
 year_month_amount d = record { negative = d.negative; sums = record { months = d.months; seconds = 0 }; ticks = 0 }
 
-abbrev pub general_amount : Duration → Amount
-general_amount d =
-    record {
-      negative = d.negative;
-      sums = record { months = d.months; seconds = ticks_in (time_part d) / second_ticks };
-      ticks = ticks_in (time_part d) % second_ticks;
-    }
-
 abbrev pub amount_of : Value → Amount
 amount_of (VV.Moment k d) = record { negative = false; sums = no_sums; ticks = 0 }
 amount_of (VV.DayTime t) = day_time_amount t
 amount_of (VV.YearMonth m) = year_month_amount m
-amount_of (VV.Duration d) = general_amount d
 
 -- the text of a duration, by its kind's form
 abbrev pub duration_text_of : Value → List ℕ

@@ -1,12 +1,11 @@
--- Document 01, "Reading text", and document 02, n, of durations: "optional minus, P, components in order, at least one;
--- after T at least one." The walk says how far it came: to the first byte that no good text could have there, or to the
--- text's end where the text only stops short. A component's number has no bound; only the sum of months and the sum of
--- seconds have one.
+-- Document 01, "Reading text", of durations: "optional minus, P, components in order, at least one; after T at least one."
+-- The walk says how far it came: to the first byte that no good text could have there, or to the text's end where the
+-- text only stops short. A component's number has no bound; only the sum of months and the sum of seconds have one.
 use Rattle.std.specs.Prelude.{Bool, true, false, List, [], ◌∷◌, ℕ, ◌+◌, ◌*◌, eqb, leb, ltb, length}
 use Rattle.basis.specs.Choice.{pick, both}
 use Rattle.basis.specs.Answer.{Answer, gives, refuses_for, refuses}
 use Rattle.value.specs.Bounds.{second_ticks, max_day_time, max_year_month}
-use Rattle.value.specs.Clocks.{duration_of, general_of}
+use Rattle.value.specs.Clocks.{duration_of}
 use Rattle.value.specs.Refusals.{bad_text, beyond_bounds, long_fraction}
 use Rattle.value.specs.declared.Kind.{Kind}
 use Rattle.value.specs.declared.Value.{Value}
@@ -17,7 +16,7 @@ use Rattle.text_durations.specs.declared.Sums.{Sums}
 use Rattle.text_durations.specs.declared.Walk.{Walk}
 use Rattle.text_durations.specs.declared.Shape.{Shape}
 use Rattle.text_durations.specs.declared.Amount.{Amount}
-use Rattle.text_forms.specs.Forms.{Form, weight, counts_months, form_months, form_seconds, duration_form, seconds, minus_sign, point, start_mark, time_mark}
+use Rattle.text_forms.specs.Forms.{Form, weight, counts_months, form_months, duration_form, seconds, minus_sign, point, start_mark, time_mark}
 
 -- no months, no seconds and no part of a second
 abbrev pub is_nothing : Sums → ℕ → Bool
@@ -123,14 +122,11 @@ counted t =
 unfoldable pub read_by : Form → List ℕ → Answer Amount
 read_by f s = counted (shape f.before f.after s)
 
--- what a kind has of an amount, as a value: the months, the seconds with their part, or both, as its form counts them.
--- (A form that counts neither has no text.)
-abbrev pub amount_value : Bool → Bool → Amount → Value
-amount_value months time a =
+-- what a kind has of an amount, as a value: the months where its form counts them, else the seconds with their part
+abbrev pub amount_value : Bool → Amount → Value
+amount_value months a =
     pick months
-    (pick time
-    (VV.Duration (general_of a.negative a.sums.months (a.sums.seconds * second_ticks + a.ticks)))
-    (VV.YearMonth (record { negative = a.negative; months = a.sums.months })))
+    (VV.YearMonth (record { negative = a.negative; months = a.sums.months }))
     (VV.DayTime (duration_of a.negative (a.sums.seconds * second_ticks + a.ticks)))
 
 abbrev pub as_value : (Amount → Value) → Answer Amount → Answer Value
@@ -139,7 +135,7 @@ as_value value (refuses_for r) = refuses_for r
 
 -- a text of a kind, by its form
 abbrev pub read_in : Form → List ℕ → Answer Value
-read_in f s = as_value (amount_value (form_months f) (form_seconds f)) (read_by f s)
+read_in f s = as_value (amount_value (form_months f)) (read_by f s)
 
 abbrev pub read_duration : Kind → List ℕ → Answer Value
 read_duration k s = read_in (duration_form k) s

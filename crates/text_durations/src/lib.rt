@@ -124,25 +124,22 @@ fn counted(t: Shape) -> Count
     })
 }
 
-// An amount as a value: its months, its seconds with their part, or both.
-fn amount_value(months: bool, time: bool, a: Amount) -> Value
+// An amount as a value: its months, or its seconds with their part.
+fn amount_value(months: bool, a: Amount) -> Value
     requires { (a.ticks < second_ticks) × (the.within_bounds a.sums a.ticks ≡ true) }
-    ensures { result ≡ the.amount_value months time a }
+    ensures { result ≡ the.amount_value months a }
 {
+    if months {
+        return Value::YearMonth(YearMonth {
+            negative: a.negative,
+            months: a.sums.months as u32,
+        });
+    }
     let size = Span {
         seconds: a.sums.seconds,
         part: a.ticks,
     };
-    if !months {
-        return Value::DayTime(clocks::lasting(a.negative, size));
-    }
-    if time {
-        return Value::Duration(clocks::general(a.negative, a.sums.months as u32, size));
-    }
-    Value::YearMonth(YearMonth {
-        negative: a.negative,
-        months: a.sums.months as u32,
-    })
+    Value::DayTime(clocks::lasting(a.negative, size))
 }
 
 // What a text of a kind reads as, by the kind's form.
@@ -155,13 +152,12 @@ pub fn read(kind: Kind, s: &[u8]) -> Reading
     let after = row.after;
     let n = row.after_len;
     let months = text_forms::has_letter(&before[..b], b'M');
-    let time = text_forms::has_letter(&after[..n], b'S');
     let t = scan::shape(s, &before[..b], &after[..n]);
     let offset = t.offset;
     let c = counted(t);
     match c {
         Count::Of(a) => Reading {
-            outcome: Outcome::Is(amount_value(months, time, a)),
+            outcome: Outcome::Is(amount_value(months, a)),
             offset,
         },
         Count::Refused(r) => Reading {
@@ -171,7 +167,7 @@ pub fn read(kind: Kind, s: &[u8]) -> Reading
     }
 }
 
-// A duration as an amount; a moment is none.
+// A duration as an amount; a date, time or dateTime is none.
 fn amount_of(v: Value) -> Amount
     requires { ok_value v ≡ true }
     ensures { result ≡ its.amount_of v }
@@ -204,17 +200,6 @@ fn amount_of(v: Value) -> Amount
             },
             ticks: 0,
         },
-        Value::Duration(d) => {
-            let size = clocks::size(clocks::time_part(d));
-            Amount {
-                negative: d.negative,
-                sums: Sums {
-                    months: d.months as u64,
-                    seconds: size.seconds,
-                },
-                ticks: size.part,
-            }
-        }
     }
 }
 

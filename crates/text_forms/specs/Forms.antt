@@ -1,6 +1,5 @@
--- Document 01, "Reading text" and "Writing text", and document 02, n: the components of a duration's text.
--- "dayTimeDuration has D, H, M, S; yearMonthDuration Y, M"; the general duration has them all. A duration's kind is a
--- row too: its form.
+-- Document 01, "Reading text" and "Writing text": the components of a duration's text. "dayTimeDuration has D, H, M, S;
+-- yearMonthDuration Y, M." A duration's kind is a row too: its form.
 use Rattle.std.specs.Prelude.{Bool, true, false, List, [], ℕ, ◌/◌, eqb}
 use Prim.Native.Char.{code}
 use Rattle.basis.specs.Choice.{pick, both}
@@ -63,10 +62,7 @@ day_time = record { before = bytes "D"; after = bytes "HMS"; nothing = bytes "PT
 abbrev pub year_month : Form
 year_month = record { before = bytes "YM"; after = []; nothing = bytes "P0M" }
 
-abbrev pub general : Form
-general = record { before = bytes "YMD"; after = bytes "HMS"; nothing = bytes "PT0S" }
-
--- a moment has no component: no text has this form, and none is written in it
+-- dates, times and dateTimes have no component: no text has this form, and none is written in it
 abbrev pub no_form : Form
 no_form = record { before = []; after = []; nothing = [] }
 
@@ -76,16 +72,7 @@ duration_form KV.Time = no_form
 duration_form KV.DateTime = no_form
 duration_form KV.DayTimeDuration = day_time
 duration_form KV.YearMonthDuration = year_month
-duration_form KV.GYear = no_form
-duration_form KV.GYearMonth = no_form
-duration_form KV.GMonth = no_form
-duration_form KV.GMonthDay = no_form
-duration_form KV.GDay = no_form
-duration_form KV.Duration = general
 
--- whether a form counts months: it has M before T; and whether it counts seconds: it has S after T
+-- whether a form counts months: it has M before T
 abbrev pub form_months : Form → Bool
 form_months f = has f.before minutes
-
-abbrev pub form_seconds : Form → Bool
-form_seconds f = has f.after seconds

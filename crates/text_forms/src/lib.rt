@@ -20,7 +20,7 @@ pub struct FormRow {
     pub nothing_len: usize,
 }
 
-// No component, as moments have none.
+// No component, as dates, times and dateTimes have none.
 fn none() -> FormRow
     ensures { HoldsForm the.no_form result }
 {
@@ -56,19 +56,6 @@ pub fn row(kind: Kind) -> FormRow
             after_len: 0,
             nothing: *b"P0M ",
             nothing_len: 3,
-        },
-        Kind::GYear => none(),
-        Kind::GYearMonth => none(),
-        Kind::GMonth => none(),
-        Kind::GMonthDay => none(),
-        Kind::GDay => none(),
-        Kind::Duration => FormRow {
-            before: *b"YMD",
-            before_len: 3,
-            after: *b"HMS",
-            after_len: 3,
-            nothing: *b"PT0S",
-            nothing_len: 4,
         },
     }
 }

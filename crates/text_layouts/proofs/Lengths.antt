@@ -1,4 +1,4 @@
--- No text of a moment is longer than the longest text of a value; the longest of them, of a dateTime, has 35 bytes.
+-- No text of a kind is longer than the longest, and one is as long.
 use mathlib.Core.Path.{◌≡◌, refl}
 use mathlib.Core.List.{List, [], ◌∷◌}
 use Prim.Native.Nat.{ℕ, ◌≤◌}
@@ -19,7 +19,7 @@ use Rattle.value.specs.declared.Kind.{Kind}
 use Rattle.value.specs.declared.Kind.TheVariants as KV
 use Rattle.numerals.specs.Writing.{longest, digits, kept_digits, fraction_text}
 use Rattle.text_scan.specs.Scanning.{is_pair}
-use Rattle.text_scan.specs.Carried.{width, widths}
+use Rattle.text_scan.specs.Carried.{widths}
 use Rattle.text_layouts.specs.Writing.{part_text, pair_of, layout_text, kind_text}
 use Rattle.text_layouts.proofs.Pieces.{text_short, wide}
 
@@ -39,7 +39,7 @@ pub last_text : kind_text KV.DateTime last ≡ bytes "9999-12-31T23:59:59.999999
 unfolding layout_text part_text pair_of is_pair digits kept_digits fraction_text clock_of
 last_text = refl
 
--- it is within the bounds, and as long as the widths of a dateTime's parts
-pub widest_reached : (ok_date_time last ≡ true) × (length (kind_text KV.DateTime last) ≡ widths (layout_of KV.DateTime))
-unfolding ok_date_time ok_date ok_time_part ok_zone ok_offset every both layout_text part_text pair_of is_pair digits kept_digits fraction_text clock_of widths width
-widest_reached = (refl, refl)
+-- it is within the bounds, and as long as the longest
+pub longest_reached : (ok_date_time last ≡ true) × (length (kind_text KV.DateTime last) ≡ longest)
+unfolding ok_date_time ok_date ok_time_part ok_zone ok_offset every both layout_text part_text pair_of is_pair digits kept_digits fraction_text clock_of
+longest_reached = (refl, refl)

@@ -37,12 +37,6 @@ rows_sane KV.Time = refl
 rows_sane KV.DateTime = refl
 rows_sane KV.DayTimeDuration = refl
 rows_sane KV.YearMonthDuration = refl
-rows_sane KV.GYear = refl
-rows_sane KV.GYearMonth = refl
-rows_sane KV.GMonth = refl
-rows_sane KV.GMonthDay = refl
-rows_sane KV.GDay = refl
-rows_sane KV.Duration = refl
 
 -- over every layout and template that pass the tests
 module _ (ps : List ℕ) (t : DateTime) (r : ok_row ps t ≡ true) where

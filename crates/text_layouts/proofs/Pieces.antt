@@ -171,12 +171,6 @@ wide KV.Time = omega arith
 wide KV.DateTime = omega arith
 wide KV.DayTimeDuration = omega arith
 wide KV.YearMonthDuration = omega arith
-wide KV.GYear = omega arith
-wide KV.GYearMonth = omega arith
-wide KV.GMonth = omega arith
-wide KV.GMonthDay = omega arith
-wide KV.GDay = omega arith
-wide KV.Duration = omega arith
 
 pub roomy : (k : Kind) {ps : List ℕ} → ps ≡ layout_of k → widths ps ≤ longest
 roomy k e = rw e (wide k)

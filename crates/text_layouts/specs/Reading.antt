@@ -1,6 +1,6 @@
--- Document 01, "Reading text", and document 02, n: what the text of a moment reads as. The parts of its kind's layout are
--- found (crate `text_scan`), and then the checks are made (crate `text_checks`). A kind without layout, as the durations
--- are, reads no text here.
+-- Document 01, "Reading text": what the text of a date, a time or a dateTime reads as. The parts of its kind's layout
+-- are found (crate `text_scan`), and then the checks are made (crate `text_checks`). A kind without layout, as the
+-- durations are, reads no text here.
 use Rattle.std.specs.Prelude.{List, ℕ, length}
 use Rattle.basis.specs.Choice.{pick}
 use Rattle.basis.specs.Answer.{Answer, refuses}

@@ -1,4 +1,4 @@
--- Document 01, "Writing text", and document 02, n: the text of a moment. Local fields and zone are kept; zone 0 is Z; a
+-- Document 01, "Writing text": the text of a date, a time or a dateTime. Local fields and zone are kept; zone 0 is Z; a
 -- fraction loses its final zeros and vanishes if zero. The text is that of the parts of the kind's layout, in order.
 use Rattle.std.specs.Prelude.{List, [], ◌∷◌, ◌++◌, ℕ, ◌/◌, ◌%◌, eqb}
 use Prim.Native.Char.{code}

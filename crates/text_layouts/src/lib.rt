@@ -1,4 +1,4 @@
-// Moments from text and to text, by the layout of their kind.
+// Dates, times and dateTimes from text and to text, by the layout of their kind.
 ghost use Rattle.std.specs.Prelude.{◌≡◌, true};
 ghost use Rattle.value.specs.Values.{ok_time_part};
 ghost use Rattle.value.specs.Kinds.{meaning};

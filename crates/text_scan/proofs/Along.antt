@@ -49,12 +49,6 @@ rows_marked KV.Time = refl
 rows_marked KV.DateTime = refl
 rows_marked KV.DayTimeDuration = refl
 rows_marked KV.YearMonthDuration = refl
-rows_marked KV.GYear = refl
-rows_marked KV.GYearMonth = refl
-rows_marked KV.GMonth = refl
-rows_marked KV.GMonthDay = refl
-rows_marked KV.GDay = refl
-rows_marked KV.Duration = refl
 
 pub marks : (k : Kind) (s : List ℕ) {t : Scan} {ps : List ℕ} → ps ≡ layout_of k → t ≡ start_of (template_of k) → (t.at ≤ length s) × (without_zero ps ≡ true)
 marks k s q e = (omega (arith, ap (λ (x : Scan). x.at) e), ap without_zero q ∙ rows_marked k)

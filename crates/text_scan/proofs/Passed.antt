@@ -21,7 +21,7 @@ use Rattle.text_scan.specs.declared.Scan.{Scan}
 use Rattle.text_scan.specs.declared.Pair.{Pair}
 use Rattle.text_scan.specs.Scanning.{start_of, pair_at, four_zeros, leading_zero, year_digits, year_at, year_part, fraction_part, zone_part, zone_signed, zone_hours, zone_minutes, with_pair, with_year, with_fraction, with_zone_part, part_at, scanned_part, is_pair, reached, scanned, scanned_parts}
 
--- the bytes that stand in the text of a moment
+-- the bytes that stand in the text of a date, a time or a dateTime
 abbrev pub moment_byte : ℕ → Bool
 moment_byte b = pick (is_digit b) true (among (bytes "-:T.+Z") b)
 
@@ -125,12 +125,6 @@ rows_lettered KV.Time = refl
 rows_lettered KV.DateTime = refl
 rows_lettered KV.DayTimeDuration = refl
 rows_lettered KV.YearMonthDuration = refl
-rows_lettered KV.GYear = refl
-rows_lettered KV.GYearMonth = refl
-rows_lettered KV.GMonth = refl
-rows_lettered KV.GMonthDay = refl
-rows_lettered KV.GDay = refl
-rows_lettered KV.Duration = refl
 
 module _ (keep : ℕ → ℕ) (s : List ℕ) where
   part_says : (p : ℕ) (t : Scan) → ok_part p ≡ true → t.good ≡ true → Passed moment_byte s t.at → Says s (part_at keep p s t)

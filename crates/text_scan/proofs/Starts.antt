@@ -260,36 +260,3 @@ module _ (keep : ℕ → ℕ) (tells : (n : ℕ) → keep n ≤ max_year → n �
           starts (bytes "Y-M-DTh:m:") (bytes "sfz") s t refl refl a,
           starts (bytes "Y-M-DTh:m:s") (bytes "fz") s t refl refl a,
         )
-
-    -- of the kinds with parts of a date the marks before them count too
-    pub year_month_starts : Past (scanned_parts keep KV.GYearMonth s) → (before KV.GYearMonth (bytes "Y-") ≡ 5) × (before KV.GYearMonth (bytes "Y-M") ≡ 7)
-    unfolding settled both widths width is_pair
-    year_month_starts a =
-        let t : Scan = start_of (template_of KV.GYearMonth) in
-        (starts (bytes "Y-") (bytes "Mz") s t refl refl a, starts (bytes "Y-M") (bytes "z") s t refl refl a)
-
-    pub month_day_starts : Past (scanned_parts keep KV.GMonthDay s)
-        → (before KV.GMonthDay (bytes "--") ≡ 2) × (before KV.GMonthDay (bytes "--M-") ≡ 5) × (before KV.GMonthDay (bytes "--M-D") ≡ 7)
-    unfolding settled both widths width is_pair
-    month_day_starts a =
-        let t : Scan = start_of (template_of KV.GMonthDay) in (
-          starts (bytes "--") (bytes "M-Dz") s t refl refl a,
-          starts (bytes "--M-") (bytes "Dz") s t refl refl a,
-          starts (bytes "--M-D") (bytes "z") s t refl refl a,
-        )
-
-    pub year_starts : Past (scanned_parts keep KV.GYear s) → before KV.GYear (bytes "Y") ≡ 4
-    unfolding settled both widths width is_pair
-    year_starts a = starts (bytes "Y") (bytes "z") s (start_of (template_of KV.GYear)) refl refl a
-
-    pub month_starts : Past (scanned_parts keep KV.GMonth s) → (before KV.GMonth (bytes "--") ≡ 2) × (before KV.GMonth (bytes "--M") ≡ 4)
-    unfolding settled both widths width is_pair
-    month_starts a =
-        let t : Scan = start_of (template_of KV.GMonth) in
-        (starts (bytes "--") (bytes "Mz") s t refl refl a, starts (bytes "--M") (bytes "z") s t refl refl a)
-
-    pub day_starts : Past (scanned_parts keep KV.GDay s) → (before KV.GDay (bytes "---") ≡ 3) × (before KV.GDay (bytes "---D") ≡ 5)
-    unfolding settled both widths width is_pair
-    day_starts a =
-        let t : Scan = start_of (template_of KV.GDay) in
-        (starts (bytes "---") (bytes "Dz") s t refl refl a, starts (bytes "---D") (bytes "z") s t refl refl a)

@@ -13,12 +13,11 @@ use Rattle.calendar.specs.declared.Date.{Date}
 use Rattle.value.specs.Bounds.{max_year_month}
 use Rattle.value.specs.Clocks.{at_clock_of, same_clock}
 use Rattle.value.specs.Rows.{parts_in, is_moment, is_dated, has, layout_of, template_of, kept_by, kept, of_kind}
-use Rattle.value.specs.Values.{ok_date_time, ok_day_time, ok_year_month, ok_duration, date_in}
+use Rattle.value.specs.Values.{ok_date_time, ok_day_time, ok_year_month, date_in}
 use Rattle.value.specs.Kinds.{ok_value}
 use Rattle.value.specs.declared.DateTime.{DateTime}
 use Rattle.value.specs.declared.DayTime.{DayTime}
 use Rattle.value.specs.declared.YearMonth.{YearMonth}
-use Rattle.value.specs.declared.Duration.{Duration}
 use Rattle.value.specs.declared.Kind.{Kind}
 use Rattle.value.specs.declared.OwnParts.{OwnParts}
 use Rattle.value.specs.declared.Value.{Value}
@@ -128,7 +127,3 @@ module _ (v : Value) (g : ok_value v ≡ true) where
 
   pub year_month_within : (d : YearMonth) → v ≡ VV.YearMonth d → d.months ≤ max_year_month
   year_month_within d e = signed_within max_year_month d.months d.negative (year_month_good d e)
-
-  pub duration_good : (d : Duration) → v ≡ VV.Duration d → ok_duration d ≡ true
-  unfolding ok_value
-  duration_good d e = ap ok_value (sym e) ∙ g

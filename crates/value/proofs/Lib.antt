@@ -3,13 +3,10 @@ pub mod Signs
 pub mod Spans
 pub mod ClockLaws
 pub mod Sizes
-pub mod GeneralLaws
 pub mod Good
-pub mod DurationParts
 pub mod KindParts
 pub mod RowTests
 pub mod RowLaws
-pub mod OrderedKinds
 pub mod ClockLetters
 pub mod PartsKept
 pub mod Looking

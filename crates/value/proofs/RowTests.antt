@@ -61,12 +61,6 @@ rows_pass KV.Time = refl
 rows_pass KV.DateTime = refl
 rows_pass KV.DayTimeDuration = refl
 rows_pass KV.YearMonthDuration = refl
-rows_pass KV.GYear = refl
-rows_pass KV.GYearMonth = refl
-rows_pass KV.GMonth = refl
-rows_pass KV.GMonthDay = refl
-rows_pass KV.GDay = refl
-rows_pass KV.Duration = refl
 
 -- and each kind has a number of its own
 abbrev pub kind_at : ℕ → Kind
@@ -74,13 +68,7 @@ kind_at zero = KV.Date
 kind_at (suc zero) = KV.Time
 kind_at (suc (suc zero)) = KV.DateTime
 kind_at (suc (suc (suc zero))) = KV.DayTimeDuration
-kind_at (suc (suc (suc (suc zero)))) = KV.YearMonthDuration
-kind_at (suc (suc (suc (suc (suc zero))))) = KV.GYear
-kind_at (suc (suc (suc (suc (suc (suc zero)))))) = KV.GYearMonth
-kind_at (suc (suc (suc (suc (suc (suc (suc zero))))))) = KV.GMonth
-kind_at (suc (suc (suc (suc (suc (suc (suc (suc zero)))))))) = KV.GMonthDay
-kind_at (suc (suc (suc (suc (suc (suc (suc (suc (suc zero))))))))) = KV.GDay
-kind_at (suc (suc (suc (suc (suc (suc (suc (suc (suc (suc n)))))))))) = KV.Duration
+kind_at (suc (suc (suc (suc n)))) = KV.YearMonthDuration
 
 pub numbered : (k : Kind) → kind_at (kind_number k) ≡ k
 numbered KV.Date = refl
@@ -88,9 +76,3 @@ numbered KV.Time = refl
 numbered KV.DateTime = refl
 numbered KV.DayTimeDuration = refl
 numbered KV.YearMonthDuration = refl
-numbered KV.GYear = refl
-numbered KV.GYearMonth = refl
-numbered KV.GMonth = refl
-numbered KV.GMonthDay = refl
-numbered KV.GDay = refl
-numbered KV.Duration = refl

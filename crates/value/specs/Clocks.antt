@@ -1,15 +1,13 @@
--- Document 02, e and n: "The time part of the record becomes whole second and nanosecond"; a dayTimeDuration has
--- "nanoseconds beside the seconds and one sign for both". Here both are numbers of ticks. How the records keep them is
--- known to this page and to the bounds on each of their numbers (Values.antt), and to no other definition.
-use Rattle.std.specs.Prelude.{Bool, ℕ, ◌+◌, ◌*◌, ◌/◌, ◌%◌, eqb, ltb}
+-- Document 02, e: "The time part of the record becomes whole second and nanosecond"; a dayTimeDuration has "nanoseconds
+-- beside the seconds and one sign for both". Here both are numbers of ticks. How the records keep them is known to this page
+-- and to the bounds on each of their numbers (Values.antt), and to no other definition.
+use Rattle.std.specs.Prelude.{Bool, ℕ, ◌+◌, ◌*◌, ◌/◌, ◌%◌, eqb}
 use Rattle.basis.specs.Choice.{both}
 use Rattle.calendar.specs.declared.Date.{Date}
 use Rattle.value.specs.Bounds.{second_ticks}
 use Rattle.value.specs.declared.Zone.{Zone}
 use Rattle.value.specs.declared.DateTime.{DateTime}
 use Rattle.value.specs.declared.DayTime.{DayTime}
-use Rattle.value.specs.declared.YearMonth.{YearMonth}
-use Rattle.value.specs.declared.Duration.{Duration}
 
 -- the time of day of a record
 unfoldable pub clock_of : DateTime → ℕ
@@ -42,19 +40,3 @@ with_size negative s n = record { negative = negative; seconds = s; nanoseconds 
 -- the dayTimeDuration with a sign and a size
 abbrev pub duration_of : Bool → ℕ → DayTime
 duration_of negative n = with_size negative (n / second_ticks) (n % second_ticks)
-
--- "A general duration is months and seconds under one sign": its months and its time, as durations of the pure kinds. A
--- part that is zero has no sign.
-unfoldable pub month_part : Duration → YearMonth
-month_part d = record { negative = both d.negative (ltb 0 d.months); months = d.months }
-
-unfoldable pub time_part : Duration → DayTime
-time_part d = with_size (both d.negative (ltb 0 (d.seconds + d.nanoseconds))) d.seconds d.nanoseconds
-
--- the duration with a sign, months, seconds and nanoseconds
-abbrev pub general_with : Bool → ℕ → ℕ → ℕ → Duration
-general_with negative m s n = record { negative = negative; months = m; seconds = s; nanoseconds = n }
-
--- the duration with a sign, months and the size of a time
-abbrev pub general_of : Bool → ℕ → ℕ → Duration
-general_of negative m n = general_with negative m (n / second_ticks) (n % second_ticks)

@@ -1,10 +1,10 @@
--- Document 01, "Values and their bounds", "Reading text" and "Operations", and document 02, n: a kind is a row, its
--- layout and its template. The layout's letters are the parts that the kind has, in the order of its text; the template
--- stands for the parts that it has not. So a date is a DateTime at 00:00:00 and a time is one on 1972-12-31: they are
--- ordered, subtracted and adjusted as such.
+-- Document 01, "Values and their bounds", "Reading text" and "Operations": a kind is a row, its layout and its
+-- template. The layout's letters are the parts that the kind has, in the order of its text; the template stands for
+-- the parts that it has not. So a date is a DateTime at 00:00:00 and a time is one on 1972-12-31: they are ordered,
+-- subtracted and adjusted as such.
 use Rattle.std.specs.Prelude.{Bool, true, false, List, [], ◌∷◌, ℕ, eqb, ltb, length}
 use Prim.Native.Char.{code}
-use Rattle.basis.specs.Choice.{pick, both, every}
+use Rattle.basis.specs.Choice.{pick, every}
 use Rattle.basis.specs.Letters.{bytes}
 use Rattle.value.specs.Clocks.{at_clock, at_clock_of, same_clock}
 use Rattle.value.specs.declared.Zone.TheVariants.{Absent}
@@ -21,36 +21,18 @@ layout_of KV.Time = bytes "h:m:sfz"
 layout_of KV.DateTime = bytes "Y-M-DTh:m:sfz"
 layout_of KV.DayTimeDuration = []
 layout_of KV.YearMonthDuration = []
-layout_of KV.GYear = bytes "Yz"
-layout_of KV.GYearMonth = bytes "Y-Mz"
-layout_of KV.GMonth = bytes "--Mz"
-layout_of KV.GMonthDay = bytes "--M-Dz"
-layout_of KV.GDay = bytes "---Dz"
-layout_of KV.Duration = []
 
 -- the start of a day, without zone
 abbrev pub day_start : ℕ → ℕ → ℕ → DateTime
 day_start y m d = at_clock (record { year = y; month = m; day = d }) 0 Absent
 
--- the year of the reference dates, a leap year
-abbrev pub reference_year : ℕ
-reference_year = 1972
-
--- Document 01's kinds have its reference day, 1972-12-31. Those of document 02, n, have F&O's reference dates
--- (Equality.antt of crate `operation_equality`), but a gYearMonth, which F&O takes on the last day of its month, is
--- kept on the first.
+-- 1972-12-31T00:00:00, the reference day of document 01
 abbrev pub template_of : Kind → DateTime
-template_of KV.Date = day_start reference_year 12 31
-template_of KV.Time = day_start reference_year 12 31
-template_of KV.DateTime = day_start reference_year 12 31
-template_of KV.DayTimeDuration = day_start reference_year 12 31
-template_of KV.YearMonthDuration = day_start reference_year 12 31
-template_of KV.GYear = day_start reference_year 1 1
-template_of KV.GYearMonth = day_start reference_year 1 1
-template_of KV.GMonth = day_start reference_year 1 29
-template_of KV.GMonthDay = day_start reference_year 1 1
-template_of KV.GDay = day_start reference_year 12 1
-template_of KV.Duration = day_start reference_year 12 31
+template_of KV.Date = day_start 1972 12 31
+template_of KV.Time = day_start 1972 12 31
+template_of KV.DateTime = day_start 1972 12 31
+template_of KV.DayTimeDuration = day_start 1972 12 31
+template_of KV.YearMonthDuration = day_start 1972 12 31
 
 -- kinds are the same where their numbers are
 abbrev pub kind_number : Kind → ℕ
@@ -59,17 +41,11 @@ kind_number KV.Time = 1
 kind_number KV.DateTime = 2
 kind_number KV.DayTimeDuration = 3
 kind_number KV.YearMonthDuration = 4
-kind_number KV.GYear = 5
-kind_number KV.GYearMonth = 6
-kind_number KV.GMonth = 7
-kind_number KV.GMonthDay = 8
-kind_number KV.GDay = 9
-kind_number KV.Duration = 10
 
 abbrev pub same_kind : Kind → Kind → Bool
 same_kind j k = eqb (kind_number j) (kind_number k)
 
--- a kind that has a layout is a moment; the others are durations
+-- a kind that has a layout is a moment, a date, a time or a dateTime; the others are durations
 unfoldable pub is_moment : Kind → Bool
 is_moment k = ltb 0 (length (layout_of k))
 
@@ -95,20 +71,6 @@ is_dated k = every ((own_parts k).year ∷ (own_parts k).month ∷ (own_parts k)
 -- a time of day
 unfoldable pub is_clocked : Kind → Bool
 is_clocked k = (own_parts k).clock
-
--- "`eq` and `ne` only", and 9 for `lt le gt ge` and for arithmetic, of the kinds of document 02, n. An order, and with
--- it sums, differences and adjustment, have the kinds of document 01: a moment with a whole date or a time of day, and
--- the two durations that are one number. (Those by name: which numbers a form counts is known to crate `text_forms`,
--- above.)
-unfoldable pub is_ordered : Kind → Bool
-is_ordered k =
-    pick (is_moment k)
-    (pick (is_dated k) true (is_clocked k))
-    (pick (same_kind k KV.DayTimeDuration) true (same_kind k KV.YearMonthDuration))
-
--- two kinds that are ordered, and whose differences there are: one kind, and it has an order
-abbrev pub ordered_kinds : Kind → Kind → Bool
-ordered_kinds j k = both (same_kind j k) (is_ordered j)
 
 -- what a row keeps of a record: the parts that it has, its template's for the others, and the zone
 abbrev pub kept_by : List ℕ → DateTime → DateTime → DateTime

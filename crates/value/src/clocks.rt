@@ -6,7 +6,7 @@ ghost use Rattle.value.specs.Carried.{ticks_of, span_of};
 ghost use Rattle.value.specs.Clocks as the;
 ghost use Rattle.value.specs.Values.{ok_time_part, ok_day_time};
 
-use crate::{DateTime, DayTime, Duration, Span, YearMonth, Zone};
+use crate::{DateTime, DayTime, Span, Zone};
 use calendar::Date;
 
 const TICKS: u64 = Span::TICKS as u64;
@@ -98,55 +98,4 @@ pub fn lasting(negative: bool, s: Span) -> DayTime
     ensures { result ≡ the.duration_of negative (ticks_of s) }
 {
     with_size(negative, s.seconds, s.part)
-}
-
-// The months of a general duration.
-pub fn month_part(d: Duration) -> YearMonth
-    ensures { result ≡ the.month_part d }
-{
-    if 0 < d.months {
-        return YearMonth {
-            negative: d.negative,
-            months: d.months,
-        };
-    }
-    YearMonth {
-        negative: false,
-        months: d.months,
-    }
-}
-
-// The time of a general duration.
-pub fn time_part(d: Duration) -> DayTime
-    ensures { result ≡ the.time_part d }
-{
-    let seconds = d.seconds;
-    let nanoseconds = d.nanoseconds;
-    if 0 < seconds {
-        return with_size(d.negative, seconds, nanoseconds);
-    }
-    if 0 < nanoseconds {
-        return with_size(d.negative, seconds, nanoseconds);
-    }
-    with_size(false, seconds, nanoseconds)
-}
-
-// The general duration with a sign, months, seconds and nanoseconds, whatever they are.
-pub fn general_with(negative: bool, months: u32, seconds: u64, nanoseconds: u32) -> Duration
-    ensures { result ≡ the.general_with negative months seconds nanoseconds }
-{
-    Duration {
-        negative,
-        months,
-        seconds,
-        nanoseconds,
-    }
-}
-
-// The general duration with a sign, months and the size of a time.
-pub fn general(negative: bool, months: u32, s: Span) -> Duration
-    requires { s.part < second_ticks }
-    ensures { result ≡ the.general_of negative months (ticks_of s) }
-{
-    general_with(negative, months, s.seconds, s.part)
 }

@@ -7,9 +7,6 @@ ghost use Rattle.value.specs.Rows as the;
 use crate::{DateTime, Kind, Layout, OwnParts, Zone, clocks};
 use calendar::Date;
 
-// The year of the reference dates, a leap year.
-const REFERENCE_YEAR: u16 = 1972;
-
 // The letters of a kind's layout, and spaces after them.
 pub fn layout(kind: Kind) -> Layout
     ensures { (carried.letters_of result ≡ the.layout_of kind) × (result.len ≤ carried.layout_size) × (carried.after_letters result ≡ carried.spaces (carried.layout_size - result.len)) }
@@ -35,30 +32,6 @@ pub fn layout(kind: Kind) -> Layout
             letters: *b"             ",
             len: 0,
         },
-        Kind::GYear => Layout {
-            letters: *b"Yz           ",
-            len: 2,
-        },
-        Kind::GYearMonth => Layout {
-            letters: *b"Y-Mz         ",
-            len: 4,
-        },
-        Kind::GMonth => Layout {
-            letters: *b"--Mz         ",
-            len: 4,
-        },
-        Kind::GMonthDay => Layout {
-            letters: *b"--M-Dz       ",
-            len: 6,
-        },
-        Kind::GDay => Layout {
-            letters: *b"---Dz        ",
-            len: 5,
-        },
-        Kind::Duration => Layout {
-            letters: *b"             ",
-            len: 0,
-        },
     }
 }
 
@@ -74,17 +47,11 @@ pub fn template(kind: Kind) -> DateTime
     ensures { result ≡ the.template_of kind }
 {
     match kind {
-        Kind::Date => day_start(REFERENCE_YEAR, 12, 31),
-        Kind::Time => day_start(REFERENCE_YEAR, 12, 31),
-        Kind::DateTime => day_start(REFERENCE_YEAR, 12, 31),
-        Kind::DayTimeDuration => day_start(REFERENCE_YEAR, 12, 31),
-        Kind::YearMonthDuration => day_start(REFERENCE_YEAR, 12, 31),
-        Kind::GYear => day_start(REFERENCE_YEAR, 1, 1),
-        Kind::GYearMonth => day_start(REFERENCE_YEAR, 1, 1),
-        Kind::GMonth => day_start(REFERENCE_YEAR, 1, 29),
-        Kind::GMonthDay => day_start(REFERENCE_YEAR, 1, 1),
-        Kind::GDay => day_start(REFERENCE_YEAR, 12, 1),
-        Kind::Duration => day_start(REFERENCE_YEAR, 12, 31),
+        Kind::Date => day_start(1972, 12, 31),
+        Kind::Time => day_start(1972, 12, 31),
+        Kind::DateTime => day_start(1972, 12, 31),
+        Kind::DayTimeDuration => day_start(1972, 12, 31),
+        Kind::YearMonthDuration => day_start(1972, 12, 31),
     }
 }
 
@@ -97,12 +64,6 @@ fn number(kind: Kind) -> u8
         Kind::DateTime => 2,
         Kind::DayTimeDuration => 3,
         Kind::YearMonthDuration => 4,
-        Kind::GYear => 5,
-        Kind::GYearMonth => 6,
-        Kind::GMonth => 7,
-        Kind::GMonthDay => 8,
-        Kind::GDay => 9,
-        Kind::Duration => 10,
     }
 }
 
@@ -112,7 +73,7 @@ pub fn same(a: Kind, b: Kind) -> bool
     number(a) == number(b)
 }
 
-// Whether a kind has a layout, as all have that are no durations.
+// Whether a kind has a layout, as dates, times and dateTimes do.
 pub fn is_moment(kind: Kind) -> bool
     ensures { result ≡ the.is_moment kind }
 {
@@ -191,32 +152,6 @@ pub fn is_clocked(kind: Kind) -> bool
 {
     let own = parts(kind);
     own.clock
-}
-
-// Whether a kind has an order, and sums and differences with it.
-pub fn is_ordered(kind: Kind) -> bool
-    ensures { result ≡ the.is_ordered kind }
-{
-    if is_moment(kind) {
-        if is_dated(kind) {
-            return true;
-        }
-        return is_clocked(kind);
-    }
-    if same(kind, Kind::DayTimeDuration) {
-        return true;
-    }
-    same(kind, Kind::YearMonthDuration)
-}
-
-// One kind, and it has an order.
-pub fn ordered(a: Kind, b: Kind) -> bool
-    ensures { result ≡ the.ordered_kinds a b }
-{
-    if !same(a, b) {
-        return false;
-    }
-    is_ordered(a)
 }
 
 fn either8(own: bool, x: u8, y: u8) -> u8

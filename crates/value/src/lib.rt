@@ -1,10 +1,10 @@
-// The values of the eleven kinds: records, bounds, makers and validity.
+// The values of the five kinds: records, bounds, makers and validity.
 ghost use Rattle.std.specs.Prelude.{◌≡◌};
 ghost use Rattle.basis.specs.Answer.{only_number};
 ghost use Rattle.value.specs.Reasons.{reason_of};
-ghost use Rattle.value.specs.Clocks.{with_time, with_size, general_with};
+ghost use Rattle.value.specs.Clocks.{with_time, with_size};
 ghost use Rattle.value.specs.Values.{date_in};
-ghost use Rattle.value.specs.Kinds.{made, meaning, kind_of, on_day};
+ghost use Rattle.value.specs.Kinds.{made, meaning, kind_of};
 ghost use Rattle.value.specs.Rows.{template_of};
 ghost use Rattle.value.specs.declared.Kind.TheVariants as KV;
 ghost use Rattle.value.specs.declared.Value.TheVariants as VV;
@@ -29,8 +29,7 @@ pub enum Zone {
     At(Offset),
 }
 
-// A date, a time, a dateTime and the kinds with parts of a date: a date is at 00:00:00, a time is on 1972-12-31, and
-// what else a kind has not is its template's. The second is that of the day.
+// A date, a time and a dateTime: a date is at 00:00:00, a time is on 1972-12-31. The second is that of the day.
 #[derive(Drop)]
 pub struct DateTime {
     pub year: u16,
@@ -56,15 +55,6 @@ pub struct YearMonth {
     pub months: u32,
 }
 
-// Months, seconds and nanoseconds under one sign. Zero, that is zero of all three, is not negative.
-#[derive(Drop)]
-pub struct Duration {
-    pub negative: bool,
-    pub months: u32,
-    pub seconds: u64,
-    pub nanoseconds: u32,
-}
-
 #[derive(Drop)]
 pub enum Kind {
     Date,
@@ -72,12 +62,6 @@ pub enum Kind {
     DateTime,
     DayTimeDuration,
     YearMonthDuration,
-    GYear,
-    GYearMonth,
-    GMonth,
-    GMonthDay,
-    GDay,
-    Duration,
 }
 
 // The letters of a kind's layout with spaces after them, and how many letters there are.
@@ -96,14 +80,13 @@ pub struct OwnParts {
     pub clock: bool,
 }
 
-// What is no duration is a moment, its kind with its record. A moment of a duration's kind, or with a record that is
-// not of its kind, can be built and is outside the bounds.
+// A date, time or dateTime is a moment, its kind with its record. A moment of a duration's kind, or with a record
+// that is not of its kind, can be built and is outside the bounds.
 #[derive(Drop)]
 pub enum Value {
     Moment(Kind, DateTime),
     DayTime(DayTime),
     YearMonth(YearMonth),
-    Duration(Duration),
 }
 
 // A refusal has a number of documents 01 and 02, and no value.
@@ -188,15 +171,6 @@ impl Span {
     pub const DAY: u64 = Span::DAY_HOURS * Span::HOUR;
 }
 
-// What is made of a year, a month and a day, at 00:00:00.
-fn on_day(kind: Kind, year: u16, month: u8, day: u8, zone: Zone) -> Outcome
-    ensures { meaning result ≡ made (on_day kind year month day zone) }
-{
-    let e = Date { year, month, day };
-    let d = clocks::with_time(e, 0, 0, zone);
-    valid::checked(Value::Moment(kind, d))
-}
-
 impl DateTime {
     pub const MIN_YEAR: u16 = 1;
 
@@ -218,9 +192,11 @@ impl DateTime {
     }
 
     pub fn date(year: u16, month: u8, day: u8, zone: Zone) -> Outcome
-        ensures { meaning result ≡ made (on_day KV.Date year month day zone) }
+        ensures { meaning result ≡ made (VV.Moment KV.Date (with_time (record { year = year; month = month; day = day }) 0 0 zone)) }
     {
-        on_day(Kind::Date, year, month, day, zone)
+        let e = Date { year, month, day };
+        let d = clocks::with_time(e, 0, 0, zone);
+        valid::checked(Value::Moment(Kind::Date, d))
     }
 
     pub fn time(second: u32, nanosecond: u32, zone: Zone) -> Outcome
@@ -234,41 +210,6 @@ impl DateTime {
         };
         let d = clocks::with_time(e, second, nanosecond, zone);
         valid::checked(Value::Moment(Kind::Time, d))
-    }
-
-    pub fn g_year(year: u16, zone: Zone) -> Outcome
-        ensures { meaning result ≡ made (on_day KV.GYear year (template_of KV.GYear).month (template_of KV.GYear).day zone) }
-    {
-        let t = kinds::template(Kind::GYear);
-        on_day(Kind::GYear, year, t.month, t.day, zone)
-    }
-
-    pub fn g_year_month(year: u16, month: u8, zone: Zone) -> Outcome
-        ensures { meaning result ≡ made (on_day KV.GYearMonth year month (template_of KV.GYearMonth).day zone) }
-    {
-        let t = kinds::template(Kind::GYearMonth);
-        on_day(Kind::GYearMonth, year, month, t.day, zone)
-    }
-
-    pub fn g_month(month: u8, zone: Zone) -> Outcome
-        ensures { meaning result ≡ made (on_day KV.GMonth (template_of KV.GMonth).year month (template_of KV.GMonth).day zone) }
-    {
-        let t = kinds::template(Kind::GMonth);
-        on_day(Kind::GMonth, t.year, month, t.day, zone)
-    }
-
-    pub fn g_month_day(month: u8, day: u8, zone: Zone) -> Outcome
-        ensures { meaning result ≡ made (on_day KV.GMonthDay (template_of KV.GMonthDay).year month day zone) }
-    {
-        let t = kinds::template(Kind::GMonthDay);
-        on_day(Kind::GMonthDay, t.year, month, day, zone)
-    }
-
-    pub fn g_day(day: u8, zone: Zone) -> Outcome
-        ensures { meaning result ≡ made (on_day KV.GDay (template_of KV.GDay).year (template_of KV.GDay).month day zone) }
-    {
-        let t = kinds::template(Kind::GDay);
-        on_day(Kind::GDay, t.year, t.month, day, zone)
     }
 }
 
@@ -295,20 +236,6 @@ impl YearMonth {
     }
 }
 
-// Each part is within the bounds of its own kind: YearMonth::MAX, and those of DayTime.
-impl Duration {
-    pub fn new(negative: bool, months: u32, seconds: u64, nanoseconds: u32) -> Outcome
-        ensures { meaning result ≡ made (VV.Duration (general_with negative months seconds nanoseconds)) }
-    {
-        valid::checked(Value::Duration(clocks::general_with(
-            negative,
-            months,
-            seconds,
-            nanoseconds,
-        )))
-    }
-}
-
 impl Value {
     pub fn kind(self) -> Kind
         ensures { result ≡ kind_of self }
@@ -317,7 +244,6 @@ impl Value {
             Value::Moment(k, _) => k,
             Value::DayTime(_) => Kind::DayTimeDuration,
             Value::YearMonth(_) => Kind::YearMonthDuration,
-            Value::Duration(_) => Kind::Duration,
         }
     }
 }

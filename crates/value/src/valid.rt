@@ -1,14 +1,11 @@
 // Which records are within the bounds of documents 01 and 02.
-ghost use Rattle.std.specs.Prelude.{◌≡◌, ◌<◌, ◌+◌, leb, ltb};
+ghost use Rattle.std.specs.Prelude.{◌≡◌, ◌<◌, leb};
 ghost use Rattle.value.specs.Bounds.{second_ticks, max_day_time};
 ghost use Rattle.value.specs.Carried.{ticks_of};
-ghost use Rattle.value.specs.Values.{ok_date, ok_offset, ok_zone, ok_time_part, ok_date_time, ok_signed, ok_day_time, ok_year_month, ok_duration};
+ghost use Rattle.value.specs.Values.{ok_date, ok_offset, ok_zone, ok_time_part, ok_date_time, ok_signed, ok_day_time};
 ghost use Rattle.value.specs.Kinds.{ok_value, made, meaning};
 
-use crate::{
-    DateTime, DayTime, Duration, Offset, Outcome, Refusal, Span, Value, YearMonth, Zone, clocks,
-    kinds,
-};
+use crate::{DateTime, DayTime, Offset, Outcome, Refusal, Span, Value, YearMonth, Zone, kinds};
 
 const MONTHS: u8 = calendar::MONTH_COUNT as u8;
 
@@ -125,41 +122,6 @@ fn day_time_ok(d: DayTime) -> bool
     0 < d.nanoseconds
 }
 
-fn year_month_ok(d: YearMonth) -> bool
-    ensures { result ≡ ok_year_month d }
-{
-    signed_ok(YearMonth::MAX as u64, d.negative, d.months as u64)
-}
-
-// Whether one of the three numbers of a general duration is above zero.
-fn above_zero(months: u32, seconds: u64, nanoseconds: u32) -> bool
-    ensures { result ≡ ltb 0 (months + seconds + nanoseconds) }
-{
-    if 0 < months {
-        return true;
-    }
-    if 0 < seconds {
-        return true;
-    }
-    0 < nanoseconds
-}
-
-// Each part within the bounds of its own kind, and a sign only where not all is zero.
-fn duration_ok(d: Duration) -> bool
-    ensures { result ≡ ok_duration d }
-{
-    if !year_month_ok(clocks::month_part(d)) {
-        return false;
-    }
-    if !day_time_ok(clocks::time_part(d)) {
-        return false;
-    }
-    if d.negative {
-        return above_zero(d.months, d.seconds, d.nanoseconds);
-    }
-    true
-}
-
 pub fn value_ok(v: Value) -> bool
     ensures { result ≡ ok_value v }
 {
@@ -174,8 +136,7 @@ pub fn value_ok(v: Value) -> bool
             kinds::of_kind(kind, d)
         }
         Value::DayTime(d) => day_time_ok(d),
-        Value::YearMonth(d) => year_month_ok(d),
-        Value::Duration(d) => duration_ok(d),
+        Value::YearMonth(d) => signed_ok(YearMonth::MAX as u64, d.negative, d.months as u64),
     }
 }
 

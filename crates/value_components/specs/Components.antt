@@ -8,7 +8,7 @@ use Rattle.calendar.specs.Calendar.{month_count}
 use Rattle.value.specs.Reasons.{reason_of}
 use Rattle.value.specs.Bounds.{second_ticks, minute_seconds, hour_minutes, day_hours, minute_ticks, hour_ticks, day_ticks}
 use Rattle.value.specs.Refusals.{outside}
-use Rattle.value.specs.Clocks.{clock_of, ticks_in, time_part}
+use Rattle.value.specs.Clocks.{clock_of, ticks_in}
 use Rattle.value.specs.Rows.{own_parts}
 use Rattle.value.specs.Kinds.{ok_value}
 use Rattle.value.specs.declared.DateTime.{DateTime}
@@ -25,7 +25,7 @@ use Rattle.value.specs.declared.Value.TheVariants as VV
 use Rattle.value_components.specs.declared.Components.{Components}
 use Rattle.value_components.specs.declared.Components.TheVariants as CV
 
--- the parts of a value: the fields that its kind has, and the zone; of each duration kind all six
+-- the parts of a value: the fields that its kind has, and the zone; of either duration kind all six
 pub data ComponentParts : Type 0 where
   of_moment : OwnFields → ComponentParts
   of_duration : Lasting → ComponentParts
@@ -80,7 +80,6 @@ abbrev pub parts_of : Value → ComponentParts
 parts_of (VV.Moment k d) = of_moment (fields_in k d)
 parts_of (VV.DayTime d) = of_duration (lasting d.negative 0 (ticks_in d))
 parts_of (VV.YearMonth d) = of_duration (lasting d.negative d.months 0)
-parts_of (VV.Duration d) = of_duration (lasting d.negative d.months (ticks_in (time_part d)))
 
 unfoldable pub components_of : Value → Answer ComponentParts
 components_of v = pick (ok_value v) (gives (parts_of v)) (refuses outside)

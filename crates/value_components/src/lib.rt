@@ -43,7 +43,7 @@ pub enum ClockField {
     Is(Clock),
 }
 
-// The fields that the kind of a moment has, and its zone.
+// The fields that the kind of a date, time or dateTime has, and its zone.
 #[derive(Drop)]
 pub struct OwnFields {
     pub year: DateField,
@@ -158,11 +158,6 @@ pub fn of_value(v: Value) -> Components
             d.negative,
             d.months,
             clocks::span(0),
-        )),
-        Value::Duration(d) => Components::Duration(six_parts(
-            d.negative,
-            d.months,
-            clocks::size(clocks::time_part(d)),
         )),
     }
 }

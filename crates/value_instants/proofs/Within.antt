@@ -64,4 +64,3 @@ forward_to (VV.DayTime t) e = go t.negative (ticks_to t e)
     go true h = omega arith
     go false h = h
 forward_to (VV.YearMonth m) e = omega arith
-forward_to (VV.Duration d) e = omega arith

@@ -66,4 +66,3 @@ abbrev pub forward_of : Value → ℕ
 forward_of (VV.Moment k d) = 0
 forward_of (VV.DayTime t) = plus_ticks t
 forward_of (VV.YearMonth m) = 0
-forward_of (VV.Duration d) = 0

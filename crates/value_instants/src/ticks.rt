@@ -116,7 +116,6 @@ pub fn forward(v: Value) -> Span
     match v {
         Value::Moment(_, _) => clocks::span(0),
         Value::YearMonth(_) => clocks::span(0),
-        Value::Duration(_) => clocks::span(0),
         Value::DayTime(d) => {
             if d.negative {
                 return clocks::span(0);

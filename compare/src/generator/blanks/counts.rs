@@ -42,7 +42,7 @@ pub fn of_library(line: &[u8]) -> Vec<String> {
     let texts: Vec<(Kind, Vec<u8>)> = match fields[0] {
         b"write" => vec![(kind, rest(3))],
         b"bytes" => named_bytes(&rest(3)).map_or(Vec::new(), |text| vec![(kind, text)]),
-        b"compare" | b"equal" if fields.len() > 3 => vec![(kind, fields[2].to_vec())],
+        b"compare" if fields.len() > 3 => vec![(kind, fields[2].to_vec())],
         b"late" if fields.len() == 5 => {
             let kinds = [kind, kind, Kind::DayTime];
             kinds.into_iter().zip(&fields[2..]).map(|(kind, text)| (kind, text.to_vec())).collect()

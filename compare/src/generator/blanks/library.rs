@@ -1,5 +1,5 @@
 //! Tables of library calls: texts of any bytes, which `bytes` names and `write` has with tabs; blanks round the texts of
-//! `compare`, `equal` and `late`, round literals of conditions, and where they are not stripped.
+//! `compare` and `late`, round literals of conditions, and where they are not stripped.
 
 use super::{in_gaps, OTHERS, TEXTS};
 use crate::generator::hostile::conditions::BY_DATE;
@@ -149,7 +149,7 @@ fn rooms() -> Vec<Vec<u8>> {
 
 /// The text of `write` with tabs, returns and spaces round it and inside it, and thousands of them.
 fn writes() -> Vec<Vec<u8>> {
-    let write = |kind: Kind, text: &[&[u8]]| [format!("write\t{}\t40\t", kind.name()).as_bytes(), &text.concat()].concat();
+    let write = |kind: Kind, text: &[&[u8]]| [format!("write\t{}\t35\t", kind.name()).as_bytes(), &text.concat()].concat();
     let sides = SIDES.iter().filter(|side| !side.contains('\n')).chain(&["\t\r \t"]);
     let sides: Vec<&[u8]> = sides.map(|side| side.as_bytes()).collect();
     let mut calls = Vec::new();
@@ -179,8 +179,6 @@ const CALLS: &[(&str, &[usize])] = &[
     ("compare|xs:dayTimeDuration|PT24H|xs:dayTimeDuration|+86400|0", &[2]),
     ("compare|xs:time|08:15:00|xs:date|2024|3|31|0|0|none", &[2]),
     ("compare|xs:time|24:00:01|xs:time|1972|12|31|0|0|-0", &[2]),
-    ("equal|xs:gMonthDay|--03-31|xs:gMonthDay|1972|3|31|0|0|+0", &[2]),
-    ("equal|xs:duration|P1Y|xs:yearMonthDuration|+12", &[2]),
     ("late|xs:time|08:00:00|08:04:00|PT3M", &[2, 3, 4]),
     ("late|xs:dateTime|2024-03-31T00:00:00|2024-03-31T00:00:00Z|-PT0S", &[2, 3, 4]),
     ("late|xs:yearMonthDuration|P1M|P2M|PT0S", &[2, 3, 4]),
@@ -188,8 +186,6 @@ const CALLS: &[(&str, &[usize])] = &[
     ("date|2024|2|29|+120", &[]),
     ("time|28800|0|none", &[]),
     ("dayTime|-129600|0", &[]),
-    ("gDay|31|none", &[]),
-    ("duration|-14|3|500000000", &[]),
     ("record|12|xs:date|2024|3|31|0|0|none", &[]),
     ("close|1", &[]),
     ("turn", &[]),

@@ -3,37 +3,25 @@
 use super::bounds::{DAYS, DAY_TIMES, MINUTES, MONTHS, NANOS, SECONDS, YEARS, YEAR_MONTHS};
 use crate::generator::random::Random;
 use crate::generator::texts;
-use crate::values::calendar::{civil_from_days, Civil};
-use crate::values::operations::REFERENCE_DAY;
+use crate::values::calendar::civil_from_days;
 use crate::values::{ticks_a_day, ticks_a_second, Kind, Value, Zone};
 
-/// The numbers of the value's record, without its kind. Those that the kind has not are as docs/LINES.md fixes them.
+/// The numbers of the value's record, without its kind.
 pub fn numbers_of(value: &Value) -> Vec<String> {
     match *value {
-        Value::Date { day, zone } => moment(civil_from_days(day), 0, zone),
-        Value::Time { tick, zone } => moment(civil_from_days(REFERENCE_DAY as i64), tick, zone),
-        Value::DateTime { tick, zone } => {
-            moment(civil_from_days(tick.div_euclid(ticks_a_day()) as i64), tick.rem_euclid(ticks_a_day()), zone)
-        }
+        Value::Date { day, zone } => moment(day, 0, zone),
+        Value::Time { tick, zone } => moment(crate::values::operations::REFERENCE_DAY as i64, tick, zone),
+        Value::DateTime { tick, zone } => moment(tick.div_euclid(ticks_a_day()) as i64, tick.rem_euclid(ticks_a_day()), zone),
         Value::DayTime(number) => {
             let (sign, size) = (if number < 0 { '-' } else { '+' }, number.abs());
             vec![format!("{sign}{}", size / ticks_a_second()), (size % ticks_a_second()).to_string()]
         }
         Value::YearMonth(number) => vec![format!("{number:+}")],
-        Value::GYear { year, zone } => moment(Civil { year, month: 1, day: 1 }, 0, zone),
-        Value::GYearMonth { year, month, zone } => moment(Civil { year, month, day: 1 }, 0, zone),
-        Value::GMonth { month, zone } => moment(Civil { year: 1972, month, day: 29 }, 0, zone),
-        Value::GMonthDay { month, day, zone } => moment(Civil { year: 1972, month, day }, 0, zone),
-        Value::GDay { day, zone } => moment(Civil { year: 1972, month: 12, day }, 0, zone),
-        Value::Duration { months, ticks } => {
-            let (sign, size) = (if months < 0 || ticks < 0 { '-' } else { '+' }, ticks.abs());
-            let (seconds, nano) = (size / ticks_a_second(), size % ticks_a_second());
-            vec![format!("{sign}{}", months.abs()), seconds.to_string(), nano.to_string()]
-        }
     }
 }
 
-fn moment(date: Civil, tick: i128, zone: Zone) -> Vec<String> {
+fn moment(days: i64, tick: i128, zone: Zone) -> Vec<String> {
+    let date = civil_from_days(days);
     let zone = zone.map_or("none".to_string(), |minutes| format!("{minutes:+}"));
     let (second, nano) = (tick / ticks_a_second(), tick % ticks_a_second());
     let numbers = [date.year as i128, date.month as i128, date.day as i128, second, nano];
@@ -64,9 +52,7 @@ pub fn at_a_bound(random: &mut Random, kind: Kind, numbers: &mut [String]) {
     numbers[place] = match (kind, place) {
         (Kind::DayTime, 0) => signed(random, DAY_TIMES),
         (Kind::DayTime, _) => number(random, NANOS),
-        (Kind::YearMonth, _) | (Kind::Duration, 0) => signed(random, YEAR_MONTHS),
-        (Kind::Duration, 1) => number(random, DAY_TIMES),
-        (Kind::Duration, _) => number(random, NANOS),
+        (Kind::YearMonth, _) => signed(random, YEAR_MONTHS),
         (_, 0) => number(random, YEARS),
         (_, 1) => number(random, MONTHS),
         (_, 2) => number(random, DAYS),

@@ -1,8 +1,8 @@
 //! Cases of the program `library_example`: tables of calls at and either side of every bound and with blanks, all wrong forms
 //! of each call, and long random sessions with one desk.
 
-pub(super) mod bounds;
-pub(super) mod fields;
+mod bounds;
+mod fields;
 mod forms;
 mod play;
 mod tables;

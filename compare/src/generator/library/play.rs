@@ -10,7 +10,6 @@ use crate::generator::calls::{any_text, near};
 use crate::generator::conditions::{any, fitting, Setting};
 use crate::generator::damage::{damaged, noise};
 use crate::generator::desks::{great_timetable, timetable, Timetable};
-use crate::generator::kinds;
 use crate::generator::random::Random;
 use crate::generator::texts;
 use crate::library::Session;
@@ -18,7 +17,7 @@ use crate::programs::MOST_CALLS_BYTES;
 use crate::values::operations::subtract;
 use crate::values::reading::read;
 use crate::values::writing::write;
-use crate::values::{most_duration_ticks, ticks_a_minute, ticks_a_second, Kind, Value, KINDS, MOST_DURATION_MONTHS, ORDERED};
+use crate::values::{most_duration_ticks, ticks_a_minute, ticks_a_second, Kind, Value, KINDS, MOST_DURATION_MONTHS};
 
 pub fn case(seed: u64) -> Case {
     let random = &mut Random::new(seed);
@@ -75,16 +74,15 @@ impl<'a> Player<'a> {
         if self.random.below(150) == 0 {
             return self.fill();
         }
-        let call = match self.random.weighted(&[18, 12, 12, 7, 13, 12, 12, 4, 3, 10]) {
+        let call = match self.random.weighted(&[18, 12, 12, 7, 15, 13, 4, 3, 10]) {
             0 => maker(self.random),
             1 => record_call(self.random),
             2 => write_call(self.random),
             3 => bytes_call(self.random),
             4 => compare_call(self.random),
-            5 => equal_call(self.random),
-            6 => late_call(self.random),
-            7 => self.open(),
-            8 => self.close(),
+            5 => late_call(self.random),
+            6 => self.open(),
+            7 => self.close(),
             _ => b"turn".to_vec(),
         };
         let call = if self.random.chance(4) { malformed(self.random, &call) } else { call };
@@ -122,7 +120,7 @@ impl<'a> Player<'a> {
 }
 
 fn maker(random: &mut Random) -> Vec<u8> {
-    let kind = kinds::any(random);
+    let kind = random.pick(&KINDS);
     let numbers = any_numbers(random, kind);
     let (word, taken): (&str, &[usize]) = match kind {
         Kind::Date => ("date", &[0, 1, 2, 5]),
@@ -130,12 +128,6 @@ fn maker(random: &mut Random) -> Vec<u8> {
         Kind::DateTime => ("dateTime", &[0, 1, 2, 3, 4, 5]),
         Kind::DayTime => ("dayTime", &[0, 1]),
         Kind::YearMonth => ("yearMonth", &[0]),
-        Kind::GYear => ("gYear", &[0, 5]),
-        Kind::GYearMonth => ("gYearMonth", &[0, 1, 5]),
-        Kind::GMonth => ("gMonth", &[1, 5]),
-        Kind::GMonthDay => ("gMonthDay", &[1, 2, 5]),
-        Kind::GDay => ("gDay", &[2, 5]),
-        Kind::Duration => ("duration", &[0, 1, 2]),
     };
     let numbers: Vec<&str> = taken.iter().map(|&place| numbers[place].as_str()).collect();
     format!("{word}\t{}", numbers.join("\t")).into_bytes()
@@ -147,14 +139,14 @@ fn room(random: &mut Random, length: usize) -> String {
         0..=2 => length,
         3 | 4 => length.saturating_sub(1),
         5 | 6 => length + 1,
-        7 => random.pick(&[0, 1, 32, 34, 35, 36, 39, 40, 41, 63, 64, 64, 65]),
+        7 => random.pick(&[0, 1, 32, 34, 35, 36, 63, 64, 64, 65]),
         _ => random.below(65),
     };
     digits(random, size as u64)
 }
 
 fn record_call(random: &mut Random) -> Vec<u8> {
-    let kind = kinds::any(random);
+    let kind = random.pick(&KINDS);
     if random.chance(55) {
         let (_, value) = texts::good_value(random, kind);
         let room = room(random, write(&value).len());
@@ -166,7 +158,7 @@ fn record_call(random: &mut Random) -> Vec<u8> {
 }
 
 fn write_call(random: &mut Random) -> Vec<u8> {
-    let kind = kinds::any(random);
+    let kind = random.pick(&KINDS);
     let mut text = any_text(random, kind, 75);
     if random.chance(25) {
         text = IN_THE_REST.any(random, &text);
@@ -177,7 +169,7 @@ fn write_call(random: &mut Random) -> Vec<u8> {
 }
 
 fn bytes_call(random: &mut Random) -> Vec<u8> {
-    let kind = kinds::any(random);
+    let kind = random.pick(&KINDS);
     let mut text = any_text(random, kind, 85);
     if random.chance(70) {
         text = IN_DIGITS.any(random, &text);
@@ -201,11 +193,10 @@ fn perhaps_padded(random: &mut Random, text: Vec<u8>) -> Vec<u8> {
     text
 }
 
-/// One in ten is about a kind without an order.
 fn compare_call(random: &mut Random) -> Vec<u8> {
-    let kind = if random.chance(90) { random.pick(&ORDERED) } else { kinds::other(random) };
+    let kind = random.pick(&KINDS);
     let (text, value) = texts::good_value(random, kind);
-    let (other, numbers) = match random.weighted(&[60, 25, 15]) {
+    let (other, mut numbers) = match random.weighted(&[60, 25, 15]) {
         0 => {
             let beside = near(random, &value);
             (kind, numbers_of(&read(kind, beside.as_bytes()).unwrap_or(value)))
@@ -216,45 +207,18 @@ fn compare_call(random: &mut Random) -> Vec<u8> {
             (other, any_numbers(random, other))
         }
     };
-    with_record(random, "compare", (kind, text), (other, numbers))
-}
-
-/// Equality of any kinds, mostly of such as can be equal.
-fn equal_call(random: &mut Random) -> Vec<u8> {
-    let kind = random.pick(&KINDS);
-    let (text, value) = texts::good_value(random, kind);
-    let (other, numbers) = match random.weighted(&[65, 15, 20]) {
-        0 => {
-            let (other, beside) = if kind.is_duration() { kinds::alike(random, &value) } else { (kind, near(random, &value)) };
-            read(other, beside.as_bytes()).map_or((kind, numbers_of(&value)), |beside| (other, numbers_of(&beside)))
-        }
-        1 => (kind, any_numbers(random, kind)),
-        _ => {
-            let other = random.pick(&KINDS);
-            (other, any_numbers(random, other))
-        }
-    };
-    with_record(random, "equal", (kind, text), (other, numbers))
-}
-
-/// A call over a text and a record; seldom the text does not read, or a number of the record stands at a bound.
-fn with_record(random: &mut Random, word: &str, (kind, text): (Kind, String), record: (Kind, Vec<String>)) -> Vec<u8> {
-    let (other, mut numbers) = record;
     if random.chance(8) {
         at_a_bound(random, other, &mut numbers);
     }
     let text = if random.chance(6) { any_text(random, kind, 0) } else { text.into_bytes() };
     let text = perhaps_padded(random, text);
-    let record = self::record(other, &numbers);
-    [word.as_bytes(), kind.name().as_bytes(), &text, record.as_bytes()].join(&b'\t')
+    let record = record(other, &numbers);
+    [b"compare", kind.name().as_bytes(), &text, record.as_bytes()].join(&b'\t')
 }
 
 /// Two values of a kind, and a duration that is often just their difference.
 fn late_call(random: &mut Random) -> Vec<u8> {
-    let kind = match random.below(20) {
-        0 => kinds::other(random),
-        _ => random.pick(&[Kind::Date, Kind::Time, Kind::DateTime, Kind::DayTime, Kind::DayTime, Kind::YearMonth]),
-    };
+    let kind = random.pick(&[Kind::Date, Kind::Time, Kind::DateTime, Kind::DayTime, Kind::DayTime, Kind::YearMonth]);
     let (first, value) = texts::good_value(random, kind);
     let second = match random.below(10) {
         0..=4 => near(random, &value),
@@ -298,12 +262,7 @@ fn malformed(random: &mut Random, call: &[u8]) -> Vec<u8> {
         0 => drop(fields.remove(place)),
         1 => fields.insert(place, Vec::new()),
         2 => fields.push(noise(random)),
-        3 => {
-            fields[0] = random
-                .pick(&["Date", "", "dates", "open ", " turn", "bytes ", "read", "equals", "gyear", "\r"])
-                .as_bytes()
-                .to_vec()
-        }
+        3 => fields[0] = random.pick(&["Date", "", "dates", "open ", " turn", "bytes ", "read", "\r"]).as_bytes().to_vec(),
         4 => fields[place] = damaged(random, &fields[place].clone()),
         5 => fields[place] = random.pick(&["", "-", "+", "none", "65536", "-0", "xs:date", "1 "]).as_bytes().to_vec(),
         6 => return noise(random),

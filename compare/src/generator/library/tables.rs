@@ -3,7 +3,6 @@
 
 use super::bounds::{CLOCKS, DAYS, DAY_TIMES, MINUTES, MONTHS, NANOS, ROOMS, SECONDS, YEARS, YEAR_MONTHS};
 use crate::generator::hostile::conditions::{padded, BAD, BY_DATE, BY_TIME, NEIGHBOURS};
-use crate::generator::kinds;
 use crate::values::KINDS;
 
 pub fn tables() -> Vec<(&'static str, Vec<String>)> {
@@ -16,16 +15,13 @@ pub fn tables() -> Vec<(&'static str, Vec<String>)> {
         ("months", months()),
         ("reference-day", reference_day()),
         ("rooms", rooms()),
-        ("kinds", kinds_in_pairs()),
+        ("kinds", kinds()),
         ("orders", orders()),
         ("late", late()),
         ("late-kinds", late_kinds()),
         ("seats", seats()),
         ("conditions", conditions()),
     ]
-    .into_iter()
-    .chain(kinds::library::tables())
-    .collect()
 }
 
 /// Makers and records with each year, month and day.
@@ -177,7 +173,7 @@ fn reference_day() -> Vec<String> {
     calls
 }
 
-/// A record and a text of the same value, of many lengths from 3 to 40.
+/// A record and a text of the same value, of many lengths from 3 to 35.
 const WRITTEN: &[(&str, &str)] = &[
     ("xs:yearMonthDuration|+0", "P0M"),
     ("xs:dayTimeDuration|+0|0", "-PT0S"),
@@ -197,20 +193,6 @@ const WRITTEN: &[(&str, &str)] = &[
     ("xs:dateTime|9999|12|31|86399|999999000|+840", "9999-12-31T23:59:59.999999+14:00"),
     ("xs:dateTime|9999|12|31|86399|999999990|+840", "9999-12-31T23:59:59.99999999+14:00"),
     ("xs:dateTime|9999|12|31|86399|999999999|+840", "9999-12-31T23:59:59.999999999+14:00"),
-    ("xs:gYear|1|1|1|0|0|none", "0001"),
-    ("xs:gYear|9999|1|1|0|0|-840", "9999-14:00"),
-    ("xs:gYearMonth|2024|2|1|0|0|none", "2024-02"),
-    ("xs:gYearMonth|2024|12|1|0|0|+840", "2024-12+14:00"),
-    ("xs:gMonth|1972|2|29|0|0|none", "--02"),
-    ("xs:gMonth|1972|12|29|0|0|+0", "--12-00:00"),
-    ("xs:gMonthDay|1972|2|29|0|0|none", "--02-29"),
-    ("xs:gMonthDay|1972|12|31|0|0|-840", "--12-31-14:00"),
-    ("xs:gDay|1972|12|31|0|0|none", "---31"),
-    ("xs:gDay|1972|12|1|0|0|+1", "---01+00:01"),
-    ("xs:duration|+0|0|0", "-P0M"),
-    ("xs:duration|-14|3|500000000", "-P14MT3.5S"),
-    ("xs:duration|+1000000|1000000000000|0", "P1000000MT1000000000000S"),
-    ("xs:duration|-999995|999999993599|999999999", "-P83332Y11M11574073DT23H59M59.999999999S"),
 ];
 
 /// Each of these into every room, and records and texts that are refused before the room is looked at.
@@ -222,8 +204,7 @@ fn rooms() -> Vec<String> {
             calls.push(format!("record|{room}|{record}"));
             calls.push(format!("write|{kind}|{room}|{text}"));
         }
-        let beyond = ["xs:dayTimeDuration|-0|0", "xs:date|2023|2|29|0|0|none", "xs:time|1972|12|31|0|0|+841"];
-        for record in beyond.iter().chain(&["xs:gMonthDay|1973|12|24|0|0|none", "xs:duration|-0|0|0"]) {
+        for record in ["xs:dayTimeDuration|-0|0", "xs:date|2023|2|29|0|0|none", "xs:time|1972|12|31|0|0|+841"] {
             calls.push(format!("record|{room}|{record}"));
         }
         for text in ["xs:date|{}|2023-02-29", "xs:date|{}|10000-01-01", "xs:time|{}|00:00:00.0000000000", "xs:date|{}|"] {
@@ -234,7 +215,7 @@ fn rooms() -> Vec<String> {
 }
 
 /// For each kind readable texts, texts that are refused with 1, 2 or 3, and records within and beyond the bounds.
-const OF_KINDS: [(&[&str], &[&str]); KINDS.len()] = [
+const OF_KINDS: [(&[&str], &[&str]); 5] = [
     (
         &["2024-03-31", "2024-03-31+14:00", "2023-02-29", "12000-13-45"],
         &["2024|3|31|0|0|none", "2024|3|31|0|1|none", "0|3|31|0|0|none"],
@@ -248,26 +229,17 @@ const OF_KINDS: [(&[&str], &[&str]); KINDS.len()] = [
         &["2024|3|31|0|0|none", "2024|2|30|0|0|none", "10000|1|1|0|0|+0"],
     ),
     (&["PT24H", "P11574074DT1H46M41S", "P", "PT0.0000000000S"], &["+86400|0", "-0|0", "+1000000000000|1"]),
-    (&["P1Y", "P1000001M", "PT1M", "P0M"], &["+12", "+0", "-0", "-1000001"]),
-    (&["2024", "2024Z", "0000", "12000"], &["2024|1|1|0|0|none", "2024|1|2|0|0|none", "0|1|1|0|0|none"]),
-    (&["2024-02", "2024-13", "-2024-13"], &["2024|2|1|0|0|+0", "2024|2|29|0|0|none", "2024|13|1|0|0|none"]),
-    (&["--12", "--12-14:00", "--12--"], &["1972|12|29|0|0|none", "1972|12|1|0|0|none", "1971|12|29|0|0|none"]),
-    (&["--02-29", "--02-29-14:00", "--02-30"], &["1972|2|29|0|0|none", "1972|3|1|0|0|+600", "2000|2|29|0|0|none"]),
-    (&["---31", "---30-14:00", "---32"], &["1972|12|31|0|0|+600", "1972|12|31|0|0|none", "1972|1|31|0|0|none"]),
-    (
-        &["P1Y", "P1D", "PT0S", "P1YT24H", "P1000001M", "PT", "P1MT0.0000000000S"],
-        &["+12|0|0", "+0|86400|0", "+0|0|0", "+12|86400|0", "-0|0|0", "+1000001|0|0"],
-    ),
+    (&["P1Y", "P1000001M", "PT1M"], &["+12", "-0", "-1000001"]),
 ];
 
-/// Comparisons, for order and for equality, of every pair of kinds, with every text and record of them.
-fn kinds_in_pairs() -> Vec<String> {
+/// Comparisons of every pair of kinds, with every text and record of them.
+fn kinds() -> Vec<String> {
     let mut calls = Vec::new();
     for (left, (texts, _)) in KINDS.into_iter().zip(OF_KINDS) {
         for (right, (_, records)) in KINDS.into_iter().zip(OF_KINDS) {
-            for (text, record) in texts.iter().flat_map(|text| records.iter().map(move |record| (text, record))) {
-                let over = format!("{}|{text}|{}|{record}", left.name(), right.name());
-                calls.extend(["compare", "equal"].map(|word| format!("{word}|{over}")));
+            for text in texts {
+                let all = records.iter().map(|record| format!("compare|{}|{text}|{}|{record}", left.name(), right.name()));
+                calls.extend(all);
             }
         }
     }

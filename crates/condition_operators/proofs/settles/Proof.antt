@@ -18,9 +18,6 @@ enum-told-2 c = search rules
 enum-told-3 : tie.Need-enum-told-3
 enum-told-3 c = search rules
 
-enum-told-4 : tie.Need-enum-told-4
-enum-told-4 c = search rules
-
 returns-2 : tie.Need-returns-2
 returns-2 c = search rules
 
@@ -33,9 +30,6 @@ returns-4 c = search rules
 returns-5 : tie.Need-returns-5
 returns-5 c = search rules
 
-returns-6 : tie.Need-returns-6
-returns-6 c = search rules
-
 pub settles-spec : {M : Type 1} → statement M
 settles-spec =
     tie.close
@@ -45,9 +39,7 @@ settles-spec =
     enum_told
     enum-told-2
     enum-told-3
-    enum-told-4
     returns-2
     returns-3
     returns-4
-    returns-5
-    returns-6)
+    returns-5)

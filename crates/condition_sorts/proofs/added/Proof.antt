@@ -1,5 +1,3 @@
-use Rattle.basis.proofs.Tests.{no, yes as good}
-use Rattle.basis.specs.Choice.{both}
 use Rattle.condition_sorts.specs.Sorts.{added_kinds}
 use Rattle.condition_sorts.proofs.Choices.{taken, left}
 use borrow.Author.Rules.{rules}
@@ -20,23 +18,23 @@ returns-2 : tie.Need-returns-2
 unfolding added_kinds
 returns-2 c = search (taken, left)
 
-is-quantity-requires : tie.Need-is-quantity-requires
-is-quantity-requires c κs = search rules
+is-moment-requires : tie.Need-is-moment-requires
+is-moment-requires c κs = search rules
 
 returns-3 : tie.Need-returns-3
-unfolding added_kinds both
-returns-3 c = simp (no c.before.is-quantity.ensures c.if3.true, c.before.before.if2.false, ← c.before.before.before.takes2.ensures, c.before.before.before.before.if1.false, ← c.before.before.before.before.before.takes.ensures)
+unfolding added_kinds
+returns-3 c = search (taken, left)
 
 same-requires : tie.Need-same-requires
 same-requires c κs = search rules
 
 returns-4 : tie.Need-returns-4
-unfolding added_kinds both
-returns-4 c = simp (c.if4.true, ← c.before.same.ensures, good c.before.before.before.is-quantity.ensures c.before.before.if3.false, c.before.before.before.before.if2.false, ← c.before.before.before.before.before.takes2.ensures, c.before.before.before.before.before.before.if1.false, ← c.before.before.before.before.before.before.before.takes.ensures)
+unfolding added_kinds
+returns-4 c = search (taken, left)
 
 returns-5 : tie.Need-returns-5
-unfolding added_kinds both
-returns-5 c = simp (c.if4.false, ← c.before.same.ensures, good c.before.before.before.is-quantity.ensures c.before.before.if3.false, c.before.before.before.before.if2.false, ← c.before.before.before.before.before.takes2.ensures, c.before.before.before.before.before.before.if1.false, ← c.before.before.before.before.before.before.before.takes.ensures)
+unfolding added_kinds
+returns-5 c = search (taken, left)
 
 pub added-spec : {M : Type 1} → statement M
 added-spec =
@@ -46,7 +44,7 @@ added-spec =
     returns
     takes-requires-2
     returns-2
-    is-quantity-requires
+    is-moment-requires
     returns-3
     same-requires
     returns-4

@@ -4,8 +4,8 @@ use borrow.Author.Rules.{rules}
 use Rattle.condition_sorts.proofs.compared.Statement.{statement}
 use Rattle.condition_sorts.proofs.compared.Tie as tie
 
-ordered-requires : tie.Need-ordered-requires
-ordered-requires c κs = search rules
+same-requires : tie.Need-same-requires
+same-requires c κs = search rules
 
 returns : tie.Need-returns
 unfolding compared_kinds
@@ -16,4 +16,4 @@ unfolding compared_kinds
 returns-2 c = search (taken, left)
 
 pub compared-spec : {M : Type 1} → statement M
-compared-spec = tie.close (tie.spec ordered-requires returns returns-2)
+compared-spec = tie.close (tie.spec same-requires returns returns-2)

@@ -11,8 +11,8 @@ returns : tie.Need-returns
 unfolding less_kinds
 returns c = search (taken, left)
 
-ordered-requires : tie.Need-ordered-requires
-ordered-requires c κs = search rules
+same-requires : tie.Need-same-requires
+same-requires c κs = search rules
 
 is-moment-requires : tie.Need-is-moment-requires
 is-moment-requires c κs = search rules
@@ -35,7 +35,7 @@ less-spec =
     (tie.spec
     takes-requires
     returns
-    ordered-requires
+    same-requires
     is-moment-requires
     returns-2
     returns-3

@@ -11,11 +11,11 @@ enum-told-2 c = search rules
 enum-known-a : tie.Need-enum-known-a
 enum-known-a c = search rules
 
-is-quantity-requires : tie.Need-is-quantity-requires
-is-quantity-requires c κs = search rules
+is-moment-requires : tie.Need-is-moment-requires
+is-moment-requires c κs = search rules
 
 returns : tie.Need-returns
-returns c = rw (c.before.before.before.a.given.1, ← c.before.is-quantity.ensures, c.if1.true)
+returns c = rw (c.before.before.before.a.given.1, ← c.before.is_moment_lem.ensures, c.if1.true)
 
 returns-2 : tie.Need-returns-2
 returns-2 c = rw c.enum_told.given.1
@@ -24,7 +24,7 @@ returns-3 : tie.Need-returns-3
 returns-3 c = rw c.enum-told2.given.1
 
 returns-4 : tie.Need-returns-4
-returns-4 c = rw (c.before.before.before.a.given.1, ← c.before.is-quantity.ensures, c.if1.false)
+returns-4 c = rw (c.before.before.before.a.given.1, ← c.before.is_moment_lem.ensures, c.if1.false)
 
 pub times-spec : {M : Type 1} → statement M
 times-spec =
@@ -33,7 +33,7 @@ times-spec =
     enum_told
     enum-told-2
     enum-known-a
-    is-quantity-requires
+    is-moment-requires
     returns
     returns-2
     returns-3

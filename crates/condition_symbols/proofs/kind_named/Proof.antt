@@ -56,12 +56,9 @@ returns-5 : tie.Need-returns-5
 unfolding named
 returns-5 c = simp (c.if5.true, ← c.before.same5.ensures, c.before.before.before.if4.false, ← c.before.before.before.before.same4.ensures, c.before.before.before.before.before.before.if3.false, ← c.before.before.before.before.before.before.before.same3.ensures, c.before.before.before.before.before.before.before.before.before.if2.false, ← c.before.before.before.before.before.before.before.before.before.before.same2.ensures, c.before.before.before.before.before.before.before.before.before.before.before.before.if1.false, ← c.before.before.before.before.before.before.before.before.before.before.before.before.before.same.ensures)
 
-other-kind-named-requires : tie.Need-other-kind-named-requires
-other-kind-named-requires c κs = search rules
-
 returns-6 : tie.Need-returns-6
 unfolding named
-returns-6 c = simp (← c.other-kind-named.ensures, c.before.if5.false, ← c.before.before.same5.ensures, c.before.before.before.before.if4.false, ← c.before.before.before.before.before.same4.ensures, c.before.before.before.before.before.before.before.if3.false, ← c.before.before.before.before.before.before.before.before.same3.ensures, c.before.before.before.before.before.before.before.before.before.before.if2.false, ← c.before.before.before.before.before.before.before.before.before.before.before.same2.ensures, c.before.before.before.before.before.before.before.before.before.before.before.before.before.if1.false, ← c.before.before.before.before.before.before.before.before.before.before.before.before.before.before.same.ensures)
+returns-6 c = simp (c.if5.false, ← c.before.same5.ensures, c.before.before.before.if4.false, ← c.before.before.before.before.same4.ensures, c.before.before.before.before.before.before.if3.false, ← c.before.before.before.before.before.before.before.same3.ensures, c.before.before.before.before.before.before.before.before.before.if2.false, ← c.before.before.before.before.before.before.before.before.before.before.same2.ensures, c.before.before.before.before.before.before.before.before.before.before.before.before.if1.false, ← c.before.before.before.before.before.before.before.before.before.before.before.before.before.same.ensures)
 
 pub kind-named-spec : {M : Type 1} → statement M
 kind-named-spec =
@@ -82,5 +79,4 @@ kind-named-spec =
     slice-aggregate-same-5
     same-requires-5
     returns-5
-    other-kind-named-requires
     returns-6)

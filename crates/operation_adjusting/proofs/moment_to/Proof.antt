@@ -1,6 +1,5 @@
 use Rattle.value.proofs.KindParts.{day_time_good}
 use Rattle.operation_adjusting.specs.Adjustment.{moment_to}
-use Rattle.basis.proofs.Tests.{no, yes as good}
 use borrow.Author.Rules.{rules}
 use Rattle.operation_adjusting.proofs.moment_to.Statement.{statement}
 use Rattle.operation_adjusting.proofs.moment_to.Tie as tie
@@ -14,46 +13,26 @@ refused-requires c κs = search rules
 enum-known-z : tie.Need-enum-known-z
 enum-known-z c = search rules
 
-is-ordered-requires : tie.Need-is-ordered-requires
-is-ordered-requires c κs = search rules
+adjusted-to-requires : tie.Need-adjusted-to-requires
+adjusted-to-requires c κs = (c.before.before.before.requires.0, day_time_good _ c.before.before.before.requires.1 _ c.before.z.given.1)
+
+enum-told-2 : tie.Need-enum-told-2
+enum-told-2 c = search rules
 
 refused-requires-2 : tie.Need-refused-requires-2
 refused-requires-2 c κs = search rules
 
 returns : tie.Need-returns
 unfolding moment_to
-returns c = simp (← c.refused2.ensures, no c.before.before.is-ordered.ensures c.before.if1.true, c.before.before.before.before.z.given.1)
-
-adjusted-to-requires : tie.Need-adjusted-to-requires
-adjusted-to-requires c κs = (c.before.before.before.before.before.requires.0, day_time_good _ c.before.before.before.before.before.requires.1 _ c.before.before.before.z.given.1)
-
-enum-told-2 : tie.Need-enum-told-2
-enum-told-2 c = search rules
-
-refused-requires-3 : tie.Need-refused-requires-3
-refused-requires-3 c κs = search rules
-
-enum-told-3 : tie.Need-enum-told-3
-enum-told-3 c = search rules
-
-refused-requires-4 : tie.Need-refused-requires-4
-refused-requires-4 c κs = search rules
+returns c = simp (← c.refused.ensures, c.before.enum_told.given.1)
 
 returns-2 : tie.Need-returns-2
 unfolding moment_to
-returns-2 c = simp (← c.refused.ensures, c.before.enum_told.given.1)
+returns-2 c = simp (← c.adjusted-to.ensures, c.before.before.z.given.1)
 
 returns-3 : tie.Need-returns-3
 unfolding moment_to
-returns-3 c = simp (← c.adjusted-to.ensures, good c.before.before.is-ordered.ensures c.before.if1.false, c.before.before.before.before.z.given.1)
-
-returns-4 : tie.Need-returns-4
-unfolding moment_to
-returns-4 c = simp (← c.refused3.ensures, c.before.enum-told2.given.1)
-
-returns-5 : tie.Need-returns-5
-unfolding moment_to
-returns-5 c = simp (← c.refused4.ensures, c.before.enum-told3.given.1)
+returns-3 c = simp (← c.refused2.ensures, c.before.enum-told2.given.1)
 
 pub moment-to-spec : {M : Type 1} → statement M
 moment-to-spec =
@@ -62,15 +41,9 @@ moment-to-spec =
     enum_told
     refused-requires
     enum-known-z
-    is-ordered-requires
-    refused-requires-2
-    returns
     adjusted-to-requires
     enum-told-2
-    refused-requires-3
-    enum-told-3
-    refused-requires-4
+    refused-requires-2
+    returns
     returns-2
-    returns-3
-    returns-4
-    returns-5)
+    returns-3)

@@ -22,12 +22,6 @@ enum-told-2 c = search rules
 refused-requires-2 : tie.Need-refused-requires-2
 refused-requires-2 c κs = search rules
 
-enum-told-3 : tie.Need-enum-told-3
-enum-told-3 c = search rules
-
-refused-requires-3 : tie.Need-refused-requires-3
-refused-requires-3 c κs = search rules
-
 returns : tie.Need-returns
 unfolding value_to
 returns c = simp (← c.moment-to.ensures, c.before.before.a.given.1)
@@ -40,10 +34,6 @@ returns-3 : tie.Need-returns-3
 unfolding value_to
 returns-3 c = simp (← c.refused2.ensures, c.before.enum-told2.given.1)
 
-returns-4 : tie.Need-returns-4
-unfolding value_to
-returns-4 c = simp (← c.refused3.ensures, c.before.enum-told3.given.1)
-
 pub value-to-spec : {M : Type 1} → statement M
 value-to-spec =
     tie.close
@@ -54,9 +44,6 @@ value-to-spec =
     refused-requires
     enum-told-2
     refused-requires-2
-    enum-told-3
-    refused-requires-3
     returns
     returns-2
-    returns-3
-    returns-4)
+    returns-3)

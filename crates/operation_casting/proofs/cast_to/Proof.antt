@@ -15,9 +15,6 @@ enum-known-a-2 c = search rules
 enum-known-a-3 : tie.Need-enum-known-a-3
 enum-known-a-3 c = search rules
 
-enum-known-a-4 : tie.Need-enum-known-a-4
-enum-known-a-4 c = search rules
-
 returns : tie.Need-returns
 unfolding cast_to
 returns c = simp (← c.kept.ensures, c.before.before.a.given.1)
@@ -30,10 +27,6 @@ returns-3 : tie.Need-returns-3
 unfolding cast_to
 returns-3 c = simp c.before.a3.given.1
 
-returns-4 : tie.Need-returns-4
-unfolding cast_to
-returns-4 c = simp c.before.a4.given.1
-
 pub cast-to-spec : {M : Type 1} → statement M
 cast-to-spec =
     tie.close
@@ -42,8 +35,6 @@ cast-to-spec =
     kept-requires
     enum-known-a-2
     enum-known-a-3
-    enum-known-a-4
     returns
     returns-2
-    returns-3
-    returns-4)
+    returns-3)

@@ -31,22 +31,22 @@ kind-requires c κs = search rules
 kind-requires-2 : tie.Need-kind-requires-2
 kind-requires-2 c κs = search rules
 
-ordered-requires : tie.Need-ordered-requires
-ordered-requires c κs = search rules
+same-requires : tie.Need-same-requires
+same-requires c κs = search rules
 
 refused-requires-3 : tie.Need-refused-requires-3
 refused-requires-3 c κs = search rules
 
 returns-3 : tie.Need-returns-3
 unfolding order_in both
-returns-3 c = simp (← c.refused3.ensures, no c.before.before.ordered.ensures c.before.if3.true, ← c.before.before.before.kind2.ensures, ← c.before.before.before.before.kind.ensures, good c.before.before.before.before.before.before.value-ok2.ensures c.before.before.before.before.before.if2.false, good c.before.before.before.before.before.before.before.before.value-ok.ensures c.before.before.before.before.before.before.before.if1.false)
+returns-3 c = simp (← c.refused3.ensures, no c.before.before.same.ensures c.before.if3.true, ← c.before.before.before.kind2.ensures, ← c.before.before.before.before.kind.ensures, good c.before.before.before.before.before.before.value-ok2.ensures c.before.before.before.before.before.if2.false, good c.before.before.before.before.before.before.before.before.value-ok.ensures c.before.before.before.before.before.before.before.if1.false)
 
 order-of-requires : tie.Need-order-of-requires
 order-of-requires c κs = (good c.before.before.before.before.before.before.before.value-ok.ensures c.before.before.before.before.before.before.if1.false, good c.before.before.before.before.before.value-ok2.ensures c.before.before.before.before.if2.false, c.before.before.before.before.before.before.before.before.requires)
 
 returns-4 : tie.Need-returns-4
 unfolding order_in both
-returns-4 c = simp (← c.order_of.ensures, good c.before.before.ordered.ensures c.before.if3.false, ← c.before.before.before.kind2.ensures, ← c.before.before.before.before.kind.ensures, good c.before.before.before.before.before.before.value-ok2.ensures c.before.before.before.before.before.if2.false, good c.before.before.before.before.before.before.before.before.value-ok.ensures c.before.before.before.before.before.before.before.if1.false)
+returns-4 c = simp (← c.order_of.ensures, good c.before.before.same.ensures c.before.if3.false, ← c.before.before.before.kind2.ensures, ← c.before.before.before.before.kind.ensures, good c.before.before.before.before.before.before.value-ok2.ensures c.before.before.before.before.before.if2.false, good c.before.before.before.before.before.before.before.before.value-ok.ensures c.before.before.before.before.before.before.before.if1.false)
 
 pub compare-in-spec : {M : Type 1} → statement M
 compare-in-spec =
@@ -60,7 +60,7 @@ compare-in-spec =
     returns-2
     kind-requires
     kind-requires-2
-    ordered-requires
+    same-requires
     refused-requires-3
     returns-3
     order-of-requires

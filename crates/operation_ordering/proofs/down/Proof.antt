@@ -28,12 +28,6 @@ minus-half-requires c κs = search rules
 span-requires-2 : tie.Need-span-requires-2
 span-requires-2 c κs = search rules
 
-enum-told-2 : tie.Need-enum-told-2
-enum-told-2 c = search rules
-
-span-requires-3 : tie.Need-span-requires-3
-span-requires-3 c κs = search rules
-
 returns : tie.Need-returns
 unfolding down
 returns c = simp (← c.span.ensures, c.before.enum_told.given.1)
@@ -45,10 +39,6 @@ returns-2 c = simp (← c.minus-ticks.ensures, c.before.before.v.given.1)
 returns-3 : tie.Need-returns-3
 unfolding down
 returns-3 c = simp (← c.span2.ensures, ← c.before.minus-half.ensures, c.before.before.before.before.v2.given.1)
-
-returns-4 : tie.Need-returns-4
-unfolding down
-returns-4 c = simp (← c.span3.ensures, c.before.enum-told2.given.1)
 
 pub down-spec : {M : Type 1} → statement M
 down-spec =
@@ -62,9 +52,6 @@ down-spec =
     cast-minus-half
     minus-half-requires
     span-requires-2
-    enum-told-2
-    span-requires-3
     returns
     returns-2
-    returns-3
-    returns-4)
+    returns-3)

@@ -28,12 +28,6 @@ plus-half-requires c κs = search rules
 span-requires : tie.Need-span-requires
 span-requires c κs = search rules
 
-enum_told : tie.Need-enum-told
-enum_told c = search rules
-
-span-requires-2 : tie.Need-span-requires-2
-span-requires-2 c κs = search rules
-
 returns : tie.Need-returns
 unfolding up
 returns c = simp (← c.instant.ensures, c.before.before.v.given.1)
@@ -45,10 +39,6 @@ returns-2 c = simp (← c.plus-ticks.ensures, c.before.before.v2.given.1)
 returns-3 : tie.Need-returns-3
 unfolding up
 returns-3 c = simp (← c.span.ensures, ← c.before.plus-half.ensures, c.before.before.before.before.v3.given.1)
-
-returns-4 : tie.Need-returns-4
-unfolding up
-returns-4 c = simp (← c.span2.ensures, c.before.enum_told.given.1)
 
 pub up-spec : {M : Type 1} → statement M
 up-spec =
@@ -62,9 +52,6 @@ up-spec =
     cast-plus-half
     plus-half-requires
     span-requires
-    enum_told
-    span-requires-2
     returns
     returns-2
-    returns-3
-    returns-4)
+    returns-3)

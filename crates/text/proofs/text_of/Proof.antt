@@ -25,12 +25,6 @@ enum-told-2 c = search rules
 text-of-requires-2 : tie.Need-text-of-requires-2
 text-of-requires-2 c κs = search rules
 
-enum-told-3 : tie.Need-enum-told-3
-enum-told-3 c = search rules
-
-text-of-requires-3 : tie.Need-text-of-requires-3
-text-of-requires-3 c κs = search rules
-
 returns : tie.Need-returns
 unfolding text_of
 returns c = holds_as _ _ _ c.before.before.v.given.1 c.layout-text.ensures
@@ -43,9 +37,5 @@ returns-3 : tie.Need-returns-3
 unfolding text_of
 returns-3 c = duration_as _ _ _ c.before.enum-told2.given.1 refl c.text-of2.ensures
 
-returns-4 : tie.Need-returns-4
-unfolding text_of
-returns-4 c = duration_as _ _ _ c.before.enum-told3.given.1 refl c.text-of3.ensures
-
 pub text-of-spec : {M : Type 1} → statement M
-text-of-spec = tie.close (tie.spec enum-known-v layout-text-requires enum_told text-of-requires enum-told-2 text-of-requires-2 enum-told-3 text-of-requires-3 returns returns-2 returns-3 returns-4)
+text-of-spec = tie.close (tie.spec enum-known-v layout-text-requires enum_told text-of-requires enum-told-2 text-of-requires-2 returns returns-2 returns-3)

@@ -1,6 +1,6 @@
-use mathlib.Core.Path.{◌≡◌, ap, sym, ◌∙◌, subst}
-use Rattle.text_durations.proofs.Amounts.{size_amount, general_amount_lem, part_good}
-use Rattle.value.proofs.KindParts.{day_time_good, duration_good}
+use mathlib.Core.Path.{ap, sym, ◌∙◌}
+use Rattle.text_durations.proofs.Amounts.{size_amount}
+use Rattle.value.proofs.KindParts.{day_time_good}
 use Rattle.text_durations.specs.Spelling.{amount_of}
 use borrow.Author.Rules.{rules}
 use Rattle.text_durations.proofs.amount_of.Statement.{statement}
@@ -18,20 +18,8 @@ size-requires c κs = day_time_good _ c.before.before.before.requires _ c.before
 enum-known-v-2 : tie.Need-enum-known-v-2
 enum-known-v-2 c = search rules
 
-cast-t10 : tie.Need-overflow-cast-t10
-cast-t10 c = search rules
-
-enum-known-v-3 : tie.Need-enum-known-v-3
-enum-known-v-3 c = search rules
-
-time-part-requires : tie.Need-time-part-requires
-time-part-requires c κs = search rules
-
-size-requires-2 : tie.Need-size-requires-2
-size-requires-2 c κs = part_good _ c.time-part.ensures (duration_good _ c.before.before.before.before.requires _ c.before.before.v3.given.1)
-
-cast-t13 : tie.Need-overflow-cast-t13
-cast-t13 c = search rules
+cast-t8 : tie.Need-overflow-cast-t8
+cast-t8 c = search rules
 
 returns : tie.Need-returns
 returns c = sym (ap amount_of c.enum_told.given.1)
@@ -42,9 +30,6 @@ returns-2 c = size_amount _ c.size.ensures ∙ sym (ap amount_of c.before.before
 returns-3 : tie.Need-returns-3
 returns-3 c = sym (ap amount_of c.before.before.v2.given.1)
 
-returns-4 : tie.Need-returns-4
-returns-4 c = general_amount_lem _ c.before.before.time-part.ensures c.before.size2.ensures ∙ sym (ap amount_of c.before.before.before.before.v3.given.1)
-
 pub amount-of-spec : {M : Type 1} → statement M
 amount-of-spec =
     tie.close
@@ -53,12 +38,7 @@ amount-of-spec =
     enum-known-v
     size-requires
     enum-known-v-2
-    cast-t10
-    enum-known-v-3
-    time-part-requires
-    size-requires-2
-    cast-t13
+    cast-t8
     returns
     returns-2
-    returns-3
-    returns-4)
+    returns-3)

@@ -29,39 +29,6 @@ enum-told-4 c = search rules
 enum-told-5 : tie.Need-enum-told-5
 enum-told-5 c = search rules
 
-enum-told-6 : tie.Need-enum-told-6
-enum-told-6 c = search rules
-
-none-requires-4 : tie.Need-none-requires-4
-none-requires-4 c κs = search rules
-
-enum-told-7 : tie.Need-enum-told-7
-enum-told-7 c = search rules
-
-none-requires-5 : tie.Need-none-requires-5
-none-requires-5 c κs = search rules
-
-enum-told-8 : tie.Need-enum-told-8
-enum-told-8 c = search rules
-
-none-requires-6 : tie.Need-none-requires-6
-none-requires-6 c κs = search rules
-
-enum-told-9 : tie.Need-enum-told-9
-enum-told-9 c = search rules
-
-none-requires-7 : tie.Need-none-requires-7
-none-requires-7 c κs = search rules
-
-enum-told-10 : tie.Need-enum-told-10
-enum-told-10 c = search rules
-
-none-requires-8 : tie.Need-none-requires-8
-none-requires-8 c κs = search rules
-
-enum-told-11 : tie.Need-enum-told-11
-enum-told-11 c = search rules
-
 returns : tie.Need-returns
 returns c = held c.before.enum_told.given.1 c.none.ensures
 
@@ -77,24 +44,6 @@ returns-4 c = held c.before.before.before.before.before.before.enum-told4.given.
 returns-5 : tie.Need-returns-5
 returns-5 c = held c.before.before.before.before.before.before.enum-told5.given.1 (record { form = refl; before = omega arith; after = omega arith; nothing = omega arith })
 
-returns-6 : tie.Need-returns-6
-returns-6 c = held c.before.enum-told6.given.1 c.none4.ensures
-
-returns-7 : tie.Need-returns-7
-returns-7 c = held c.before.enum-told7.given.1 c.none5.ensures
-
-returns-8 : tie.Need-returns-8
-returns-8 c = held c.before.enum-told8.given.1 c.none6.ensures
-
-returns-9 : tie.Need-returns-9
-returns-9 c = held c.before.enum-told9.given.1 c.none7.ensures
-
-returns-10 : tie.Need-returns-10
-returns-10 c = held c.before.enum-told10.given.1 c.none8.ensures
-
-returns-11 : tie.Need-returns-11
-returns-11 c = held c.before.before.before.before.before.before.enum-told11.given.1 (record { form = refl; before = omega arith; after = omega arith; nothing = omega arith })
-
 pub row-spec : {M : Type 1} → statement M
 row-spec =
     tie.close
@@ -107,25 +56,8 @@ row-spec =
     none-requires-3
     enum-told-4
     enum-told-5
-    enum-told-6
-    none-requires-4
-    enum-told-7
-    none-requires-5
-    enum-told-8
-    none-requires-6
-    enum-told-9
-    none-requires-7
-    enum-told-10
-    none-requires-8
-    enum-told-11
     returns
     returns-2
     returns-3
     returns-4
-    returns-5
-    returns-6
-    returns-7
-    returns-8
-    returns-9
-    returns-10
-    returns-11)
+    returns-5)

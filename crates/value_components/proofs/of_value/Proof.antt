@@ -1,11 +1,6 @@
 use Rattle.value_components.proofs.SpanParts.{ticks_are, size_within}
 use native.Mathlib.Omega.{arith}
-use Rattle.value.proofs.KindParts.{moment_good, day_time_good, year_month_within, duration_good}
-use Rattle.value.proofs.GeneralLaws.{time_part_ok, months_to, time_to}
-use Rattle.value.specs.Clocks.{ticks_in}
-use Rattle.value.specs.Values.{ok_day_time}
-use Rattle.value.specs.Carried.{span_of}
-use Rattle.value.specs.declared.DayTime.{DayTime}
+use Rattle.value.proofs.KindParts.{moment_good, day_time_good, year_month_within}
 use Rattle.value.proofs.ClockLaws.{ticks_to}
 use Rattle.value.proofs.Good as Good
 use Rattle.value_components.specs.Components.{components_of, of_moment, of_duration, lasting}
@@ -51,18 +46,6 @@ span-requires c κs = search rules
 six-parts-requires-2 : tie.Need-six-parts-requires-2
 six-parts-requires-2 c κs = let h = year_month_within _ (good c.before.before.before.before.before.value-ok.ensures c.before.before.before.before.if1.false) _ c.before.before.v3.given.1 in let k = size_within _ 0 (omega arith) c.span.ensures in (omega arith, k.0, k.1)
 
-enum-known-v-4 : tie.Need-enum-known-v-4
-enum-known-v-4 c = search rules
-
-time-part-requires : tie.Need-time-part-requires
-time-part-requires c κs = search rules
-
-size-requires-2 : tie.Need-size-requires-2
-size-requires-2 c κs = ap ok_day_time c.time-part.ensures ∙ time_part_ok _ (duration_good _ (good c.before.before.before.before.before.value-ok.ensures c.before.before.before.before.if1.false) _ c.before.before.v4.given.1)
-
-six-parts-requires-3 : tie.Need-six-parts-requires-3
-six-parts-requires-3 c κs = let g = (duration_good _ (good c.before.before.before.before.before.before.value-ok.ensures c.before.before.before.before.before.if1.false) _ c.before.before.before.v4.given.1) in let m = months_to _ g in let h = size_within _ _ (time_to _ g) (c.size2.ensures ∙ ap (λ (x : DayTime). span_of (ticks_in x)) c.before.time-part.ensures) in (omega arith, h.0, h.1)
-
 returns-2 : tie.Need-returns-2
 returns-2 c = (λ i. gives (of_moment (c.fields_in.ensures i))) ∙ parts_given _ _ (good c.before.before.before.before.before.value-ok.ensures c.before.before.before.before.if1.false) c.before.before.v.given.1
 
@@ -71,9 +54,6 @@ returns-3 c = (λ i. gives (of_duration ((c.six-parts.ensures ∙ ap (lasting c.
 
 returns-4 : tie.Need-returns-4
 returns-4 c = (λ i. gives (of_duration ((c.six-parts2.ensures ∙ ap (lasting c.before.before.before.v3.given.0.0.negative c.before.before.before.v3.given.0.0.months) (ticks_are _ 0 c.before.span.ensures)) i))) ∙ parts_given _ _ (good c.before.before.before.before.before.before.value-ok.ensures c.before.before.before.before.before.if1.false) c.before.before.before.v3.given.1
-
-returns-5 : tie.Need-returns-5
-returns-5 c = (λ i. gives (of_duration ((c.six-parts3.ensures ∙ ap (lasting c.before.before.before.before.v4.given.0.0.negative c.before.before.before.before.v4.given.0.0.months) (ticks_are _ _ (c.before.size2.ensures ∙ ap (λ (x : DayTime). span_of (ticks_in x)) c.before.before.time-part.ensures))) i))) ∙ parts_given _ _ (good c.before.before.before.before.before.before.before.value-ok.ensures c.before.before.before.before.before.before.if1.false) c.before.before.before.before.v4.given.1
 
 pub of-value-spec : {M : Type 1} → statement M
 of-value-spec =
@@ -90,11 +70,6 @@ of-value-spec =
     enum-known-v-3
     span-requires
     six-parts-requires-2
-    enum-known-v-4
-    time-part-requires
-    size-requires-2
-    six-parts-requires-3
     returns-2
     returns-3
-    returns-4
-    returns-5)
+    returns-4)

@@ -4,7 +4,7 @@ use Rattle.operation_arithmetic.proofs.Validity.{plus_valid, minus_valid}
 use Rattle.operation.proofs.Validity.{adjust_valid}
 use Rattle.text.specs.Writing.{text_of}
 use Rattle.calls_asked.specs.declared.Two.{Two}
-use Rattle.calls.specs.Answers.{order_text, truth_text, two_text}
+use Rattle.calls.specs.Answers.{order_text, two_text}
 use Rattle.calls.proofs.Saying.{renamed, as_text}
 use borrow.Author.Rules.{rules}
 use Rattle.calls.proofs.calling.two_said.Statement.{statement}
@@ -22,23 +22,14 @@ order-said-requires c κs = search rules
 enum-told-2 : tie.Need-enum-told-2
 enum-told-2 c = search rules
 
-equal-requires : tie.Need-equal-requires
-equal-requires c κs = search rules
-
-equality-said-requires : tie.Need-equality-said-requires
-equality-said-requires c κs = search rules
-
-enum-told-3 : tie.Need-enum-told-3
-enum-told-3 c = search rules
-
 plus-requires : tie.Need-plus-requires
 plus-requires c κs = search rules
 
 value-said-requires : tie.Need-value-said-requires
 value-said-requires c κs = ap valid c.plus.ensures ∙ plus_valid _ _
 
-enum-told-4 : tie.Need-enum-told-4
-enum-told-4 c = search rules
+enum-told-3 : tie.Need-enum-told-3
+enum-told-3 c = search rules
 
 minus-requires : tie.Need-minus-requires
 minus-requires c κs = search rules
@@ -46,8 +37,8 @@ minus-requires c κs = search rules
 value-said-requires-2 : tie.Need-value-said-requires-2
 value-said-requires-2 c κs = ap valid c.minus.ensures ∙ minus_valid _ _ _
 
-enum-told-5 : tie.Need-enum-told-5
-enum-told-5 c = search rules
+enum-told-4 : tie.Need-enum-told-4
+enum-told-4 c = search rules
 
 adjust-requires : tie.Need-adjust-requires
 adjust-requires c κs = search rules
@@ -61,19 +52,15 @@ returns c = as_text (ap (λ (x : Two). two_text x c.before.before.before.before.
 
 returns-2 : tie.Need-returns-2
 unfolding two_text
-returns-2 c = as_text (ap (λ (x : Two). two_text x c.before.before.before.before.args.a c.before.before.before.before.args.b) (sym c.before.before.enum-told2.given.1)) (renamed truth_text c.before.equal.ensures c.equality-said.ensures)
+returns-2 c = as_text (ap (λ (x : Two). two_text x c.before.before.before.before.args.a c.before.before.before.before.args.b) (sym c.before.before.enum-told2.given.1)) (renamed text_of c.before.plus.ensures c.value-said.ensures)
 
 returns-3 : tie.Need-returns-3
 unfolding two_text
-returns-3 c = as_text (ap (λ (x : Two). two_text x c.before.before.before.before.args.a c.before.before.before.before.args.b) (sym c.before.before.enum-told3.given.1)) (renamed text_of c.before.plus.ensures c.value-said.ensures)
+returns-3 c = as_text (ap (λ (x : Two). two_text x c.before.before.before.before.args.a c.before.before.before.before.args.b) (sym c.before.before.enum-told3.given.1)) (renamed text_of c.before.minus.ensures c.value-said2.ensures)
 
 returns-4 : tie.Need-returns-4
 unfolding two_text
-returns-4 c = as_text (ap (λ (x : Two). two_text x c.before.before.before.before.args.a c.before.before.before.before.args.b) (sym c.before.before.enum-told4.given.1)) (renamed text_of c.before.minus.ensures c.value-said2.ensures)
-
-returns-5 : tie.Need-returns-5
-unfolding two_text
-returns-5 c = as_text (ap (λ (x : Two). two_text x c.before.before.before.before.args.a c.before.before.before.before.args.b) (sym c.before.before.enum-told5.given.1)) (renamed text_of c.before.adjust.ensures c.value-said3.ensures)
+returns-4 c = as_text (ap (λ (x : Two). two_text x c.before.before.before.before.args.a c.before.before.before.before.args.b) (sym c.before.before.enum-told4.given.1)) (renamed text_of c.before.adjust.ensures c.value-said3.ensures)
 
 pub two-said-spec : {M : Type 1} → statement M
 two-said-spec =
@@ -83,19 +70,15 @@ two-said-spec =
     compare-requires
     order-said-requires
     enum-told-2
-    equal-requires
-    equality-said-requires
-    enum-told-3
     plus-requires
     value-said-requires
-    enum-told-4
+    enum-told-3
     minus-requires
     value-said-requires-2
-    enum-told-5
+    enum-told-4
     adjust-requires
     value-said-requires-3
     returns
     returns-2
     returns-3
-    returns-4
-    returns-5)
+    returns-4)

@@ -55,22 +55,9 @@ returns-4 : tie.Need-returns-4
 unfolding pair_by
 returns-4 c = simp (← c.two4.ensures, c.before.if4.true, ← c.before.before.same4.ensures, c.before.before.before.before.if3.false, ← c.before.before.before.before.before.same3.ensures, c.before.before.before.before.before.before.before.if2.false, ← c.before.before.before.before.before.before.before.before.same2.ensures, c.before.before.before.before.before.before.before.before.before.before.if1.false, ← c.before.before.before.before.before.before.before.before.before.before.before.same.ensures)
 
-slice-aggregate-same-5 : tie.Need-slice-aggregate-same-5
-slice-aggregate-same-5 c = search rules
-
-same-requires-5 : tie.Need-same-requires-5
-same-requires-5 c κs = search rules
-
-two-requires-5 : tie.Need-two-requires-5
-two-requires-5 c κs = search rules
-
 returns-5 : tie.Need-returns-5
 unfolding pair_by
-returns-5 c = simp (← c.two5.ensures, c.before.if5.true, ← c.before.before.same5.ensures, c.before.before.before.before.if4.false, ← c.before.before.before.before.before.same4.ensures, c.before.before.before.before.before.before.before.if3.false, ← c.before.before.before.before.before.before.before.before.same3.ensures, c.before.before.before.before.before.before.before.before.before.before.if2.false, ← c.before.before.before.before.before.before.before.before.before.before.before.same2.ensures, c.before.before.before.before.before.before.before.before.before.before.before.before.before.if1.false, ← c.before.before.before.before.before.before.before.before.before.before.before.before.before.before.same.ensures)
-
-returns-6 : tie.Need-returns-6
-unfolding pair_by
-returns-6 c = simp (c.if5.false, ← c.before.same5.ensures, c.before.before.before.if4.false, ← c.before.before.before.before.same4.ensures, c.before.before.before.before.before.before.if3.false, ← c.before.before.before.before.before.before.before.same3.ensures, c.before.before.before.before.before.before.before.before.before.if2.false, ← c.before.before.before.before.before.before.before.before.before.before.same2.ensures, c.before.before.before.before.before.before.before.before.before.before.before.before.if1.false, ← c.before.before.before.before.before.before.before.before.before.before.before.before.before.same.ensures)
+returns-5 c = simp (c.if4.false, ← c.before.same4.ensures, c.before.before.before.if3.false, ← c.before.before.before.before.same3.ensures, c.before.before.before.before.before.before.if2.false, ← c.before.before.before.before.before.before.before.same2.ensures, c.before.before.before.before.before.before.before.before.before.if1.false, ← c.before.before.before.before.before.before.before.before.before.before.same.ensures)
 
 pub pair-form-spec : {M : Type 1} → statement M
 pair-form-spec =
@@ -92,8 +79,4 @@ pair-form-spec =
     same-requires-4
     two-requires-4
     returns-4
-    slice-aggregate-same-5
-    same-requires-5
-    two-requires-5
-    returns-5
-    returns-6)
+    returns-5)

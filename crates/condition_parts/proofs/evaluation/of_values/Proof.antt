@@ -11,15 +11,6 @@ refused-requires c κs = search rules
 enum-known-role : tie.Need-enum-known-role
 enum-known-role c = search rules
 
-equal-for-requires : tie.Need-equal-for-requires
-equal-for-requires c κs = search rules
-
-equated-requires : tie.Need-equated-requires
-equated-requires c κs = search rules
-
-enum-known-role-2 : tie.Need-enum-known-role-2
-enum-known-role-2 c = search rules
-
 compare-for-requires : tie.Need-compare-for-requires
 compare-for-requires c κs = search rules
 
@@ -48,16 +39,13 @@ returns : tie.Need-returns
 returns c = rw c.before.enum_told.given.1 c.refused.ensures
 
 returns-2 : tie.Need-returns-2
-returns-2 c = rw (c.before.before.before.role.given.1, ← c.before.equal-for.ensures) c.equated.ensures
+returns-2 c = rw (c.before.before.before.role.given.1, ← c.before.compare-for.ensures) c.tested.ensures
 
 returns-3 : tie.Need-returns-3
-returns-3 c = rw (c.before.before.before.role2.given.1, ← c.before.compare-for.ensures) c.tested.ensures
+returns-3 c = rw (c.before.before.enum-told2.given.1, ← c.before.plus.ensures) c.valued.ensures
 
 returns-4 : tie.Need-returns-4
-returns-4 c = rw (c.before.before.enum-told2.given.1, ← c.before.plus.ensures) c.valued.ensures
-
-returns-5 : tie.Need-returns-5
-returns-5 c = rw (c.before.before.enum-told3.given.1, ← c.before.minus-for.ensures) c.valued2.ensures
+returns-4 c = rw (c.before.before.enum-told3.given.1, ← c.before.minus-for.ensures) c.valued2.ensures
 
 pub of-values-spec : {M : Type 1} → statement M
 of-values-spec =
@@ -66,9 +54,6 @@ of-values-spec =
     enum_told
     refused-requires
     enum-known-role
-    equal-for-requires
-    equated-requires
-    enum-known-role-2
     compare-for-requires
     tested-requires
     enum-told-2
@@ -80,5 +65,4 @@ of-values-spec =
     returns
     returns-2
     returns-3
-    returns-4
-    returns-5)
+    returns-4)

@@ -1,5 +1,5 @@
 use mathlib.Core.Path.{refl, sym, ◌∙◌}
-use Rattle.library_lines.proofs.Fields.{of_moment_lem, of_day_time, of_year_month, of_general, of_none}
+use Rattle.library_lines.proofs.Fields.{of_moment_lem, of_day_time, of_year_month, of_none}
 use borrow.Author.Rules.{rules}
 use Rattle.library_lines.proofs.given.record_by.Statement.{statement}
 use Rattle.library_lines.proofs.given.record_by.Tie as tie
@@ -31,17 +31,8 @@ year-month-by-requires c κs = search rules
 returns-3 : tie.Need-returns-3
 returns-3 c = of_year_month c.before.before.before.before.before.before.before.before.args.kind c.before.before.before.before.before.before.before.before.args.line.now c.before.before.before.before.before.before.before.before.args.at (sym c.before.before.before.before.before.before.is_moment_lem.ensures ∙ c.before.before.before.before.before.if1.false) (sym c.before.before.before.before.same.ensures ∙ c.before.before.before.if2.false) (sym c.before.before.same2.ensures ∙ c.before.if3.true) c.year-month-by.ensures
 
-same-requires-3 : tie.Need-same-requires-3
-same-requires-3 c κs = search rules
-
-general-by-requires : tie.Need-general-by-requires
-general-by-requires c κs = search rules
-
 returns-4 : tie.Need-returns-4
-returns-4 c = of_general c.before.before.before.before.before.before.before.before.before.before.args.kind c.before.before.before.before.before.before.before.before.before.before.args.line.now c.before.before.before.before.before.before.before.before.before.before.args.at (sym c.before.before.before.before.before.before.before.before.is_moment_lem.ensures ∙ c.before.before.before.before.before.before.before.if1.false) (sym c.before.before.before.before.before.before.same.ensures ∙ c.before.before.before.before.before.if2.false) (sym c.before.before.before.before.same2.ensures ∙ c.before.before.before.if3.false) (sym c.before.before.same3.ensures ∙ c.before.if4.true) c.general-by.ensures
-
-returns-5 : tie.Need-returns-5
-returns-5 c = of_none c.before.before.before.before.before.before.before.before.before.args.kind c.before.before.before.before.before.before.before.before.before.args.line.now c.before.before.before.before.before.before.before.before.before.args.at (sym c.before.before.before.before.before.before.before.is_moment_lem.ensures ∙ c.before.before.before.before.before.before.if1.false) (sym c.before.before.before.before.before.same.ensures ∙ c.before.before.before.before.if2.false) (sym c.before.before.before.same2.ensures ∙ c.before.before.if3.false) (sym c.before.same3.ensures ∙ c.if4.false) refl
+returns-4 c = of_none c.before.before.before.before.before.before.before.args.kind c.before.before.before.before.before.before.before.args.line.now c.before.before.before.before.before.before.before.args.at (sym c.before.before.before.before.before.is_moment_lem.ensures ∙ c.before.before.before.before.if1.false) (sym c.before.before.before.same.ensures ∙ c.before.before.if2.false) (sym c.before.same2.ensures ∙ c.if3.false) refl
 
 pub record-by-spec : {M : Type 1} → statement M
 record-by-spec =
@@ -56,7 +47,4 @@ record-by-spec =
     same-requires-2
     year-month-by-requires
     returns-3
-    same-requires-3
-    general-by-requires
-    returns-4
-    returns-5)
+    returns-4)

@@ -22,12 +22,6 @@ enum-known-a-2 c = search rules
 year-month-times-requires : tie.Need-year-month-times-requires
 year-month-times-requires c κs = search rules
 
-enum-told-2 : tie.Need-enum-told-2
-enum-told-2 c = search rules
-
-refused-requires-2 : tie.Need-refused-requires-2
-refused-requires-2 c κs = search rules
-
 returns : tie.Need-returns
 unfolding product_of
 returns c = simp (← c.refused.ensures, c.before.enum_told.given.1)
@@ -40,10 +34,6 @@ returns-3 : tie.Need-returns-3
 unfolding product_of
 returns-3 c = simp (← c.year-month-times.ensures, c.before.before.a2.given.1)
 
-returns-4 : tie.Need-returns-4
-unfolding product_of
-returns-4 c = simp (← c.refused2.ensures, c.before.enum-told2.given.1)
-
 pub product-spec : {M : Type 1} → statement M
 product-spec =
     tie.close
@@ -54,9 +44,6 @@ product-spec =
     day-time-times-requires
     enum-known-a-2
     year-month-times-requires
-    enum-told-2
-    refused-requires-2
     returns
     returns-2
-    returns-3
-    returns-4)
+    returns-3)

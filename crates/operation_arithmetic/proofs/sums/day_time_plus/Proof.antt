@@ -31,12 +31,6 @@ enum_told c = search rules
 refused-requires : tie.Need-refused-requires
 refused-requires c κs = search rules
 
-enum-told-2 : tie.Need-enum-told-2
-enum-told-2 c = search rules
-
-refused-requires-2 : tie.Need-refused-requires-2
-refused-requires-2 c κs = search rules
-
 returns : tie.Need-returns
 unfolding sum_of
 returns c = simp (← c.shifted.ensures, c.before.before.b.given.1)
@@ -48,10 +42,6 @@ returns-2 c = c.in-ticks.ensures ∙ spans_in_ticks _ _ _ _ c.before.before.plus
 returns-3 : tie.Need-returns-3
 unfolding sum_of
 returns-3 c = simp (← c.refused.ensures, c.before.enum_told.given.1)
-
-returns-4 : tie.Need-returns-4
-unfolding sum_of
-returns-4 c = simp (← c.refused2.ensures, c.before.enum-told2.given.1)
 
 pub day-time-plus-spec : {M : Type 1} → statement M
 day-time-plus-spec =
@@ -65,9 +55,6 @@ day-time-plus-spec =
     in-ticks-requires
     enum_told
     refused-requires
-    enum-told-2
-    refused-requires-2
     returns
     returns-2
-    returns-3
-    returns-4)
+    returns-3)

@@ -34,12 +34,6 @@ opposite-months-requires c κs = search rules
 sum-requires-2 : tie.Need-sum-requires-2
 sum-requires-2 c κs = (c.before.before.before.before.requires.0, ap (λ (x : Y.YearMonth). ok_value (VV.YearMonth x)) c.opposite-months.ensures ∙ opposite_months_ok _ (year_month_good _ c.before.before.before.before.requires.1 _ c.before.before.b3.given.1))
 
-enum_told : tie.Need-enum-told
-enum_told c = search rules
-
-refused-requires : tie.Need-refused-requires
-refused-requires c κs = search rules
-
 returns : tie.Need-returns
 unfolding difference_in
 returns c = simp (← c.less-moment.ensures, c.before.before.b.given.1)
@@ -51,10 +45,6 @@ returns-2 c = simp (← c.sum.ensures, ← c.before.opposite.ensures, c.before.b
 returns-3 : tie.Need-returns-3
 unfolding difference_in
 returns-3 c = simp (← c.sum2.ensures, ← c.before.opposite-months.ensures, c.before.before.before.b3.given.1)
-
-returns-4 : tie.Need-returns-4
-unfolding difference_in
-returns-4 c = simp (← c.refused.ensures, c.before.enum_told.given.1)
 
 pub difference-spec : {M : Type 1} → statement M
 difference-spec =
@@ -68,9 +58,6 @@ difference-spec =
     enum-known-b-3
     opposite-months-requires
     sum-requires-2
-    enum_told
-    refused-requires
     returns
     returns-2
-    returns-3
-    returns-4)
+    returns-3)

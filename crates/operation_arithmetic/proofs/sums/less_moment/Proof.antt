@@ -11,15 +11,15 @@ use Rattle.operation_arithmetic.proofs.sums.less_moment.Tie as tie
 enum-known-a : tie.Need-enum-known-a
 enum-known-a c = search rules
 
-ordered-requires : tie.Need-ordered-requires
-ordered-requires c κs = search rules
+same-requires : tie.Need-same-requires
+same-requires c κs = search rules
 
 refused-requires : tie.Need-refused-requires
 refused-requires c κs = search rules
 
 returns : tie.Need-returns
 unfolding less_moment
-returns c = simp (← c.refused.ensures, no c.before.before.ordered.ensures c.before.if1.true, c.before.before.before.before.a.given.1)
+returns c = simp (← c.refused.ensures, no c.before.before.same.ensures c.before.if1.true, c.before.before.before.before.a.given.1)
 
 instant-requires : tie.Need-instant-requires
 instant-requires c κs = ((moment_good _ c.before.before.before.before.before.requires.0 _ _ c.before.before.before.a.given.1).1, c.before.before.before.before.before.requires.2)
@@ -42,14 +42,8 @@ enum-told-2 c = search rules
 refused-requires-3 : tie.Need-refused-requires-3
 refused-requires-3 c κs = search rules
 
-enum-told-3 : tie.Need-enum-told-3
-enum-told-3 c = search rules
-
-refused-requires-4 : tie.Need-refused-requires-4
-refused-requires-4 c κs = search rules
-
 returns-2 : tie.Need-returns-2
-returns-2 c = c.in-ticks.ensures ∙ spans_in_ticks _ _ _ _ c.before.before.instant.ensures c.before.instant2.ensures ∙ moments_less _ _ _ _ _ _ (good c.before.before.before.before.ordered.ensures c.before.before.before.if1.false) c.before.before.before.before.before.before.a.given.1
+returns-2 c = c.in-ticks.ensures ∙ spans_in_ticks _ _ _ _ c.before.before.instant.ensures c.before.instant2.ensures ∙ moments_less _ _ _ _ _ _ (good c.before.before.before.before.same.ensures c.before.before.before.if1.false) c.before.before.before.before.before.before.a.given.1
 
 returns-3 : tie.Need-returns-3
 unfolding less_moment
@@ -59,16 +53,12 @@ returns-4 : tie.Need-returns-4
 unfolding less_moment
 returns-4 c = simp (← c.refused3.ensures, c.before.enum-told2.given.1)
 
-returns-5 : tie.Need-returns-5
-unfolding less_moment
-returns-5 c = simp (← c.refused4.ensures, c.before.enum-told3.given.1)
-
 pub less-moment-spec : {M : Type 1} → statement M
 less-moment-spec =
     tie.close
     (tie.spec
     enum-known-a
-    ordered-requires
+    same-requires
     refused-requires
     returns
     instant-requires
@@ -78,9 +68,6 @@ less-moment-spec =
     refused-requires-2
     enum-told-2
     refused-requires-3
-    enum-told-3
-    refused-requires-4
     returns-2
     returns-3
-    returns-4
-    returns-5)
+    returns-4)

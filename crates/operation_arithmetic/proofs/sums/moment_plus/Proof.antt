@@ -22,12 +22,6 @@ enum-known-b-2 c = search rules
 moved-requires : tie.Need-moved-requires
 moved-requires c κs = (c.before.before.before.requires.0, year_month_within _ c.before.before.before.requires.1 _ c.before.b2.given.1)
 
-enum-told-2 : tie.Need-enum-told-2
-enum-told-2 c = search rules
-
-refused-requires-2 : tie.Need-refused-requires-2
-refused-requires-2 c κs = search rules
-
 returns : tie.Need-returns
 unfolding sum_of
 returns c = simp (← c.refused.ensures, c.before.enum_told.given.1)
@@ -40,10 +34,6 @@ returns-3 : tie.Need-returns-3
 unfolding sum_of
 returns-3 c = simp (← c.moved.ensures, c.before.before.b2.given.1)
 
-returns-4 : tie.Need-returns-4
-unfolding sum_of
-returns-4 c = simp (← c.refused2.ensures, c.before.enum-told2.given.1)
-
 pub moment-plus-spec : {M : Type 1} → statement M
 moment-plus-spec =
     tie.close
@@ -54,9 +44,6 @@ moment-plus-spec =
     shifted-requires
     enum-known-b-2
     moved-requires
-    enum-told-2
-    refused-requires-2
     returns
     returns-2
-    returns-3
-    returns-4)
+    returns-3)

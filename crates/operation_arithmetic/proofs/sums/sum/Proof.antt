@@ -1,4 +1,3 @@
-use Rattle.operation_arithmetic.specs.Sums.{sum_of}
 use Rattle.value.proofs.KindParts.{moment_good, day_time_good, year_month_within}
 use borrow.Author.Rules.{rules}
 use Rattle.operation_arithmetic.proofs.sums.sum.Statement.{statement}
@@ -22,12 +21,6 @@ enum-known-a-3 c = search rules
 year-month-plus-requires : tie.Need-year-month-plus-requires
 year-month-plus-requires c κs = (year_month_within _ c.before.before.before.requires.0 _ c.before.a3.given.1, c.before.before.before.requires.1)
 
-enum_told : tie.Need-enum-told
-enum_told c = search rules
-
-refused-requires : tie.Need-refused-requires
-refused-requires c κs = search rules
-
 returns : tie.Need-returns
 returns c = simp (← c.moment-plus.ensures, c.before.before.a.given.1)
 
@@ -36,10 +29,6 @@ returns-2 c = simp (← c.day-time-plus.ensures, c.before.before.a2.given.1)
 
 returns-3 : tie.Need-returns-3
 returns-3 c = simp (← c.year-month-plus.ensures, c.before.before.a3.given.1)
-
-returns-4 : tie.Need-returns-4
-unfolding sum_of
-returns-4 c = simp (← c.refused.ensures, c.before.enum_told.given.1)
 
 pub sum-spec : {M : Type 1} → statement M
 sum-spec =
@@ -51,9 +40,6 @@ sum-spec =
     day-time-plus-requires
     enum-known-a-3
     year-month-plus-requires
-    enum_told
-    refused-requires
     returns
     returns-2
-    returns-3
-    returns-4)
+    returns-3)

@@ -22,12 +22,6 @@ enum-known-b-2 c = search rules
 months-sum-requires : tie.Need-months-sum-requires
 months-sum-requires c κs = search rules
 
-enum-told-2 : tie.Need-enum-told-2
-enum-told-2 c = search rules
-
-refused-requires-2 : tie.Need-refused-requires-2
-refused-requires-2 c κs = search rules
-
 returns : tie.Need-returns
 unfolding sum_of
 returns c = simp (← c.moved.ensures, c.before.before.b.given.1)
@@ -40,10 +34,6 @@ returns-3 : tie.Need-returns-3
 unfolding sum_of
 returns-3 c = simp (← c.months-sum.ensures, c.before.before.b2.given.1)
 
-returns-4 : tie.Need-returns-4
-unfolding sum_of
-returns-4 c = simp (← c.refused2.ensures, c.before.enum-told2.given.1)
-
 pub year-month-plus-spec : {M : Type 1} → statement M
 year-month-plus-spec =
     tie.close
@@ -54,9 +44,6 @@ year-month-plus-spec =
     refused-requires
     enum-known-b-2
     months-sum-requires
-    enum-told-2
-    refused-requires-2
     returns
     returns-2
-    returns-3
-    returns-4)
+    returns-3)

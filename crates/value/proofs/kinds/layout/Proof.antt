@@ -22,24 +22,6 @@ enum-told-4 c = search rules
 enum-told-5 : tie.Need-enum-told-5
 enum-told-5 c = search rules
 
-enum-told-6 : tie.Need-enum-told-6
-enum-told-6 c = search rules
-
-enum-told-7 : tie.Need-enum-told-7
-enum-told-7 c = search rules
-
-enum-told-8 : tie.Need-enum-told-8
-enum-told-8 c = search rules
-
-enum-told-9 : tie.Need-enum-told-9
-enum-told-9 c = search rules
-
-enum-told-10 : tie.Need-enum-told-10
-enum-told-10 c = search rules
-
-enum-told-11 : tie.Need-enum-told-11
-enum-told-11 c = search rules
-
 returns : tie.Need-returns
 returns c = (sym (ap layout_of c.before.before.enum_told.given.1), omega arith, refl)
 
@@ -55,47 +37,7 @@ returns-4 c = (sym (ap layout_of c.before.before.enum-told4.given.1), omega arit
 returns-5 : tie.Need-returns-5
 returns-5 c = (sym (ap layout_of c.before.before.enum-told5.given.1), omega arith, refl)
 
-returns-6 : tie.Need-returns-6
-returns-6 c = (sym (ap layout_of c.before.before.enum-told6.given.1), omega arith, refl)
-
-returns-7 : tie.Need-returns-7
-returns-7 c = (sym (ap layout_of c.before.before.enum-told7.given.1), omega arith, refl)
-
-returns-8 : tie.Need-returns-8
-returns-8 c = (sym (ap layout_of c.before.before.enum-told8.given.1), omega arith, refl)
-
-returns-9 : tie.Need-returns-9
-returns-9 c = (sym (ap layout_of c.before.before.enum-told9.given.1), omega arith, refl)
-
-returns-10 : tie.Need-returns-10
-returns-10 c = (sym (ap layout_of c.before.before.enum-told10.given.1), omega arith, refl)
-
-returns-11 : tie.Need-returns-11
-returns-11 c = (sym (ap layout_of c.before.before.enum-told11.given.1), omega arith, refl)
-
 pub layout-spec : {M : Type 1} → statement M
 layout-spec =
     tie.close
-    (tie.spec
-    enum_told
-    enum-told-2
-    enum-told-3
-    enum-told-4
-    enum-told-5
-    enum-told-6
-    enum-told-7
-    enum-told-8
-    enum-told-9
-    enum-told-10
-    enum-told-11
-    returns
-    returns-2
-    returns-3
-    returns-4
-    returns-5
-    returns-6
-    returns-7
-    returns-8
-    returns-9
-    returns-10
-    returns-11)
+    (tie.spec enum_told enum-told-2 enum-told-3 enum-told-4 enum-told-5 returns returns-2 returns-3 returns-4 returns-5)

@@ -11,8 +11,7 @@ use Rattle.value.proofs.kinds.is_moment.Reads as is-moment-reads
 use Rattle.value.proofs.kinds.of_kind.Reads as of-kind-reads
 use Rattle.value.proofs.valid.date_time_ok.Reads as date-time-ok-reads
 use Rattle.value.proofs.valid.day_time_ok.Reads as day-time-ok-reads
-use Rattle.value.proofs.valid.year_month_ok.Reads as year-month-ok-reads
-use Rattle.value.proofs.valid.duration_ok.Reads as duration-ok-reads
+use Rattle.value.proofs.valid.signed_ok.Reads as signed-ok-reads
 
 enum-known-v : tie.Need-enum-known-v
 enum-known-v c = search rules
@@ -41,14 +40,14 @@ day-time-ok-requires c κs = search rules
 enum-known-v-3 : tie.Need-enum-known-v-3
 enum-known-v-3 c = search rules
 
-year-month-ok-requires : tie.Need-year-month-ok-requires
-year-month-ok-requires c κs = search rules
+cast-signed-ok : tie.Need-overflow-cast-signed-ok
+cast-signed-ok c = search rules
 
-enum-known-v-4 : tie.Need-enum-known-v-4
-enum-known-v-4 c = search rules
+cast-signed-ok-2 : tie.Need-overflow-cast-signed-ok-2
+cast-signed-ok-2 c = search rules
 
-duration-ok-requires : tie.Need-duration-ok-requires
-duration-ok-requires c κs = search rules
+signed-ok-requires : tie.Need-signed-ok-requires
+signed-ok-requires c κs = search rules
 
 returns-3 : tie.Need-returns-3
 returns-3 c = moment_is c.before.before.before.before.before.before.v.given.1 (good c.before.before.before.before.is_moment_lem.ensures c.before.before.before.if1.false) (good c.before.before.date_time_ok.ensures c.before.if2.false) c.of_kind_lem.ensures
@@ -59,11 +58,7 @@ returns-4 c = simp (← c.day_time_ok.ensures, c.before.before.v2.given.1)
 
 returns-5 : tie.Need-returns-5
 unfolding both ok_value
-returns-5 c = simp (← c.year-month-ok.ensures, c.before.before.v3.given.1)
-
-returns-6 : tie.Need-returns-6
-unfolding both ok_value
-returns-6 c = simp (← c.duration-ok.ensures, c.before.before.v4.given.1)
+returns-5 c = simp (← c.signed_ok.ensures, c.before.before.before.v3.given.1)
 
 pub value-ok-spec : {M : Type 1} → statement M
 value-ok-spec =
@@ -78,10 +73,9 @@ value-ok-spec =
     enum-known-v-2
     day-time-ok-requires
     enum-known-v-3
-    year-month-ok-requires
-    enum-known-v-4
-    duration-ok-requires
+    cast-signed-ok
+    cast-signed-ok-2
+    signed-ok-requires
     returns-3
     returns-4
-    returns-5
-    returns-6)
+    returns-5)

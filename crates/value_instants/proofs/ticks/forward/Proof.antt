@@ -22,20 +22,14 @@ enum-told-2 c = search rules
 span-requires-2 : tie.Need-span-requires-2
 span-requires-2 c κs = search rules
 
-enum-told-3 : tie.Need-enum-told-3
-enum-told-3 c = search rules
+enum-known-v : tie.Need-enum-known-v
+enum-known-v c = search rules
 
 span-requires-3 : tie.Need-span-requires-3
 span-requires-3 c κs = search rules
 
-enum-known-v : tie.Need-enum-known-v
-enum-known-v c = search rules
-
-span-requires-4 : tie.Need-span-requires-4
-span-requires-4 c κs = search rules
-
 returns : tie.Need-returns
-returns c = rw (c.before.before.before.v.given.1, c.before.if1.true) c.span4.ensures
+returns c = rw (c.before.before.before.v.given.1, c.before.if1.true) c.span3.ensures
 
 size-requires : tie.Need-size-requires
 size-requires c κs = day_time_good _ c.before.before.before.before.requires _ c.before.before.v.given.1
@@ -47,10 +41,7 @@ returns-3 : tie.Need-returns-3
 returns-3 c = rw c.before.enum-told2.given.1 c.span2.ensures
 
 returns-4 : tie.Need-returns-4
-returns-4 c = rw c.before.enum-told3.given.1 c.span3.ensures
-
-returns-5 : tie.Need-returns-5
-returns-5 c = rw c.before.before.before.v.given.1 (c.size.ensures ∙ ap span_of (sym (plus_forward _ c.before.if1.false)))
+returns-4 c = rw c.before.before.before.v.given.1 (c.size.ensures ∙ ap span_of (sym (plus_forward _ c.before.if1.false)))
 
 pub forward-spec : {M : Type 1} → statement M
 forward-spec =
@@ -60,13 +51,10 @@ forward-spec =
     span-requires
     enum-told-2
     span-requires-2
-    enum-told-3
-    span-requires-3
     enum-known-v
-    span-requires-4
+    span-requires-3
     returns
     size-requires
     returns-2
     returns-3
-    returns-4
-    returns-5)
+    returns-4)

@@ -1,2 +1,0 @@
-pub mod Equality
-pub mod Carried
