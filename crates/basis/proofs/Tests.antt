@@ -28,11 +28,11 @@ both_true true b e f = f
 both_true false b e f = e
 
 -- a call whose answer is a test, taken by `if !f(x) { return .. }`
-pub no : {t b : Bool} → t ≡ b → not t ≡ true → b ≡ false
-no {t} e h = sym e ∙ not-true t h
+pub no : {t b : Bool} → t ≡ b → t ≡ false → b ≡ false
+no e h = sym e ∙ h
 
-pub yes : {t b : Bool} → t ≡ b → not t ≡ false → b ≡ true
-yes {t} e h = sym e ∙ not-false t h
+pub yes : {t b : Bool} → t ≡ b → t ≡ true → b ≡ true
+yes e h = sym e ∙ h
 
 -- the last test of a list stands for itself
 pub both_end : (b : Bool) → both b true ≡ b

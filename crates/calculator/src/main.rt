@@ -1,4 +1,5 @@
 // The calculator: one library call a line, one line of answer for each (docs/LINES.md, "The calculator").
+#![tactic(auto)]
 ghost use Rattle.std.specs.Prelude.{◌≡◌, ◌+◌, ◌≤◌, length};
 ghost use Rattle.calls.specs.Answers.{max_calls_input};
 

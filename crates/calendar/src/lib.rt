@@ -1,5 +1,6 @@
 // The proleptic Gregorian calendar of document 01: the leap rule, the lengths of the months, the day number of a date
 // and the date of a day number. Days are counted from 0000-01-01, so that no number here is below zero.
+#![tactic(auto)]
 ghost use Rattle.std.specs.Prelude.{◌≡◌, ◌+◌, ◌-◌, ◌≤◌, ◌<◌};
 ghost use Rattle.calendar.specs.Calendar.{leap_row, month_days, month_row, year_days, month_count, total, GoodDate, day_of, date_within, dated_of};
 
@@ -22,7 +23,7 @@ const CYCLE_YEARS: u16 = 400;
 
 const CYCLE_DAYS: u64 = 146_097;
 
-#[derive(Drop)]
+#[derive(Clone, Copy)]
 pub struct Date {
     pub year: u16,
     pub month: u8,
@@ -30,7 +31,7 @@ pub struct Date {
 }
 
 // The date of a day number, or that its year is later than the last one asked for.
-#[derive(Drop)]
+#[derive(Clone, Copy)]
 pub enum Dated {
     On(Date),
     Later,
@@ -99,7 +100,7 @@ pub fn day_number(d: Date) -> u64
 }
 
 // A day by its number within a year. Where the year is the last one, the number may be beyond that year.
-#[derive(Drop)]
+#[derive(Clone, Copy)]
 struct YearDay {
     year: u16,
     left: u64,

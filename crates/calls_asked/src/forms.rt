@@ -15,7 +15,7 @@ use timetable::fields::{field, has_field};
 const BEYOND: u64 = MAX_FACTOR as u64 + 1;
 
 // A whole number, as far as the first that is no factor; and whether it is one.
-#[derive(Drop)]
+#[derive(Clone, Copy)]
 pub struct Factor {
     pub good: bool,
     pub negative: bool,

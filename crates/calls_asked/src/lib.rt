@@ -1,10 +1,11 @@
 // Which call a line of the calculator is, with the kinds that it names.
+#![tactic(auto)]
 use value::Kind;
 
 pub mod forms; // forms.rt: which call a line is
 
 // The calls on one value.
-#[derive(Drop)]
+#[derive(Clone, Copy)]
 pub enum One {
     Read,
     Unzone,
@@ -12,7 +13,7 @@ pub enum One {
 }
 
 // The calls on two values.
-#[derive(Drop)]
+#[derive(Clone, Copy)]
 pub enum Two {
     Compare,
     Add,
@@ -21,7 +22,7 @@ pub enum Two {
 }
 
 // Which call a line is, with the kinds that it names; its texts and its whole number stay in the line.
-#[derive(Drop)]
+#[derive(Clone, Copy)]
 pub enum CallForm {
     No,
     OfOne(One, Kind),

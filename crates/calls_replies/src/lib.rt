@@ -1,4 +1,5 @@
 // The text of an answer as it grows: words, numbers with a sign, the components of a value.
+#![tactic(auto)]
 
 pub mod building; // building.rt: a reply as it grows
 pub mod numbers; // numbers.rt: numbers with a sign

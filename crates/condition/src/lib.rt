@@ -1,4 +1,5 @@
 // Conditions: which texts are accepted, and the result of a condition at a row (document 01, "Conditions"; document 02, b).
+#![tactic(auto)]
 ghost use Rattle.std.specs.Prelude.{◌≡◌};
 ghost use Rattle.basis.specs.Answer.{gives, only_number, refuses};
 ghost use Rattle.timetable.specs.Rows.{row_with};
@@ -16,14 +17,14 @@ use value::{Offset, Refusal};
 use value_instants::ticks;
 
 // Whether a condition's text is accepted.
-#[derive(Drop)]
+#[derive(Clone, Copy)]
 pub enum Checked {
     Accepted,
     Refused(Refusal),
 }
 
 // The result of a condition at a row; Refused where its text is not accepted.
-#[derive(Drop)]
+#[derive(Clone, Copy)]
 pub enum Judged {
     Hit,
     Miss,

@@ -1,4 +1,5 @@
 // What a part of a condition gives, and what a literal and a field of a row give, checked or evaluated (document 01, "Conditions").
+#![tactic(auto)]
 ghost use Rattle.std.specs.Prelude.{◌≡◌};
 ghost use Rattle.value.specs.Kinds.{meaning};
 ghost use Rattle.basis.specs.Answer.{refuses};
@@ -13,7 +14,7 @@ use condition_words::cut;
 use value::{Kind, Outcome, Refusal, Value};
 
 // What a part gives: nothing where it is not evaluated, a value, a truth value, or the first refusal.
-#[derive(Drop)]
+#[derive(Clone, Copy)]
 pub enum Given {
     Nothing,
     Is(Value),
@@ -22,7 +23,7 @@ pub enum Given {
 }
 
 // How a part is read: its literals are checked, it is evaluated, or it is only read over.
-#[derive(Drop)]
+#[derive(Clone, Copy)]
 pub enum Mode {
     Check,
     Live,

@@ -1,4 +1,5 @@
 // What each operator of a condition does (document 01, "Conditions").
+#![tactic(auto)]
 ghost use Rattle.std.specs.Prelude.{◌≡◌};
 ghost use Rattle.condition_operators.specs.Roles as the;
 
@@ -6,7 +7,7 @@ use condition_symbols::Op;
 
 // What an operator does. Joins: it joins two truth values, and this one on the left settles it. Compares: whether it holds of a left
 // value that is less than the right one, of one that is equal, and of one that is greater.
-#[derive(Drop)]
+#[derive(Clone, Copy)]
 pub enum Role {
     Joins(bool),
     Compares(bool, bool, bool),

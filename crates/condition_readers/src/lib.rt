@@ -2,6 +2,7 @@
 // it ends. A factor may hold a whole condition again, so they call one another in a cycle; at each turn of it text has been
 // read or fewer parentheses may be opened (document 01, "Conditions"). Every arm of a `match` on what was read returns: a `match` that has
 // a value has a place for it, and the proof writes out the type of every place at every step.
+#![tactic(auto)]
 ghost use Rattle.std.specs.Prelude.{◌≡◌};
 ghost use Rattle.timetable.specs.Rows.{row_with};
 ghost use Rattle.condition_readers.specs.Lengths.{parse_within};
@@ -19,7 +20,7 @@ use value::{Kind, Offset};
 pub const MAX_LENGTH: usize = 240;
 
 // What was read, and where its text ends.
-#[derive(Drop)]
+#[derive(Clone, Copy)]
 pub enum Read {
     Bad,
     Got(Part, usize),
@@ -27,7 +28,7 @@ pub enum Read {
 
 // The rules that are operands with operators between: a condition is clauses with `or`, a clause is tests with `and`, a sum is
 // terms with `+` or `-`.
-#[derive(Drop)]
+#[derive(Clone, Copy)]
 pub enum Rule {
     Condition,
     Clause,

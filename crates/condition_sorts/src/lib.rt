@@ -1,4 +1,5 @@
 // What the text alone settles of a condition's parts: which kinds fit each operation (document 01, "Conditions").
+#![tactic(auto)]
 ghost use Rattle.std.specs.Prelude.{◌≡◌};
 ghost use Rattle.condition_sorts.specs.Sorts as the;
 
@@ -9,7 +10,7 @@ use value::Kind;
 use value::kinds::{is_clocked, is_dated, is_moment, same};
 
 // What the text alone settles of a part: that kinds do not fit, a truth value, or a value of a kind.
-#[derive(Drop)]
+#[derive(Clone, Copy)]
 pub enum Sort {
     Clash,
     Truth,

@@ -1,4 +1,5 @@
 // The symbols of a condition's text: which one stands at an offset, after any spaces (document 01, "Conditions").
+#![tactic(auto)]
 ghost use Rattle.std.specs.Prelude.{◌≡◌, ◌+◌, ◌≤◌, true, leb, length};
 ghost use Rattle.condition_symbols.specs.Symbols as the;
 ghost use Rattle.numerals.specs.Reading.{numeral_at};
@@ -8,7 +9,7 @@ use numerals::{byte, digits, raised};
 use value::Kind;
 
 // An operator between two parts.
-#[derive(Drop)]
+#[derive(Clone, Copy)]
 pub enum Op {
     Or,
     And,
@@ -23,28 +24,28 @@ pub enum Op {
 }
 
 // The operator that stands there, the offset of its first byte and the offset after it.
-#[derive(Drop)]
+#[derive(Clone, Copy)]
 pub enum Joint {
     No,
     At(Op, usize, usize),
 }
 
 // The offset after a byte that was looked for.
-#[derive(Drop)]
+#[derive(Clone, Copy)]
 pub enum Mark {
     No,
     At(usize),
 }
 
 // The kind that a word names.
-#[derive(Drop)]
+#[derive(Clone, Copy)]
 pub enum Named {
     No,
     Is(Kind),
 }
 
 // How a factor begins: a parenthesis, or a kind's name, at an offset, and a parenthesis. The last number is the offset after it.
-#[derive(Drop)]
+#[derive(Clone, Copy)]
 pub enum Start {
     No,
     Open(usize),
@@ -54,7 +55,7 @@ pub enum Start {
 // What stands in a constructor's parentheses. Text: a text in quotes, by the offsets between which its bytes stand. Field: a
 // field, by its number and the offset of its `$`. Bad: a quote or a `$` with which no such text or field begins. Sum: anything
 // else, which is then read as a sum. The last number is the offset after it.
-#[derive(Drop)]
+#[derive(Clone, Copy)]
 pub enum Held {
     Text(usize, usize, usize),
     Field(usize, usize, usize),
@@ -64,7 +65,7 @@ pub enum Held {
 
 // A `*` and the whole number after it: whether that is negative, what its digits say, its offset and the offset after it. Bad is a
 // `*` without a whole number.
-#[derive(Drop)]
+#[derive(Clone, Copy)]
 pub enum Multiplier {
     No,
     Bad,

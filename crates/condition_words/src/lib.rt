@@ -1,9 +1,10 @@
 // Longest stretches of bytes in a condition's text, words among them, and bytes cut out of a text (document 01, "Conditions").
+#![tactic(auto)]
 ghost use Rattle.std.specs.Prelude.{◌≡◌, ◌≤◌, length};
 ghost use Rattle.condition_words.specs.Words as the;
 
 // What a stretch is made of: spaces, letters of a word, bytes other than the quote.
-#[derive(Drop)]
+#[derive(Clone, Copy)]
 pub enum Class {
     Space,
     Letter,

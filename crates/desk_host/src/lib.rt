@@ -2,6 +2,7 @@
 // and takes turns until Idle. It keeps one desk for its whole life, in one variable of `live`, and has it updated where
 // it stands: its loops go through `desk_in_place::open_in` and `output_turns::turns_in`. What it writes are the pieces of crate
 // `output_pieces`, each as it was left, and their bytes are counted; after a write that failed it writes nothing more.
+#![tactic(auto)]
 ghost use Rattle.std.specs.Prelude.{◌≡◌, true, ◌+◌, ◌^◌, ◌≤◌, ◌<◌, length};
 ghost use Rattle.io.specs.Counts.{IsPrefixLen};
 ghost use Rattle.basis.specs.Choice.{both};

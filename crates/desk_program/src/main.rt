@@ -1,4 +1,5 @@
 // The desk program (docs/LINES.md, "The desk program"): one call of crate `desk_host`.
+#![tactic(auto)]
 fn main() {
     desk_host::run();
 }

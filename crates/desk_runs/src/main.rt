@@ -1,5 +1,6 @@
 // Stored runs of the desk program: standard input names a timetable and a file of conditions a line, and the program is run over
 // each pair (docs/LINES.md, "Desk runs"). It only reads and writes; the answers are those of crate `desk_host`.
+#![tactic(auto)]
 use condition_words::cut;
 use libc::{STDIN_FILENO, STDOUT_FILENO};
 use timetable::fields::field;

@@ -1,5 +1,6 @@
 // One seat by itself (document 01, "Timetable, seats and turns"; document 02, b): free, taken, sound, and served. The desk of
 // sixteen is the crate `desk`.
+#![tactic(auto)]
 ghost use Rattle.std.specs.Prelude.{◌≡◌, true, ◌++◌, ℕ, ◌+◌, ◌-◌, ◌≤◌, ◌<◌, length, replicate};
 ghost use Rattle.basis.specs.Choice.{pick};
 ghost use Rattle.basis.specs.Answer.{gives};
@@ -41,21 +42,21 @@ impl Seat {
 }
 
 // Where a seat goes on: an offset, and a place in what the line there stands for.
-#[derive(Drop)]
+#[derive(Clone, Copy)]
 pub struct Spot {
     pub offset: usize,
     pub place: u32,
 }
 
 // Whose answer it is, and at which line.
-#[derive(Drop)]
+#[derive(Clone, Copy)]
 pub struct At {
     pub ticket: u32,
     pub offset: usize,
 }
 
 // Whose answer it is, at which line, and at which place in what the line stands for.
-#[derive(Drop)]
+#[derive(Clone, Copy)]
 pub struct AtPlace {
     pub ticket: u32,
     pub offset: usize,
@@ -63,7 +64,7 @@ pub struct AtPlace {
 }
 
 // The two counts of a query that is done.
-#[derive(Drop)]
+#[derive(Clone, Copy)]
 pub struct Totals {
     pub ticket: u32,
     pub hits: usize,
@@ -71,7 +72,7 @@ pub struct Totals {
 }
 
 // What a turn answers. Idle and a refusal are the desk's; a seat that is served gives one of the others.
-#[derive(Drop)]
+#[derive(Clone, Copy)]
 pub enum TurnAnswer {
     Idle,
     Hit(AtPlace),

@@ -1,4 +1,5 @@
 // A file read into lent room: what the programs read their timetable with.
+#![tactic(auto)]
 ghost use Rattle.io.specs.Counts.{IsPrefixLen};
 
 // The bytes of the file of a name, as far as they can be read and the buffer goes, at the buffer's start; none where it

@@ -1,11 +1,12 @@
 // What the script of the hostile desks is made of (docs/LINES.md, "Hostile desks"): its events with their names and
 // numbers, and the bytes of a condition as they are shown.
+#![tactic(auto)]
 pub mod events; // events.rt: which event a line is
 pub mod fields; // fields.rt: the text of a condition
 pub mod shown; // shown.rt: bytes without the zeros at their end
 
 // A number of the desk, by its name.
-#[derive(Drop)]
+#[derive(Clone, Copy)]
 pub enum DeskNumber {
     LastServed(usize),
     Length(usize),
@@ -13,7 +14,7 @@ pub enum DeskNumber {
 }
 
 // What a seat holds, by its name.
-#[derive(Drop)]
+#[derive(Clone, Copy)]
 pub enum SeatNumber {
     Held(bool),
     Ticket(u32),

@@ -1,4 +1,5 @@
 // What the hostile desks answer (docs/LINES.md, "Hostile desks"), written to standard output.
+#![tactic(auto)]
 use condition_words::cut;
 use desk::{CloseAnswer, Desk, FreshAnswer};
 use desk_seat::Seat;

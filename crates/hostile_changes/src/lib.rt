@@ -1,4 +1,5 @@
 // The desk after `set` and `seat`: one number of it, or of a seat, or a seat's condition is another.
+#![tactic(auto)]
 ghost use Rattle.std.specs.Prelude.{◌≡◌};
 ghost use Rattle.hostile_changes.specs.Changes as the;
 

@@ -1,6 +1,7 @@
 // Hostile desks: a script builds desks, sound or not, and makes the desk's calls on them (docs/LINES.md, "Hostile desks").
 // It only reads and hands on: crate `hostile` says which event a line is, `hostile_changes` has the desk after `set` and
 // `seat`, `desk`, `output_lines` and `output_turns` have the other answers, and `hostile_answers` writes them.
+#![tactic(auto)]
 use condition_words::cut;
 use desk::Desk;
 use hostile::ScriptEvent;

@@ -1,5 +1,6 @@
 // Conditions judged one at a time: of each line of standard input the first field is a condition, and what follows its tab
 // is the line that it is judged at. It only reads and writes; the results are those of crate `condition`.
+#![tactic(auto)]
 ghost use Rattle.std.specs.Prelude.{ℕ, ◌+◌, ◌-◌, ◌≤◌, ◌<◌, length};
 
 use condition::Judged;

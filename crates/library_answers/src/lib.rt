@@ -1,4 +1,5 @@
 // The lines that the desk's calls are answered with, a refusal by its number.
+#![tactic(auto)]
 use desk::{CloseAnswer, OpenAnswer};
 use desk_seat::{At, AtPlace, Totals, TurnAnswer};
 use library_told::{tell, tell_end, tell_number, tell_refused};

@@ -1,5 +1,6 @@
 // A program of one's own over this library (docs/LINES.md, "Library example"; docs/LIBRARY.md goes through it). Each line of
 // standard input is a call: values are made, read, written and compared, and one desk is kept and updated where it stands.
+#![tactic(auto)]
 use desk::{Desk, FreshAnswer};
 use libc::STDIN_FILENO;
 use library_told::{tell_no_call, tell_refused};

@@ -20,7 +20,7 @@ const TWO_BYTES: usize = 65_535;
 pub const FOUR_BYTES: usize = 4_294_967_295;
 
 // A number with a sign. Where the text is none, it is not good, and 0.
-#[derive(Drop)]
+#[derive(Clone, Copy)]
 pub struct Signed {
     pub good: bool,
     pub negative: bool,
@@ -28,14 +28,14 @@ pub struct Signed {
 }
 
 // A zone; not good where the text is none.
-#[derive(Drop)]
+#[derive(Clone, Copy)]
 pub struct Zoned {
     pub good: bool,
     pub zone: Zone,
 }
 
 // The numbers of a date, whether there is such a date or not.
-#[derive(Drop)]
+#[derive(Clone, Copy)]
 pub struct Day {
     pub good: bool,
     pub year: u16,
@@ -44,7 +44,7 @@ pub struct Day {
 }
 
 // The numbers of a time of day, whether there is such a time or not.
-#[derive(Drop)]
+#[derive(Clone, Copy)]
 pub struct TimeGiven {
     pub good: bool,
     pub second: u32,
@@ -52,7 +52,7 @@ pub struct TimeGiven {
 }
 
 // The numbers of a dayTimeDuration, whether there is such a one or not.
-#[derive(Drop)]
+#[derive(Clone, Copy)]
 pub struct LastingGiven {
     pub good: bool,
     pub negative: bool,
@@ -61,14 +61,14 @@ pub struct LastingGiven {
 }
 
 // The record of a date, a time or a dateTime.
-#[derive(Drop)]
+#[derive(Clone, Copy)]
 pub struct Moment {
     pub good: bool,
     pub parts: DateTime,
 }
 
 // A record of any kind, if the fields are one.
-#[derive(Drop)]
+#[derive(Clone, Copy)]
 pub enum GivenRecord {
     No,
     Is(Value),

@@ -8,7 +8,7 @@ use operation::{compare, minus};
 use operation_ordering::Compared;
 use value::{Outcome, Refusal, Value};
 
-#[derive(Drop)]
+#[derive(Clone, Copy)]
 pub enum Lateness {
     Late,
     InTime,

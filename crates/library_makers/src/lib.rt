@@ -1,4 +1,5 @@
 // Values that are made of numbers. A maker answers the value, or 16 where a number is outside the bounds of its kind.
+#![tactic(auto)]
 use condition_words::cut;
 use library_lines::given::{
     FOUR_BYTES, day_at, lasting_at, moment_at, signed_number, time_at, zone,

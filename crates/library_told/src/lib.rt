@@ -1,4 +1,5 @@
 // The lines that are written: what a call answered, a refusal by its number.
+#![tactic(auto)]
 use libc::STDOUT_FILENO;
 use library_lines::late::Lateness;
 use operation_ordering::Compared;

@@ -1,5 +1,6 @@
 // The calls of the library example that are about values (docs/LINES.md, "Library example"): each reads the fields of a line, makes
 // the library's call, and writes what it answered.
+#![tactic(auto)]
 use condition_words::same;
 use library_makers::{make_date, make_date_time, make_day_time, make_time, make_year_month};
 use library_told::tell_no_call;

@@ -11,7 +11,7 @@ const DIGITS: usize = 20;
 pub const GREATEST: usize = 18_446_744_073_709_551_615;
 
 // A number that was read. Where the text is none, its value is 0.
-#[derive(Drop)]
+#[derive(Clone, Copy)]
 pub struct FieldNumber {
     pub good: bool,
     pub value: usize,

@@ -1,4 +1,5 @@
 // Digits read and written, and the text that a value is written into.
+#![tactic(auto)]
 ghost use Rattle.std.specs.Prelude.{◌≡◌, [], ◌∷◌, ◌+◌, ◌*◌, ◌≤◌, ◌<◌, ◌^◌, min, length};
 ghost use Rattle.numerals.specs.Reading as the;
 ghost use Rattle.numerals.specs.Writing.{longest};
@@ -12,14 +13,14 @@ pub const FRACTION_DIGITS: usize = 9;
 pub const LONGEST: usize = 35;
 
 // A stretch of digits: where it ends, and its number as far as a cap.
-#[derive(Drop)]
+#[derive(Clone, Copy)]
 pub struct DigitsRead {
     pub end: usize,
     pub value: u64,
 }
 
 // The digits after a point: their ticks, or that they are too many, and where they end.
-#[derive(Drop)]
+#[derive(Clone, Copy)]
 pub struct Fraction {
     pub ticks: u32,
     pub long: bool,
@@ -27,7 +28,7 @@ pub struct Fraction {
 }
 
 // A number without its final zeros, and how many digits it has.
-#[derive(Drop)]
+#[derive(Clone, Copy)]
 pub struct Kept {
     pub value: u64,
     pub count: usize,

@@ -1,4 +1,5 @@
 // What a value is ordered by: a whole number, as one span less another.
+#![tactic(auto)]
 ghost use Rattle.std.specs.Prelude.{◌≡◌, true, ◌+◌};
 ghost use Rattle.basis.specs.Answer.{gives, refuses};
 ghost use Rattle.value.specs.Values.{ok_offset};
@@ -11,7 +12,7 @@ use value::{Offset, Refusal, Span, Value, clocks, kinds, valid};
 use value_instants::{spans, ticks};
 
 // What a call that compares answers.
-#[derive(Drop)]
+#[derive(Clone, Copy)]
 pub enum Compared {
     Less,
     Equal,

@@ -1,4 +1,5 @@
 // Many turns at once, their lines written into lent room.
+#![tactic(auto)]
 ghost use Rattle.std.specs.Prelude.{◌≡◌, true, false, ◌++◌, ◌+◌, ◌-◌, ◌≤◌, ◌<◌, leb, length, take, drop};
 ghost use Rattle.basis.specs.Choice.{pick};
 ghost use Rattle.desk_seat.specs.Files.{over};
@@ -21,7 +22,7 @@ pub struct WrittenTurns {
     pub idle: bool,
 }
 
-#[derive(Drop)]
+#[derive(Clone, Copy)]
 pub enum TurnsAnswer {
     Wrote(WrittenTurns),
     Refused(Refusal),

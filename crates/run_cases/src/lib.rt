@@ -1,4 +1,5 @@
 // What a line stands for, at a place (document 02, b, "Runs of departures"): its own fields, an occurrence of a run, a miss, or a refusal.
+#![tactic(auto)]
 ghost use Rattle.std.specs.Prelude.{◌≡◌, true, ◌<◌};
 ghost use Rattle.value.specs.Values.{ok_offset, ok_date_time};
 ghost use Rattle.text.specs.Alike.{moment_of};
@@ -23,7 +24,7 @@ const LAST: usize = 4;
 const STEP: usize = 5;
 
 // What a line has at a place: a row to be judged, nothing (a miss), or a refusal.
-#[derive(Drop)]
+#[derive(Clone, Copy)]
 pub enum CaseRead {
     Row,
     Miss,
@@ -31,7 +32,7 @@ pub enum CaseRead {
 }
 
 // That, the made text of the row's second field (empty for none), and whether the line has a case at the next place.
-#[derive(Drop)]
+#[derive(Clone, Copy)]
 pub struct CaseAtPlace {
     pub read: CaseRead,
     pub made: Text,
@@ -47,28 +48,28 @@ pub struct Timed {
 }
 
 // What first or last reads as.
-#[derive(Drop)]
+#[derive(Clone, Copy)]
 pub enum TimeRead {
     Is(Timed),
     Refused(Refusal),
 }
 
 // What the step reads as.
-#[derive(Drop)]
+#[derive(Clone, Copy)]
 pub enum StepRead {
     Is(Span),
     Refused(Refusal),
 }
 
 // A run in spans, and the zone that its occurrences are written in.
-#[derive(Drop)]
+#[derive(Clone, Copy)]
 pub struct RunSpans {
     pub run: Run,
     pub zone: Zone,
 }
 
 // The run of a line, or the refusal of one of its fields.
-#[derive(Drop)]
+#[derive(Clone, Copy)]
 pub enum RunRead {
     Is(RunSpans),
     Refused(Refusal),

@@ -1,5 +1,6 @@
 // A run of departures over spans (document 02, b): its occurrences and its refusals. Nothing divides ticks, and nothing walks over
 // occurrences.
+#![tactic(auto)]
 ghost use Rattle.std.specs.Prelude.{◌≡◌, ◌+◌, ◌≤◌, ltb};
 ghost use Rattle.basis.specs.Answer.{refuses};
 ghost use Rattle.value.specs.Carried.{span_of};
@@ -13,7 +14,7 @@ use value_instants::{spans, ticks};
 pub const MOST: u32 = 1_440;
 
 // First and last as instants, first's local time, and the step forward.
-#[derive(Drop)]
+#[derive(Clone, Copy)]
 pub struct Run {
     pub first: Span,
     pub last: Span,
@@ -22,7 +23,7 @@ pub struct Run {
 }
 
 // That a run is good, or its refusal.
-#[derive(Drop)]
+#[derive(Clone, Copy)]
 pub enum Verdict {
     Good,
     Refused(Refusal),

@@ -1,4 +1,5 @@
 // Values from text and to text: the two calls of document 01 over the five kinds.
+#![tactic(auto)]
 ghost use Rattle.std.specs.Prelude.{◌≡◌, true, length};
 ghost use Rattle.basis.specs.Answer.{refuses};
 ghost use Rattle.value.specs.Kinds as kinds;
@@ -10,7 +11,7 @@ use numerals::Text;
 use value::{Kind, Outcome, Refusal, Value};
 
 // How many bytes were written, or why none was.
-#[derive(Drop)]
+#[derive(Clone, Copy)]
 pub enum Written {
     Length(usize),
     Refused(Refusal),

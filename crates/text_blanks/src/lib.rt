@@ -1,9 +1,10 @@
 // The blanks round a value: where in a text the value starts and where it ends. Nothing is copied.
+#![tactic(auto)]
 ghost use Rattle.std.specs.Prelude.{◌≡◌, ◌+◌, ◌≤◌, length, drop};
 ghost use Rattle.text_blanks.specs.Blanks as the;
 
 // The offset of a value's first byte and the offset after its last.
-#[derive(Drop)]
+#[derive(Clone, Copy)]
 pub struct Stripped {
     pub start: usize,
     pub end: usize,

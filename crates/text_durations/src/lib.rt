@@ -1,4 +1,5 @@
 // The text of durations, read and written by the form of their kind.
+#![tactic(auto)]
 ghost use Rattle.std.specs.Prelude.{◌≡◌, true, ◌<◌};
 ghost use Rattle.basis.specs.Answer.{refuses};
 ghost use Rattle.value.specs.Bounds.{second_ticks};
@@ -16,7 +17,7 @@ mod scan; // scan.rt: the components of a text, found in order
 mod spell; // spell.rt: the components of an amount, written in order
 
 // Whole months and whole seconds, each the sum of the components that count it.
-#[derive(Drop)]
+#[derive(Clone, Copy)]
 pub struct Sums {
     pub months: u64,
     pub seconds: u64,
@@ -24,7 +25,7 @@ pub struct Sums {
 
 // What was found of a text so far: months and seconds, the ticks of a fraction and whether it has too many digits;
 // the offset that is reached, and how far the text could go on.
-#[derive(Drop)]
+#[derive(Clone, Copy)]
 pub struct Walk {
     pub sums: Sums,
     pub ticks: u32,
@@ -35,7 +36,7 @@ pub struct Walk {
 
 // A whole text, before it is judged. Where it is not good, the offset is that of the first byte that no good text could have
 // there, or the end of a text that stops short.
-#[derive(Drop)]
+#[derive(Clone, Copy)]
 pub struct Shape {
     pub negative: bool,
     pub sums: Sums,
@@ -46,28 +47,28 @@ pub struct Shape {
 }
 
 // Months, seconds and a part of a second in ticks, under one sign.
-#[derive(Drop)]
+#[derive(Clone, Copy)]
 pub struct Amount {
     pub negative: bool,
     pub sums: Sums,
     pub ticks: u32,
 }
 
-#[derive(Drop)]
+#[derive(Clone, Copy)]
 pub enum Count {
     Of(Amount),
     Refused(Refusal),
 }
 
 // Text that grows, and what is left of the sums to be written into it.
-#[derive(Drop)]
+#[derive(Clone, Copy)]
 pub struct Rest {
     pub text: Text,
     pub left: Sums,
 }
 
 // What a text reads as, and the offset at which its shape ends.
-#[derive(Drop)]
+#[derive(Clone, Copy)]
 pub struct Reading {
     pub outcome: Outcome,
     pub offset: usize,

@@ -1,4 +1,5 @@
 // The rows of the durations: the form of each kind, and what its components count.
+#![tactic(auto)]
 ghost use Rattle.std.specs.Prelude.{◌≡◌};
 ghost use Rattle.value.specs.Rows.{has};
 ghost use Rattle.text_forms.specs.Carried.{HoldsForm};
@@ -10,7 +11,7 @@ const YEAR: u64 = calendar::MONTH_COUNT as u64;
 
 // The form of a kind: its components before T and after it, and the text of zero, each with its length; what stands
 // after them is not looked at.
-#[derive(Drop)]
+#[derive(Clone, Copy)]
 pub struct FormRow {
     pub before: [u8; 3],
     pub before_len: usize,

@@ -1,4 +1,5 @@
 // The parts of a text, found along the layout of its kind before they are judged.
+#![tactic(auto)]
 ghost use Rattle.std.specs.Prelude.{◌≡◌, true, false, ◌+◌, ◌-◌, ◌≤◌, ◌<◌, eqb, length, get_or};
 ghost use Rattle.basis.specs.Choice.{pick};
 ghost use Rattle.value.specs.Rows.{template_of};
@@ -13,7 +14,7 @@ use value::{DateTime, Kind};
 pub const YEAR_DIGITS: usize = 4;
 
 // Two digits, and the offset after them; or the offset at which there is no digit.
-#[derive(Drop)]
+#[derive(Clone, Copy)]
 pub struct Pair {
     pub value: u8,
     pub at: usize,
@@ -21,7 +22,7 @@ pub struct Pair {
 }
 
 // A year, and the offset after it; or the offset of the first byte that no year could have there.
-#[derive(Drop)]
+#[derive(Clone, Copy)]
 pub struct Year {
     pub value: u16,
     pub at: usize,
@@ -29,7 +30,7 @@ pub struct Year {
 }
 
 // The date that was found in a text. Of a year no more is kept than one above the greatest.
-#[derive(Drop)]
+#[derive(Clone, Copy)]
 pub struct FoundDate {
     pub negative: bool,
     pub year: u16,
@@ -39,7 +40,7 @@ pub struct FoundDate {
 
 // The clock that was found: a part of a second in ticks, or that its digits are too many, and the offset of the point
 // before them, 0 where there is none.
-#[derive(Drop)]
+#[derive(Clone, Copy)]
 pub struct FoundClock {
     pub hour: u8,
     pub minute: u8,
@@ -50,7 +51,7 @@ pub struct FoundClock {
 }
 
 // The zone that was found: +, - or Z with its hours and minutes; sign 0 where there is none.
-#[derive(Drop)]
+#[derive(Clone, Copy)]
 pub struct FoundZone {
     pub sign: u8,
     pub hours: u8,
@@ -59,7 +60,7 @@ pub struct FoundZone {
 
 // The parts found so far, the offset that is reached, and whether every part up to there was found. Where not, the
 // offset is that of the first byte at which no text of good shape could go on.
-#[derive(Drop)]
+#[derive(Clone, Copy)]
 pub struct Scan {
     pub date: FoundDate,
     pub clock: FoundClock,

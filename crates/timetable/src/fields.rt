@@ -10,7 +10,7 @@ use crate::parts::offset_of;
 const TAB: u8 = b'\t';
 
 // Whether a line has a field, where it starts and where it ends; both 0 where there is none.
-#[derive(Drop)]
+#[derive(Clone, Copy)]
 pub struct FieldEnds {
     pub there: bool,
     pub start: usize,

@@ -1,6 +1,7 @@
 // Document 01, "Timetable, seats and turns": the work reads the timetable "through a line reader that carries the timetable
 // and its own place in it". A struct that holds a slice is proved by hand, so the functions over it are thin: the
 // work is done by `line_at`, which takes a slice and a number, and others read through `read_line`, which does so too.
+#![tactic(auto)]
 ghost use Rattle.std.specs.Prelude.{◌≡◌};
 ghost use Rattle.timetable.specs.Lines.{line_end, next_line};
 
@@ -14,7 +15,7 @@ pub struct LineReader<'a> {
 }
 
 // Where a line ends, and where the one after it starts.
-#[derive(Drop)]
+#[derive(Clone, Copy)]
 pub struct LineAt {
     pub end: usize,
     pub next: usize,

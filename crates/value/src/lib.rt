@@ -1,4 +1,5 @@
 // The values of the five kinds: records, bounds, makers and validity.
+#![tactic(auto)]
 ghost use Rattle.std.specs.Prelude.{◌≡◌};
 ghost use Rattle.basis.specs.Answer.{only_number};
 ghost use Rattle.value.specs.Reasons.{reason_of};
@@ -17,20 +18,20 @@ pub mod kinds; // kinds.rt: the rows, and which parts a kind has
 pub mod valid; // valid.rt: which records are within the bounds
 
 // Minutes from UTC. Zero minutes are east.
-#[derive(Drop)]
+#[derive(Clone, Copy)]
 pub enum Offset {
     East(u16),
     West(u16),
 }
 
-#[derive(Drop)]
+#[derive(Clone, Copy)]
 pub enum Zone {
     Absent,
     At(Offset),
 }
 
 // A date, a time and a dateTime: a date is at 00:00:00, a time is on 1972-12-31. The second is that of the day.
-#[derive(Drop)]
+#[derive(Clone, Copy)]
 pub struct DateTime {
     pub year: u16,
     pub month: u8,
@@ -41,7 +42,7 @@ pub struct DateTime {
 }
 
 // Seconds and nanoseconds under one sign. Zero, that is zero of both, is not negative.
-#[derive(Drop)]
+#[derive(Clone, Copy)]
 pub struct DayTime {
     pub negative: bool,
     pub seconds: u64,
@@ -49,13 +50,13 @@ pub struct DayTime {
 }
 
 // A signed number of months. Zero is not negative.
-#[derive(Drop)]
+#[derive(Clone, Copy)]
 pub struct YearMonth {
     pub negative: bool,
     pub months: u32,
 }
 
-#[derive(Drop)]
+#[derive(Clone, Copy)]
 pub enum Kind {
     Date,
     Time,
@@ -65,14 +66,14 @@ pub enum Kind {
 }
 
 // The letters of a kind's layout with spaces after them, and how many letters there are.
-#[derive(Drop)]
+#[derive(Clone, Copy)]
 pub struct Layout {
     pub letters: [u8; 13],
     pub len: usize,
 }
 
 // Which of the parts of a date a kind has, and whether it has a clock.
-#[derive(Drop)]
+#[derive(Clone, Copy)]
 pub struct OwnParts {
     pub year: bool,
     pub month: bool,
@@ -82,7 +83,7 @@ pub struct OwnParts {
 
 // A date, time or dateTime is a moment, its kind with its record. A moment of a duration's kind, or with a record
 // that is not of its kind, can be built and is outside the bounds.
-#[derive(Drop)]
+#[derive(Clone, Copy)]
 pub enum Value {
     Moment(Kind, DateTime),
     DayTime(DayTime),
@@ -90,20 +91,20 @@ pub enum Value {
 }
 
 // A refusal has a number of documents 01 and 02, and no value.
-#[derive(Drop)]
+#[derive(Clone, Copy)]
 pub struct Refusal {
     pub number: u8,
 }
 
 // What a call that makes a value answers.
-#[derive(Drop)]
+#[derive(Clone, Copy)]
 pub enum Outcome {
     Is(Value),
     Refused(Refusal),
 }
 
 // Whole seconds, and a part of a second in ticks.
-#[derive(Drop)]
+#[derive(Clone, Copy)]
 pub struct Span {
     pub seconds: u64,
     pub part: u32,

@@ -1,4 +1,5 @@
 // Components of a value, for library callers (document 01, "Operations"): the fields that its kind has, and the zone.
+#![tactic(auto)]
 ghost use Rattle.std.specs.Prelude.{◌≡◌, true, ◌≤◌, ◌<◌, ◌^◌};
 ghost use Rattle.value.specs.Bounds.{second_ticks, max_day_time};
 ghost use Rattle.value.specs.Carried.{ticks_of, max_clock};
@@ -8,7 +9,7 @@ ghost use Rattle.value_components.specs.Components as the;
 use value::{DateTime, Kind, Refusal, Span, Value, Zone, clocks, kinds, valid};
 
 // The time of day by its fields, the last the part of a second in nanoseconds.
-#[derive(Drop)]
+#[derive(Clone, Copy)]
 pub struct Clock {
     pub hours: u8,
     pub minutes: u8,
@@ -18,7 +19,7 @@ pub struct Clock {
 
 // The six parts of a duration, and beside the seconds their fraction in nanoseconds. None is above zero if the duration is
 // negative, none below if it is not.
-#[derive(Drop)]
+#[derive(Clone, Copy)]
 pub struct Lasting {
     pub years: i32,
     pub months: i32,
@@ -30,21 +31,21 @@ pub struct Lasting {
 }
 
 // The year, the month or the day of a value, or that its kind has none.
-#[derive(Drop)]
+#[derive(Clone, Copy)]
 pub enum DateField {
     Absent,
     Is(u16),
 }
 
 // The time of day of a value, or that its kind has none.
-#[derive(Drop)]
+#[derive(Clone, Copy)]
 pub enum ClockField {
     Absent,
     Is(Clock),
 }
 
 // The fields that the kind of a date, time or dateTime has, and its zone.
-#[derive(Drop)]
+#[derive(Clone, Copy)]
 pub struct OwnFields {
     pub year: DateField,
     pub month: DateField,
@@ -54,7 +55,7 @@ pub struct OwnFields {
 }
 
 // The parts that a value's kind has.
-#[derive(Drop)]
+#[derive(Clone, Copy)]
 pub enum Components {
     Moment(OwnFields),
     Duration(Lasting),
