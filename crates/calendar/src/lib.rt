@@ -1,6 +1,7 @@
 // The proleptic Gregorian calendar of document 01: the leap rule, the lengths of the months, the day number of a date
 // and the date of a day number. Days are counted from 0000-01-01, so that no number here is below zero.
 #![tactic(auto)]
+
 ghost use Rattle.std.specs.Prelude.{◌≡◌, ◌+◌, ◌-◌, ◌≤◌, ◌<◌};
 ghost use Rattle.calendar.specs.Calendar.{leap_row, month_days, month_row, year_days, month_count, total, GoodDate, day_of, date_within, dated_of};
 

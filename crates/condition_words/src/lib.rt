@@ -1,5 +1,6 @@
 // Longest stretches of bytes in a condition's text, words among them, and bytes cut out of a text (document 01, "Conditions").
 #![tactic(auto)]
+
 ghost use Rattle.std.specs.Prelude.{◌≡◌, ◌≤◌, length};
 ghost use Rattle.condition_words.specs.Words as the;
 

@@ -1,5 +1,6 @@
 // Digits read and written, and the text that a value is written into.
 #![tactic(auto)]
+
 ghost use Rattle.std.specs.Prelude.{◌≡◌, [], ◌∷◌, ◌+◌, ◌*◌, ◌≤◌, ◌<◌, ◌^◌, min, length};
 ghost use Rattle.numerals.specs.Reading as the;
 ghost use Rattle.numerals.specs.Writing.{longest};

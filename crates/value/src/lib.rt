@@ -1,5 +1,6 @@
 // The values of the five kinds: records, bounds, makers and validity.
 #![tactic(auto)]
+
 ghost use Rattle.std.specs.Prelude.{◌≡◌};
 ghost use Rattle.basis.specs.Answer.{only_number};
 ghost use Rattle.value.specs.Reasons.{reason_of};

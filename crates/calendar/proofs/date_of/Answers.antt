@@ -1,0 +1,16 @@
+use native.Mathlib.Omega.{arith}
+use Rattle.calendar.proofs.Answers.{later_from, on_from_lem}
+use borrow.Author.Rules.{rules}
+use Rattle.calendar.proofs.date_of.Goals as goal
+
+pub returns-then-year_days-left : goal.returns-then-year_days-left
+returns-then-year_days-left c =
+    let a = c.args in
+    let y = c.year_of-y.result in
+    later_from a.n a.last y.year y.left (omega arith) (omega arith) (c.year_of-y.ensures.2 (omega arith))
+
+pub returns : goal.returns
+returns c =
+    let a = c.args in
+    let y = c.year_of-y.result in
+    on_from_lem a.n a.last y.year y.left c.date_in.result (omega arith) (omega arith) (omega arith) c.date_in.ensures

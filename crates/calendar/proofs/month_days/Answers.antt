@@ -1,0 +1,13 @@
+use borrow.Author.Rules.{rules}
+use native.Mathlib.Omega.{arith}
+use Rattle.calendar.proofs.Leap.{leap_le}
+use Rattle.calendar.proofs.month_days.Goals as goal
+
+pub offset_bounds-row : goal.offset_bounds-row
+offset_bounds-row c = omega (arith, leap_le c.args.year)
+
+pub returns : goal.returns
+returns c = simp c.leap_row-row.ensures
+
+-- ? index-1-result : tie.Need-bounds-1-result
+-- ? index-1-result c = omega (arith, leap_le c.args.year)

@@ -1,0 +1,6 @@
+use Rattle.condition_words.proofs.Stretching.{cut_long}
+use borrow.Author.Rules.{rules}
+use Rattle.condition_words.proofs.cut.Goals as goal
+
+pub returns-then-s-to : goal.returns-then-s-to
+returns-then-s-to c = search cut_long

@@ -1,0 +1,14 @@
+use lib.ListN.{length, length-map}
+use Prim.Native.Nat.{ℕ}
+use mathlib.Core.Path.{◌≡◌, refl, ◌∙◌, sym}
+use native.Mathlib.Omega.{arith}
+use native.Mathlib.Numerals.{add-one}
+use lib.Seq.{take-suc-set}
+use borrow.Author.Rules.{rules}
+use Rattle.numerals.specs.Writing.{longest}
+use Rattle.numerals.proofs.Text.push.Goals as goal
+
+pub returns : goal.returns
+returns c =
+    let n : length c.args.t1.bytes ≡ longest = sym (length-map c.args.t1.bytes (λ (v : ℕ). v)) ∙ c.well-formed.0.1.1.0.1.0.1 in
+    record { text = rw add-one (take-suc-set c.args.t1.bytes c.args.t1.len c.args.b (omega arith)); more = refl }

@@ -1,0 +1,5 @@
+use borrow.Author.Rules.{rules}
+use Rattle.value.proofs.clocks.at_clock_of.Goals as goal
+
+pub returns : goal.returns
+returns c = c.with_time.ensures

@@ -1,0 +1,5 @@
+use borrow.Author.Rules.{rules}
+use Rattle.value.proofs.kinds.same.Goals as goal
+
+pub returns : goal.returns
+returns c = simp (← c.number-2.ensures, ← c.number.ensures)
