@@ -1,5 +1,6 @@
 // The blanks round a value: where in a text the value starts and where it ends. Nothing is copied.
 #![tactic(auto)]
+
 ghost use Rattle.std.specs.Prelude.{◌≡◌, ◌+◌, ◌≤◌, length, drop};
 ghost use Rattle.text_blanks.specs.Blanks as the;
 
