@@ -1,5 +1,6 @@
 // Whether the parentheses of a text go too deep (document 01, "Conditions").
 #![tactic(auto)]
+
 ghost use Rattle.std.specs.Prelude.{◌≡◌, ◌-◌, ltb};
 ghost use Rattle.condition_depth.specs.Depth.{deep, max_depth};
 
