@@ -131,7 +131,7 @@ with_has line (b ∷ bs) n = kept_has (b ∷ bs) (row_of line) n ∙ row_has lin
 -- it is the second one's text
 pub with_second_lem : (line made : List ℕ) → 0 < length made → has_field line 2 ≡ true → cell_text (row_with line made) 2 ≡ made
 unfolding row_with
-with_second line [] h e = absurd (omega arith)
+with_second_lem line [] h e = absurd (omega arith)
 with_second_lem line (b ∷ bs) h e = made_second (b ∷ bs) (row_of line) (row_has line 2 ∙ e)
 
 -- all others are the line's own

@@ -11,8 +11,8 @@ slice_bounds-result-count-2 c = search word_from
 pub returns : goal.returns
 returns c = search word_cut
 
--- ? part-result-start-2 : tie.Need-slice-bounds-result-start-2
--- ? part-result-start-2 c = search word_from
+pub slice_bounds-result-start-2 : goal.slice_bounds-result-start-2
+slice_bounds-result-start-2 c = search word_from
 
--- ? part-result-end-2 : tie.Need-slice-bounds-result-end-2
--- ? part-result-end-2 c = search word_within
+pub slice_bounds-result-end-2 : goal.slice_bounds-result-end-2
+slice_bounds-result-end-2 c = search word_within

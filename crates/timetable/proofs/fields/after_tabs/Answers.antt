@@ -4,6 +4,7 @@ use native.Mathlib.Omega.{arith}
 use lib.ListN.{length}
 use Rattle.timetable.proofs.Tabs.{Passing, at_start, past_tab, past_other, none_left, all_passed}
 use Rattle.timetable.proofs.fields.after_tabs.Goals as goal
+use Rattle.timetable.proofs.fields.after_tabs.Goals.{then-line-at-eq-TAB, else-line-at-eq-TAB}
 
 pub loop-left-init : goal.loop-left-init
 loop-left-init c = at_start _ _
@@ -28,11 +29,10 @@ loop-left-smaller c = omega arith
 
 pub loop-left-preserved : goal.loop-left-preserved
 loop-left-preserved c =
-    let b = c in
-    ⊎_elim
-    (λ w. past_tab _ _ _ _ b.loop-left.invariant c.if-line-at.false c.loop-left-test.true w.0.taken w.1)
-    (λ w. past_other _ _ _ _ b.loop-left.invariant c.if-line-at.false c.loop-left-test.true w.0.left w.1)
-    c.if-line-at-eq-TAB.branch
+    elim c.if-line-at-eq-TAB.branch [
+    then-line-at-eq-TAB w ↦ past_tab _ _ _ _ c.loop-left.invariant c.if-line-at.false c.loop-left-test.true w.if-line-at-eq-TAB.true w.left-is
+    | else-line-at-eq-TAB w ↦ past_other _ _ _ _ c.loop-left.invariant c.if-line-at.false c.loop-left-test.true w.if-line-at-eq-TAB.false w.left-is
+    ]
 
 pub returns : goal.returns
 returns c = all_passed _ _ _ _ c.loop-left.invariant c.loop-left-test.false
