@@ -10,5 +10,5 @@ use Rattle.numerals.proofs.Text.push.Goals as goal
 
 pub returns : goal.returns
 returns c =
-    let n : length c.args.self.bytes ≡ longest = sym (length-map c.args.self.bytes (λ (v : ℕ). v)) ∙ c.well-formed.0.1.1.0.1.0.1 in
+    let n : length c.args.self.bytes ≡ longest = search rules in
     record { text = rw add-one (take-suc-set c.args.self.bytes c.args.self.len c.args.b (omega arith)); more = refl }
