@@ -1,5 +1,6 @@
 // The rows of the durations: the form of each kind, and what its components count.
 #![tactic(auto)]
+
 ghost use Rattle.std.specs.Prelude.{◌≡◌};
 ghost use Rattle.value.specs.Rows.{has};
 ghost use Rattle.text_forms.specs.Carried.{HoldsForm};

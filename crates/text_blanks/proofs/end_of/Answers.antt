@@ -1,10 +1,7 @@
-use Prim.Native.Nat.{◌-◌, ◌≤◌, ◌<◌}
-use mathlib.Core.Path.{◌≡◌, ◌∙◌}
+use Prim.Native.Nat.{◌≤◌, ◌<◌}
+use mathlib.Core.Path.{◌∙◌}
 use native.Mathlib.Omega.{arith}
-use lib.ListN.{length, take, drop}
-use borrow.Author.Rules.{rules}
 use Rattle.basis.proofs.Tests.{no, yes}
-use Rattle.text_blanks.specs.Blanks.{untrailed}
 use Rattle.text_blanks.proofs.Ends.{all_taken, one_less, the_last, all_gone}
 use Rattle.text_blanks.proofs.end_of.Goals as goal
 

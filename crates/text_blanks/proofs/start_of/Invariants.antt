@@ -1,11 +1,7 @@
 use Prim.Native.Nat.{◌+◌, ◌-◌, ◌≤◌}
 use mathlib.Core.Path.{◌≡◌}
-use native.Mathlib.Omega.{arith}
 use lib.ListN.{length, drop}
-use borrow.Author.Rules.{rules}
-use Rattle.basis.proofs.Tests.{no, yes}
 use Rattle.text_blanks.specs.Blanks.{leading_blanks}
-use Rattle.text_blanks.proofs.Ends.{lead_stop, lead_on, lead_end}
 use Rattle.text_blanks.proofs.start_of.Given as goal
 
 abbrev pub invariant-loop-at : goal.invariant-loop-at

@@ -1,5 +1,4 @@
 use native.Mathlib.Omega.{arith}
-use borrow.Author.Rules.{rules}
 use Rattle.text_blanks.proofs.Ends.{lead_le}
 use Rattle.text_blanks.proofs.Laws.{stripped_by}
 use Rattle.text_blanks.proofs.strip.Goals as goal
