@@ -1,10 +1,10 @@
 -- The instant of a local time at an offset: east of UTC it is that much earlier, west of it that much later, and never
 -- below zero. So the offset and the instant give the local time back.
-use mathlib.Core.Path.{◌≡◌, refl, ap, sym, ◌∙◌}
-use mathlib.Core.Bool.{Bool, true, false}
-use Prim.Native.Nat.{ℕ, ◌+◌, ◌-◌, ◌*◌, ◌≤◌, ◌<◌}
+use mathlib.Core.Path.{◌≡◌, refl, ap}
+use mathlib.Core.Bool.{true}
+use Prim.Native.Nat.{ℕ, ◌+◌, ◌*◌, ◌≤◌, ◌<◌}
 use native.Mathlib.Omega.{arith}
-use Rattle.value.specs.Bounds.{max_year, minute_ticks, day_ticks}
+use Rattle.value.specs.Bounds.{minute_ticks, day_ticks}
 use Rattle.value.specs.Values.{ok_offset, ok_zone, ok_date_time}
 use Rattle.value_instants.specs.Ticks.{local_of, utc, instant_at, instant_of, offset_in, east, west}
 use Rattle.value.specs.declared.Offset.{Offset}

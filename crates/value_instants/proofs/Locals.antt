@@ -1,16 +1,14 @@
 -- The record at a local time has that local time, and the local time of a record gives the record back.
 use mathlib.Core.Path.{◌≡◌, refl, ap, sym, ◌∙◌}
 use mathlib.Core.Bool.{Bool, true, false}
-use Prim.Native.Nat.{ℕ, ◌+◌, ◌-◌, ◌*◌, ◌/◌, ◌%◌, ◌≤◌, ◌<◌}
+use Prim.Native.Nat.{ℕ, ◌+◌, ◌*◌, ◌/◌, ◌%◌, ◌≤◌}
 use native.Mathlib.Omega.{arith}
-use lib.Dec.{leb, ltb}
 use borrow.Author.Tests.{leb-true, le-leb}
-use Rattle.basis.specs.Choice.{pick, both}
+use Rattle.basis.specs.Choice.{pick}
 use Rattle.basis.proofs.Tests.{both_left, both_right, both_true}
-use Rattle.calendar.specs.declared.Date.{Date}
-use Rattle.calendar.specs.Calendar.{GoodDate, day_number, day_of, date_of}
+use Rattle.calendar.specs.Calendar.{day_of, date_of}
 use Rattle.calendar.proofs.Dates.{date_day, date_good, day_date}
-use Rattle.value.specs.Bounds.{min_year, max_year, day_ticks}
+use Rattle.value.specs.Bounds.{day_ticks}
 use Rattle.value.specs.Carried.{max_clock}
 use Rattle.value.specs.Clocks.{clock_of, at_clock}
 use Rattle.value.specs.Values.{ok_zone, ok_date_time, date_in}
@@ -19,7 +17,7 @@ use Rattle.value.specs.declared.Zone.{Zone}
 use Rattle.value.specs.declared.DateTime.{DateTime}
 use Rattle.value_instants.specs.declared.Placed.TheVariants as PV
 use Rattle.value.proofs.ClockLaws.{clock_at, at_its_clock, clock_to, time_part_at}
-use Rattle.value.proofs.Good.{Good, GoodDay, good, record_ok}
+use Rattle.value.proofs.Good.{good, record_ok}
 
 pub local_of_placed : (t : ℕ) (z : Zone) → local_of (at_local t z) ≡ t
 unfolding local_of

@@ -1,6 +1,6 @@
 -- The record at a local time, by the calendar's answer for its day.
-use mathlib.Core.Path.{◌≡◌, refl, ap, sym, ◌∙◌}
-use mathlib.Core.Bool.{Bool, true, false}
+use mathlib.Core.Path.{◌≡◌, ap, sym, ◌∙◌}
+use mathlib.Core.Bool.{true, false}
 use Prim.Native.Nat.{ℕ, ◌+◌, ◌*◌, ◌/◌, ◌%◌, ◌≤◌, ◌<◌}
 use native.Mathlib.Omega.{arith}
 use lib.Dec.{leb}
@@ -14,8 +14,6 @@ use Rattle.value.specs.Bounds.{min_year, max_year, second_ticks, day_ticks}
 use Rattle.value.specs.Clocks.{at_clock}
 use Rattle.value_instants.specs.Ticks.{at_local, in_years, placed_at}
 use Rattle.value.specs.declared.Zone.{Zone}
-use Rattle.value.specs.declared.DateTime.{DateTime}
-use Rattle.value_instants.specs.declared.Placed.{Placed}
 use Rattle.value_instants.specs.declared.Placed.TheVariants as PV
 
 module _ (s p : ℕ) (z : Zone) (small : p < second_ticks) where

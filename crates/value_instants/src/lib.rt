@@ -1,5 +1,6 @@
 // Spans of time, local times and UTC instants of records, and the record at a local time.
 #![tactic(auto)]
+
 use value::DateTime;
 
 pub mod spans; // spans.rt: spans of time, as whole seconds and a part of a second
