@@ -1,5 +1,6 @@
 // Components of a value, for library callers (document 01, "Operations"): the fields that its kind has, and the zone.
 #![tactic(auto)]
+
 ghost use Rattle.std.specs.Prelude.{◌≡◌, true, ◌≤◌, ◌<◌, ◌^◌};
 ghost use Rattle.value.specs.Bounds.{second_ticks, max_day_time};
 ghost use Rattle.value.specs.Carried.{ticks_of, max_clock};
