@@ -1,5 +1,6 @@
 // The parts of a text, found along the layout of its kind before they are judged.
 #![tactic(auto)]
+
 ghost use Rattle.std.specs.Prelude.{◌≡◌, true, false, ◌+◌, ◌-◌, ◌≤◌, ◌<◌, eqb, length, get_or};
 ghost use Rattle.basis.specs.Choice.{pick};
 ghost use Rattle.value.specs.Rows.{template_of};
