@@ -6,15 +6,14 @@ use Prim.Native.Nat.{ℕ, zero, suc, ◌+◌, ◌-◌, ◌*◌, ◌/◌, ◌%◌
 use Prim.Native.Char.{code}
 use native.Mathlib.Numerals.{add-one}
 use native.Mathlib.Omega.{arith}
-use lib.Dec.{eqb, leb, ltb}
+use lib.Dec.{eqb, leb}
 use lib.ListN.{length, get_or, drop, set, replicate, length-append, drop_of_length-le}
 use lib.Seq.{drop-cons, set_at}
 use borrow.Author.Tests.{lt-ltb, le-ltb, le-leb, lt-leb, leb-true, eq-eqb, ne_eqb}
-use Rattle.basis.specs.Choice.{pick, both, every}
+use Rattle.basis.specs.Choice.{both, every}
 use Rattle.basis.proofs.Tests.{both_left, every_goes, every_fails, every_ends}
 use Rattle.numerals.specs.Reading.{is_digit, at}
 use Rattle.line_fields.specs.Hex.{most_named, hex_digit, all_hex, is_hex, byte_named, bytes_named, hex_of}
-use Rattle.line_fields.specs.declared.hex.HexBytes.{HexBytes}
 
 -- ---- a digit
 

@@ -1,7 +1,8 @@
 // Document 01, "Timetable, seats and turns": the work reads the timetable "through a line reader that carries the timetable
-// and its own place in it". A struct that holds a slice is proved by hand, so the functions over it are thin: the
-// work is done by `line_at`, which takes a slice and a number, and others read through `read_line`, which does so too.
+// and its own place in it". The functions over it are thin: the work is done by `line_at`, which takes a slice and a
+// number, and others read through `read_line`, which does so too.
 #![tactic(auto)]
+
 ghost use Rattle.std.specs.Prelude.{◌≡◌};
 ghost use Rattle.timetable.specs.Lines.{line_end, next_line};
 
