@@ -1,26 +1,23 @@
 -- What the code finds at an offset is the symbol of the definition: a law for each way out of a function.
 use mathlib.Core.Path.{◌≡◌, refl, sym, ap, ◌∙◌}
-use mathlib.Core.Bool.{Bool, true, false, not}
-use mathlib.Core.List.{List, [], ◌∷◌}
-use Prim.Native.Nat.{ℕ, ◌+◌, ◌-◌, ◌*◌, ◌<◌, ◌≤◌, ◌^◌, min}
+use mathlib.Core.Bool.{Bool, true, false}
+use mathlib.Core.List.{List}
+use Prim.Native.Nat.{ℕ, ◌+◌, ◌-◌, ◌*◌, ◌<◌, ◌≤◌, ◌^◌}
 use Prim.Native.Char.{code}
 use native.Mathlib.Omega.{arith}
-use lib.Dec.{leb, ltb, eqb}
+use lib.Dec.{leb}
 use lib.ListN.{length, get_or}
 use borrow.Author.Tests.{leb-true, leb-false, eq-eqb, ne_eqb, le-leb, lt-leb, lt-ltb, le-ltb}
-use Rattle.basis.specs.Choice.{pick}
-use Rattle.basis.specs.Letters.{bytes}
-use Rattle.numerals.specs.Reading.{Number, numeral_at}
+use Rattle.numerals.specs.Reading.{numeral_at}
 use Rattle.numerals.specs.Carried.{Found}
 use Rattle.numerals.specs.declared.DigitsRead.{DigitsRead}
 use Rattle.numerals.proofs.Positions.{within}
-use Rattle.numerals.proofs.Stretches.{stretch_lt, stretch_le}
+use Rattle.numerals.proofs.Stretches.{stretch_lt}
 use Rattle.numerals.proofs.Powers.{widened}
 use Rattle.value.specs.declared.Kind.{Kind}
-use Rattle.value.specs.declared.Kind.TheVariants as K
 use Rattle.condition_words.specs.Words.{stretch_end, skipped, word_at, same}
 use Rattle.condition_symbols.specs.Symbols as the
-use Rattle.condition_words.proofs.Stretching.{word_end, stretch_from, stretch_within, stretch_past}
+use Rattle.condition_words.proofs.Stretching.{word_end, stretch_within, stretch_past}
 use Rattle.condition_words.specs.declared.Class.TheVariants.{Letter, Unquoted, Space}
 use Rattle.condition_symbols.specs.declared.Op.{Op}
 use Rattle.condition_symbols.specs.declared.Op.TheVariants as O
@@ -30,7 +27,6 @@ use Rattle.condition_symbols.specs.declared.Mark.{Mark}
 use Rattle.condition_symbols.specs.declared.Mark.TheVariants as M
 use Rattle.condition_symbols.specs.declared.Named.{Named}
 use Rattle.condition_symbols.specs.declared.Named.TheVariants as N
-use Rattle.condition_symbols.specs.declared.Start.{Start}
 use Rattle.condition_symbols.specs.declared.Start.TheVariants as S
 use Rattle.condition_symbols.specs.declared.Held.{Held}
 use Rattle.condition_symbols.specs.declared.Held.TheVariants as H
@@ -179,7 +175,7 @@ module _ (s : List ℕ) (from : ℕ) (r : DigitsRead) (f : Found s (from + 1) (t
         rw (ne_eqb _ _ (λ k. n (q ∙ k)), le-leb _ _ j, le-leb _ _ i, k, f.ends)
 
 module _ (s : List ℕ) (negative : Bool) (from at cap : ℕ) (e : cap ≡ 1 * 10 ^ the.max_digits) (r : DigitsRead) (f : Found s at cap r) where
-  pub whole_from : at ≤ r.end
+  pub whole_from_lem : at ≤ r.end
   whole_from_lem = omega (arith, f.ends)
 
   pub whole_none : r.end - at < 1 → T.Bad ≡ the.whole_of negative from at (numeral_at s at)

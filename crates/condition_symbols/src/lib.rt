@@ -1,5 +1,6 @@
 // The symbols of a condition's text: which one stands at an offset, after any spaces (document 01, "Conditions").
 #![tactic(auto)]
+
 ghost use Rattle.std.specs.Prelude.{◌≡◌, ◌+◌, ◌≤◌, true, leb, length};
 ghost use Rattle.condition_symbols.specs.Symbols as the;
 ghost use Rattle.numerals.specs.Reading.{numeral_at};
