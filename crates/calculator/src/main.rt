@@ -1,11 +1,11 @@
 // The calculator: one library call a line, one line of answer for each (docs/LINES.md, "The calculator").
 #![tactic(auto)]
+
 ghost use Rattle.std.specs.Prelude.{◌≡◌, ◌+◌, ◌≤◌, length};
 ghost use Rattle.calls.specs.Answers.{max_calls_input};
 
 use calls::MAX_INPUT;
 use calls_replies::Reply;
-use libc::{STDIN_FILENO, STDOUT_FILENO};
 use timetable::lines::{after_end, line_end};
 
 // One byte more than is taken, so that an input that is too long shows.
@@ -17,34 +17,34 @@ fn room() -> [u8; ROOM]
     [0; ROOM]
 }
 
-fn show(reply: Reply)
+fn show(rt: &impl Print, reply: Reply)
     requires { reply.len ≤ length reply.bytes }
 {
     let n = reply.len;
     let bytes = reply.bytes;
-    io::write_all(STDOUT_FILENO, &bytes[..n]);
-    io::write_all(STDOUT_FILENO, b"\n");
+    let _ = rt.write_all(&bytes[..n]);
+    let _ = rt.write_all(b"\n");
 }
 
-fn answer_lines(input: &[u8]) {
+fn answer_lines(rt: &impl Print, input: &[u8]) {
     let mut at = 0;
     while at < input.len() {
         let end = line_end(input, at);
-        show(calls::answer(&input[at..end]));
+        show(rt, calls::answer(&input[at..end]));
         at = after_end(input, end);
     }
 }
 
-fn answer_input(input: &[u8]) {
+fn answer_input(rt: &impl Print, input: &[u8]) {
     if !calls::takes(input) {
-        show(calls::no_call());
+        show(rt, calls::no_call());
         return;
     }
-    answer_lines(input);
+    answer_lines(rt, input);
 }
 
-fn main() {
+fn main(rt: HostRuntime) {
     let mut space = room();
-    let n = io::read_full(STDIN_FILENO, &mut space);
-    answer_input(&space[..n]);
+    let n = files::read_full(&mut rt.reader(), &mut space);
+    answer_input(&rt, &space[..n]);
 }

@@ -3,8 +3,9 @@
 // it stands: its loops go through `desk_in_place::open_in` and `output_turns::turns_in`. What it writes are the pieces of crate
 // `output_pieces`, each as it was left, and their bytes are counted; after a write that failed it writes nothing more.
 #![tactic(auto)]
+
 ghost use Rattle.std.specs.Prelude.{◌≡◌, true, ◌+◌, ◌^◌, ◌≤◌, ◌<◌, length};
-ghost use Rattle.io.specs.Counts.{IsPrefixLen};
+ghost use Rattle.files.specs.Counts.{IsPrefixLen};
 ghost use Rattle.basis.specs.Choice.{both};
 ghost use Rattle.timetable.specs.Lines.{offset_lines};
 ghost use Rattle.condition_words.specs.Words.{between};
@@ -18,9 +19,10 @@ ghost use Rattle.output.specs.Output.{output_of};
 
 use condition_words::cut;
 use desk::Desk;
-use libc::{STDIN_FILENO, STDOUT_FILENO};
 use output_lines::LineText;
 use output_pieces::PieceEnd;
+use std::io::Read;
+use std::rt::Files;
 use timetable_reader::{moved, next};
 
 // The bytes of lines that are written at once.
@@ -46,13 +48,13 @@ struct Progress {
 }
 
 // Writes a piece as it stands in the room, after so many bytes before it. Nothing more is due after a write that failed.
-fn send(part: PieceEnd, room: &[u8], before: usize) -> Sent
+fn send(rt: &impl Print, part: PieceEnd, room: &[u8], before: usize) -> Sent
     requires { (part.count ≤ length room.now) × (before + part.count < 2 ^ 64) }
     ensures { (result.more ≡ both result.through part.more) × (result.told ≡ before + part.count) }
 {
     let count = part.count;
     let told = before + count;
-    if !io::write_all(STDOUT_FILENO, &room[..count]) {
+    if rt.write_all(&room[..count]).is_err() {
         return Sent {
             through: false,
             more: false,
@@ -67,40 +69,47 @@ fn send(part: PieceEnd, room: &[u8], before: usize) -> Sent
 }
 
 // The first piece.
-fn start(timetable_length: usize, input_length: usize) -> Progress
+fn start(rt: &impl Print, timetable_length: usize, input_length: usize) -> Progress
     ensures { (result.desk ≡ (start_piece timetable_length input_length).desk) × (result.sent.more ≡ both result.sent.through (start_piece timetable_length input_length).more) × (result.sent.told ≡ length (start_piece timetable_length input_length).text) }
 {
     let mut room = [0; LineText::ROOM];
     let begun = output_pieces::begin(timetable_length, input_length, &mut room);
     let desk = begun.desk;
     let part = begun.part;
-    let sent = send(part, &room, 0);
+    let sent = send(rt, part, &room, 0);
     Progress { desk, sent }
 }
 
 // The piece of the condition between two offsets of the input.
-fn open_at_in(desk: &mut Desk, input: &[u8], at: usize, end: usize, told: usize) -> Sent
+fn open_at_in(
+    rt: &impl Print,
+    desk: &mut Desk,
+    input: &[u8],
+    at: usize,
+    end: usize,
+    told: usize,
+) -> Sent
     requires { told + length (open_piece (asking (between input.now at end)) desk.old).text < 2 ^ 64 }
     ensures { (desk.new ≡ (open_piece (asking (between input.now at end)) desk.old).desk) × (result.more ≡ both result.through true) × (result.told ≡ told + length (open_piece (asking (between input.now at end)) desk.old).text) }
 {
     let condition = cut(input, at, end);
     let mut room = [0; LineText::ROOM];
     let part = output_pieces::open_piece_in(desk, condition, &mut room);
-    send(part, &room, told)
+    send(rt, part, &room, told)
 }
 
 // The piece of as many turns as have their lines in the room.
-fn take_some_in(desk: &mut Desk, t: &[u8], told: usize) -> Sent
+fn take_some_in(rt: &impl Print, desk: &mut Desk, t: &[u8], told: usize) -> Sent
     requires { told + length (turns_piece (over t.now) desk.old room_size).text < 2 ^ 64 }
     ensures { (desk.new ≡ (turns_piece (over t.now) desk.old room_size).desk) × (result.more ≡ both result.through (turns_piece (over t.now) desk.old room_size).more) × (result.told ≡ told + length (turns_piece (over t.now) desk.old room_size).text) }
 {
     let mut room = [0; ROOM];
     let part = output_pieces::turns_piece_in(desk, t, &mut room);
-    send(part, &room, told)
+    send(rt, part, &room, told)
 }
 
 // Opens the conditions in order, until a write fails.
-fn open_all(desk: &mut Desk, input: &[u8], before: usize) -> Sent
+fn open_all(rt: &impl Print, desk: &mut Desk, input: &[u8], before: usize) -> Sent
     requires { before + opened_told (offset_lines input.now) desk.old < 2 ^ 64 }
     ensures { result.through ≡ true → (desk.new ≡ opened_all (offset_lines input.now) desk.old) × (result.told ≡ before + opened_told (offset_lines input.now) desk.old) }
 {
@@ -108,7 +117,7 @@ fn open_all(desk: &mut Desk, input: &[u8], before: usize) -> Sent
     let mut reader = timetable_reader::new(input, 0);
     while reader.at < input.len() {
         let line = next(reader);
-        let sent = open_at_in(desk, input, reader.at, line.end, told);
+        let sent = open_at_in(rt, desk, input, reader.at, line.end, told);
         if !sent.more {
             return sent;
         }
@@ -123,14 +132,14 @@ fn open_all(desk: &mut Desk, input: &[u8], before: usize) -> Sent
 }
 
 // Takes turns until Idle, or until a write fails.
-fn turns_all(desk: &mut Desk, t: &[u8], before: usize) -> Sent
+fn turns_all(rt: &impl Print, desk: &mut Desk, t: &[u8], before: usize) -> Sent
     requires { before + until_idle_told (over t.now) most_turns desk.old < 2 ^ 64 }
     ensures { result.through ≡ true → (desk.new ≡ until_idle (over t.now) most_turns desk.old) × (result.told ≡ before + until_idle_told (over t.now) most_turns desk.old) }
 {
     let mut told = before;
     let mut n: usize = 0;
     while n < CALLS {
-        let sent = take_some_in(desk, t, told);
+        let sent = take_some_in(rt, desk, t, told);
         if !sent.more {
             return sent;
         }
@@ -145,66 +154,66 @@ fn turns_all(desk: &mut Desk, t: &[u8], before: usize) -> Sent
 }
 
 // Opens the conditions, then takes the turns.
-fn serve_in(desk: &mut Desk, t: &[u8], input: &[u8], told: usize) -> Sent
+fn serve_in(rt: &impl Print, desk: &mut Desk, t: &[u8], input: &[u8], told: usize) -> Sent
     requires { told + served_told (over t.now) input.now desk.old < 2 ^ 64 }
     ensures { result.through ≡ true → (desk.new ≡ served_all (over t.now) input.now desk.old) × (result.told ≡ told + served_told (over t.now) input.now desk.old) }
 {
-    let opened = open_all(desk, input, told);
+    let opened = open_all(rt, desk, input, told);
     if !opened.through {
         return opened;
     }
-    turns_all(desk, t, opened.told)
+    turns_all(rt, desk, t, opened.told)
 }
 
 // One desk for the program's whole life, in one variable.
-fn live(mut desk: Desk, t: &[u8], input: &[u8], told: usize) -> Progress
+fn live(rt: &impl Print, mut desk: Desk, t: &[u8], input: &[u8], told: usize) -> Progress
     requires { told + served_told (over t.now) input.now desk < 2 ^ 64 }
     ensures { result.sent.through ≡ true → (result.desk ≡ served_all (over t.now) input.now desk) × (result.sent.told ≡ told + served_told (over t.now) input.now desk) }
 {
-    let sent = serve_in(&mut desk, t, input, told);
+    let sent = serve_in(rt, &mut desk, t, input, told);
     Progress { desk, sent }
 }
 
 // The program over what was read: where every write went through, the writes were handed as many bytes as its output has.
-fn play(t: &[u8], input: &[u8]) -> Progress
+fn play(rt: &impl Print, t: &[u8], input: &[u8]) -> Progress
     requires { (length t.now ≤ max_timetable + 1) × (length input.now ≤ max_input + 1) }
     ensures { result.sent.through ≡ true → (result.desk ≡ desk_at_end (over t.now) input.now) × (result.sent.told ≡ length (output_of (over t.now) input.now)) }
 {
-    let started = start(t.len(), input.len());
+    let started = start(rt, t.len(), input.len());
     let desk = started.desk;
     let sent = started.sent;
     if !sent.more {
         return Progress { desk, sent };
     }
-    live(desk, t, input, sent.told)
+    live(rt, desk, t, input, sent.told)
 }
 
 // The bytes of a file, as far as they can be read, at the start of a timetable's buffer; none where it cannot be opened.
-fn read_file(name: &[u8], buffer: &mut [u8]) -> usize
+fn read_file(rt: &impl Files, name: &[u8], buffer: &mut [u8]) -> usize
     requires { length buffer.old ≡ max_timetable + 1 }
     ensures { IsPrefixLen result buffer.new }
 {
-    files::read(name, buffer)
+    files::read(rt, name, buffer)
 }
 
-// The bytes that a descriptor hands out, as far as they can be read, at the start of an input's buffer.
-fn read_input(descriptor: i32, buffer: &mut [u8]) -> usize
+// The bytes that a reader hands out, as far as they can be read, at the start of an input's buffer.
+fn read_input(reader: &mut impl Read, buffer: &mut [u8]) -> usize
     requires { length buffer.old ≡ max_input + 1 }
     ensures { IsPrefixLen result buffer.new }
 {
-    io::read_full(descriptor, buffer)
+    files::read_full(reader, buffer)
 }
 
-// The program over the timetable of a name and the conditions that a descriptor hands out, to its end.
-pub fn run_over(name: &[u8], conditions: i32) {
+// The program over the timetable of a name and the conditions that a reader hands out, to its end.
+pub fn run_over(rt: &(impl Files + Print), name: &[u8], conditions: &mut impl Read) {
     let mut timetable = output_pieces::timetable_buffer();
-    let long = read_file(name, &mut timetable);
+    let long = read_file(rt, name, &mut timetable);
     let mut input = output_pieces::input_buffer();
     let given = read_input(conditions, &mut input);
-    play(&timetable[..long], &input[..given]);
+    play(rt, &timetable[..long], &input[..given]);
 }
 
 // The whole program.
-pub fn run() {
-    run_over(b"timetable.tsv", STDIN_FILENO);
+pub fn run(rt: &(impl Files + Input + Print)) {
+    run_over(rt, b"timetable.tsv", &mut rt.reader());
 }

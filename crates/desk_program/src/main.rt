@@ -1,5 +1,6 @@
 // The desk program (docs/LINES.md, "The desk program"): one call of crate `desk_host`.
 #![tactic(auto)]
-fn main() {
-    desk_host::run();
+
+fn main(rt: HostRuntime) {
+    desk_host::run(&rt);
 }

@@ -1,33 +1,40 @@
 // Stored runs of the desk program: standard input names a timetable and a file of conditions a line, and the program is run over
 // each pair (docs/LINES.md, "Desk runs"). It only reads and writes; the answers are those of crate `desk_host`.
 #![tactic(auto)]
+
 use condition_words::cut;
-use libc::{STDIN_FILENO, STDOUT_FILENO};
+use std::io;
+use std::rt::Files;
 use timetable::fields::field;
 use timetable_reader::read_line;
 
+// The most bytes of cases that are read.
+const MAX_INPUT: usize = 4_096;
+
 // Runs the program over the two files that a line names, below that line.
-fn run_case(line: &[u8]) {
-    io::write_all(STDOUT_FILENO, b"case\t");
-    io::write_all(STDOUT_FILENO, line);
-    io::write_all(STDOUT_FILENO, b"\n");
-    let conditions = os::open_read(field(line, 2));
-    desk_host::run_over(field(line, 1), conditions);
-    libc::close(conditions);
+fn run_case(rt: &(impl Files + Print), line: &[u8]) {
+    let _ = rt.write_all(b"case\t");
+    let _ = rt.write_all(line);
+    let _ = rt.write_all(b"\n");
+    let name = field(line, 1);
+    match files::open(rt, field(line, 2)) {
+        Some(mut conditions) => desk_host::run_over(rt, name, &mut conditions),
+        None => desk_host::run_over(rt, name, &mut io::empty()),
+    }
 }
 
 // Runs the cases in order.
-fn run_all(cases: &[u8]) {
+fn run_all(rt: &(impl Files + Print), cases: &[u8]) {
     let mut at = 0;
     while at < cases.len() {
         let line = read_line(cases, at);
-        run_case(cut(cases, at, line.end));
+        run_case(rt, cut(cases, at, line.end));
         at = line.next;
     }
 }
 
-fn main() {
-    let mut buffer = io::buffer();
-    let n = io::read_full(STDIN_FILENO, &mut buffer);
-    run_all(&buffer[..n]);
+fn main(rt: HostRuntime) {
+    let mut buffer = [0; MAX_INPUT];
+    let n = files::read_full(&mut rt.reader(), &mut buffer);
+    run_all(&rt, &buffer[..n]);
 }

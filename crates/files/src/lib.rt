@@ -1,17 +1,42 @@
-// A file read into lent room: what the programs read their timetable with.
+// A file, or another reader, read into lent room: what the programs read their timetable and their input with.
 #![tactic(auto)]
-ghost use Rattle.io.specs.Counts.{IsPrefixLen};
+
+ghost use Rattle.files.specs.Counts.{IsPrefixLen};
+
+use std::fs;
+use std::io::Read;
+use std::rt::Files;
+
+// The file of a name, opened for reading; none where it cannot be opened.
+pub fn open<R: Files>(rt: &R, name: &[u8]) -> Option<R::File> {
+    let Ok(path) = str::from_utf8(name) else {
+        return None;
+    };
+    fs::open(rt, path).ok()
+}
+
+// The bytes that a reader hands out, until the buffer is full, they end or a read fails, at the buffer's start.
+pub fn read_full<R: Read>(reader: &mut R, buffer: &mut [u8]) -> usize
+    ensures { IsPrefixLen result buffer.new }
+{
+    let mut done = 0;
+    while done < buffer.len() {
+        match reader.read(&mut buffer[done..]) {
+            Ok(0) => break,
+            Ok(n) => done += n,
+            Err(_) => break,
+        }
+    }
+    done
+}
 
 // The bytes of the file of a name, as far as they can be read and the buffer goes, at the buffer's start; none where it
 // cannot be opened.
-pub fn read(name: &[u8], buffer: &mut [u8]) -> usize
+pub fn read<R: Files>(rt: &R, name: &[u8], buffer: &mut [u8]) -> usize
     ensures { IsPrefixLen result buffer.new }
 {
-    let file = os::open_read(name);
-    if file < 0 {
-        return 0;
+    match open(rt, name) {
+        Some(mut file) => read_full(&mut file, buffer),
+        None => 0,
     }
-    let got = io::read_full(file, buffer);
-    libc::close(file);
-    got
 }

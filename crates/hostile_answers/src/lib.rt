@@ -1,10 +1,10 @@
 // What the hostile desks answer (docs/LINES.md, "Hostile desks"), written to standard output.
 #![tactic(auto)]
+
 use condition_words::cut;
 use desk::{CloseAnswer, Desk, FreshAnswer};
 use desk_seat::Seat;
 use hostile::shown::kept;
-use libc::STDOUT_FILENO;
 use output_lines::{LineText, refused_line, turn_line};
 use output_turns::TurnsAnswer;
 use value::Refusal;
@@ -15,77 +15,77 @@ const ROOM: usize = 4_096;
 // The number of a line that is no event.
 pub const NO_EVENT: u8 = Refusal::BAD_CONDITION;
 
-pub fn tell(bytes: &[u8]) {
-    io::write_all(STDOUT_FILENO, bytes);
+pub fn tell(rt: &impl Print, bytes: &[u8]) {
+    let _ = rt.write_all(bytes);
 }
 
 // A tab and a number.
-fn tell_number(n: usize) {
-    tell(b"\t");
-    io::print_decimal(STDOUT_FILENO, n as u64);
+fn tell_number(rt: &impl Print, n: usize) {
+    tell(rt, b"\t");
+    let _ = rt.print(n);
 }
 
-pub fn tell_text(text: LineText) {
+pub fn tell_text(rt: &impl Print, text: LineText) {
     let bytes = text.bytes;
-    tell(cut(&bytes, 0, text.len));
+    tell(rt, cut(&bytes, 0, text.len));
 }
 
-pub fn tell_refused(number: u8) {
-    tell_text(refused_line(number));
+pub fn tell_refused(rt: &impl Print, number: u8) {
+    tell_text(rt, refused_line(number));
 }
 
-pub fn tell_sound(sound: bool) {
+pub fn tell_sound(rt: &impl Print, sound: bool) {
     if sound {
-        tell(b"sound\n");
+        tell(rt, b"sound\n");
     } else {
-        tell(b"unsound\n");
+        tell(rt, b"unsound\n");
     }
 }
 
-pub fn tell_fresh(answer: FreshAnswer) {
+pub fn tell_fresh(rt: &impl Print, answer: FreshAnswer) {
     match answer {
-        FreshAnswer::Made => tell(b"made\n"),
-        FreshAnswer::Refused(refusal) => tell_refused(refusal.number),
+        FreshAnswer::Made => tell(rt, b"made\n"),
+        FreshAnswer::Refused(refusal) => tell_refused(rt, refusal.number),
     }
 }
 
-pub fn tell_close(answer: CloseAnswer) {
+pub fn tell_close(rt: &impl Print, answer: CloseAnswer) {
     match answer {
-        CloseAnswer::Freed => tell(b"closed\n"),
-        CloseAnswer::Refused(refusal) => tell_refused(refusal.number),
+        CloseAnswer::Freed => tell(rt, b"closed\n"),
+        CloseAnswer::Refused(refusal) => tell_refused(rt, refusal.number),
     }
 }
 
 // What was written in a room of many turns.
-fn tell_wrote(count: usize, idle: bool) {
-    tell(b"wrote");
-    tell_number(count);
+fn tell_wrote(rt: &impl Print, count: usize, idle: bool) {
+    tell(rt, b"wrote");
+    tell_number(rt, count);
     if idle {
-        tell(b"\tidle\n");
+        tell(rt, b"\tidle\n");
     } else {
-        tell(b"\tmore\n");
+        tell(rt, b"\tmore\n");
     }
 }
 
-fn tell_turns(answer: TurnsAnswer) {
+fn tell_turns(rt: &impl Print, answer: TurnsAnswer) {
     match answer {
-        TurnsAnswer::Wrote(written) => tell_wrote(written.count, written.idle),
-        TurnsAnswer::Refused(refusal) => tell_refused(refusal.number),
+        TurnsAnswer::Wrote(written) => tell_wrote(rt, written.count, written.idle),
+        TurnsAnswer::Refused(refusal) => tell_refused(rt, refusal.number),
     }
 }
 
 // A tab, and the bytes in two digits each.
-fn tell_bytes(s: &[u8]) {
-    tell(b"\t");
+fn tell_bytes(rt: &impl Print, s: &[u8]) {
+    tell(rt, b"\t");
     let mut i = 0;
     while i < s.len() {
-        io::print_hex(STDOUT_FILENO, s[i] as u64, 2);
+        let _ = print!(rt; "{:02x}", s[i]);
         i += 1;
     }
 }
 
 // Writes the line of a seat, unless it is free and all zeros.
-fn show_seat(index: usize, s: Seat) {
+fn show_seat(rt: &impl Print, index: usize, s: Seat) {
     let condition = s.condition;
     let bytes: &[u8] = &condition;
     let text = cut(bytes, 0, kept(bytes));
@@ -100,57 +100,57 @@ fn show_seat(index: usize, s: Seat) {
     if any == 0 {
         return;
     }
-    tell(b"seat");
-    tell_number(index);
-    tell_number(s.held as usize);
-    tell_number(s.ticket as usize);
-    tell_number(s.offset);
-    tell_number(s.hits);
-    tell_number(s.unreadable);
-    tell_number(s.place as usize);
-    tell_number(s.condition_length);
-    tell_bytes(text);
-    tell(b"\n");
+    tell(rt, b"seat");
+    tell_number(rt, index);
+    tell_number(rt, s.held as usize);
+    tell_number(rt, s.ticket as usize);
+    tell_number(rt, s.offset);
+    tell_number(rt, s.hits);
+    tell_number(rt, s.unreadable);
+    tell_number(rt, s.place as usize);
+    tell_number(rt, s.condition_length);
+    tell_bytes(rt, text);
+    tell(rt, b"\n");
 }
 
 // The line of the desk, and those of its seats.
-pub fn show(desk: Desk) {
-    tell(b"desk");
-    tell_number(desk.last_served);
-    tell_number(desk.timetable_length);
-    tell_number(desk.issued as usize);
-    tell(b"\n");
+pub fn show(rt: &impl Print, desk: Desk) {
+    tell(rt, b"desk");
+    tell_number(rt, desk.last_served);
+    tell_number(rt, desk.timetable_length);
+    tell_number(rt, desk.issued as usize);
+    tell(rt, b"\n");
     let mut i = 0;
     while i < Desk::SEATS {
-        show_seat(i, desk.seats[i]);
+        show_seat(rt, i, desk.seats[i]);
         i += 1;
     }
 }
 
 // A turn: its line is written, and the desk after it handed back.
-pub fn turn(desk: Desk, t: &[u8]) -> Desk {
+pub fn turn(rt: &impl Print, desk: Desk, t: &[u8]) -> Desk {
     let after = desk.turn(t);
     let answer = after.answer;
-    tell_text(turn_line(answer));
+    tell_text(rt, turn_line(answer));
     after.desk
 }
 
 // Many turns into a room, which is written after the answer.
-fn turns_into(desk: Desk, t: &[u8], room: &mut [u8]) -> Desk {
+fn turns_into(rt: &impl Print, desk: Desk, t: &[u8], room: &mut [u8]) -> Desk {
     let after = output_turns::turns(desk, t, room);
     let answer = after.answer;
-    tell_turns(answer);
-    tell(room);
-    tell(b"\n");
+    tell_turns(rt, answer);
+    tell(rt, room);
+    tell(rt, b"\n");
     after.desk
 }
 
 // Many turns into a room of so many bytes, likewise.
-pub fn turns(desk: Desk, t: &[u8], long: usize) -> Desk {
+pub fn turns(rt: &impl Print, desk: Desk, t: &[u8], long: usize) -> Desk {
     if ROOM < long {
-        tell_refused(NO_EVENT);
+        tell_refused(rt, NO_EVENT);
         return desk;
     }
     let mut room = [b'.'; ROOM];
-    turns_into(desk, t, &mut room[..long])
+    turns_into(rt, desk, t, &mut room[..long])
 }

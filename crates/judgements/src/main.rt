@@ -1,54 +1,57 @@
 // Conditions judged one at a time: of each line of standard input the first field is a condition, and what follows its tab
 // is the line that it is judged at. It only reads and writes; the results are those of crate `condition`.
 #![tactic(auto)]
+
 ghost use Rattle.std.specs.Prelude.{ℕ, ◌+◌, ◌-◌, ◌≤◌, ◌<◌, length};
 
 use condition::Judged;
-use libc::{STDIN_FILENO, STDOUT_FILENO};
 use timetable::fields::field;
 use timetable_reader::read_line;
 
-fn told(word: &[u8], number: u8) {
-    io::write_all(STDOUT_FILENO, word);
-    io::print_decimal(STDOUT_FILENO, number as u64);
-    io::write_all(STDOUT_FILENO, b"\n");
+// The most bytes of conditions and lines that are read.
+const MAX_INPUT: usize = 65_536;
+
+fn told(rt: &impl Print, word: &[u8], number: u8) {
+    let _ = rt.write_all(word);
+    let _ = rt.print(number);
+    let _ = rt.write_all(b"\n");
 }
 
-fn told_judged(judged: Judged) {
+fn told_judged(rt: &impl Print, judged: Judged) {
     match judged {
         Judged::Hit => {
-            io::write_all(STDOUT_FILENO, b"hit\n");
+            let _ = rt.write_all(b"hit\n");
         }
         Judged::Miss => {
-            io::write_all(STDOUT_FILENO, b"miss\n");
+            let _ = rt.write_all(b"miss\n");
         }
-        Judged::Unreadable(refusal) => told(b"unreadable\t", refusal.number),
-        Judged::Refused(refusal) => told(b"refused\t", refusal.number),
+        Judged::Unreadable(refusal) => told(rt, b"unreadable\t", refusal.number),
+        Judged::Refused(refusal) => told(rt, b"refused\t", refusal.number),
     }
 }
 
-fn judge_line(line: &[u8]) {
+fn judge_line(rt: &impl Print, line: &[u8]) {
     let text = field(line, 1);
     let long = text.len();
     if long < line.len() {
-        told_judged(condition::result(text, &line[long + 1..]));
+        told_judged(rt, condition::result(text, &line[long + 1..]));
     } else {
-        told_judged(condition::result(text, b""));
+        told_judged(rt, condition::result(text, b""));
     }
 }
 
-fn judge_all(input: &[u8]) {
+fn judge_all(rt: &impl Print, input: &[u8]) {
     let mut at = 0;
     while at < input.len() {
         let line = read_line(input, at);
         let end = line.end;
-        judge_line(&input[at..end]);
+        judge_line(rt, &input[at..end]);
         at = line.next;
     }
 }
 
-fn main() {
-    let mut buffer = io::large_buffer();
-    let n = io::read_full(STDIN_FILENO, &mut buffer);
-    judge_all(&buffer[..n]);
+fn main(rt: HostRuntime) {
+    let mut buffer = [0; MAX_INPUT];
+    let n = files::read_full(&mut rt.reader(), &mut buffer);
+    judge_all(&rt, &buffer[..n]);
 }

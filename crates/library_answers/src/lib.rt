@@ -1,64 +1,65 @@
 // The lines that the desk's calls are answered with, a refusal by its number.
 #![tactic(auto)]
+
 use desk::{CloseAnswer, OpenAnswer};
 use desk_seat::{At, AtPlace, Totals, TurnAnswer};
 use library_told::{tell, tell_end, tell_number, tell_refused};
 
-pub fn tell_open(answer: OpenAnswer) {
+pub fn tell_open(rt: &impl Print, answer: OpenAnswer) {
     match answer {
         OpenAnswer::Ticket(ticket) => {
-            tell(b"open");
-            tell_number(ticket as u64);
-            tell_end();
+            tell(rt, b"open");
+            tell_number(rt, ticket as u64);
+            tell_end(rt);
         }
         // 7, 8, 9, 1, 2, 3: the condition; 10: every seat is held; 14: every ticket was issued
-        OpenAnswer::Refused(refusal) => tell_refused(refusal.number),
+        OpenAnswer::Refused(refusal) => tell_refused(rt, refusal.number),
     }
 }
 
-pub fn tell_close(answer: CloseAnswer) {
+pub fn tell_close(rt: &impl Print, answer: CloseAnswer) {
     match answer {
-        CloseAnswer::Freed => tell(b"closed\n"),
+        CloseAnswer::Freed => tell(rt, b"closed\n"),
         // 13: no seat is held by that ticket
-        CloseAnswer::Refused(refusal) => tell_refused(refusal.number),
+        CloseAnswer::Refused(refusal) => tell_refused(rt, refusal.number),
     }
 }
 
 // A ticket, a line's offset and the place.
-fn tell_placed(word: &[u8], at: AtPlace) {
-    tell(word);
-    tell_number(at.ticket as u64);
-    tell_number(at.offset as u64);
-    tell_number(at.place as u64);
-    tell_end();
+fn tell_placed(rt: &impl Print, word: &[u8], at: AtPlace) {
+    tell(rt, word);
+    tell_number(rt, at.ticket as u64);
+    tell_number(rt, at.offset as u64);
+    tell_number(rt, at.place as u64);
+    tell_end(rt);
 }
 
 // 1, 2, 3: a field is no such value; 4: a result is beyond the bounds; 6: the line has no such field; 17, 18: the line's run has no
 // step above zero, or too many occurrences.
-fn tell_unreadable(at: At, number: u8) {
-    tell(b"unreadable");
-    tell_number(at.ticket as u64);
-    tell_number(at.offset as u64);
-    tell_number(number as u64);
-    tell_end();
+fn tell_unreadable(rt: &impl Print, at: At, number: u8) {
+    tell(rt, b"unreadable");
+    tell_number(rt, at.ticket as u64);
+    tell_number(rt, at.offset as u64);
+    tell_number(rt, number as u64);
+    tell_end(rt);
 }
 
-fn tell_done(totals: Totals) {
-    tell(b"done");
-    tell_number(totals.ticket as u64);
-    tell_number(totals.hits as u64);
-    tell_number(totals.unreadable as u64);
-    tell_end();
+fn tell_done(rt: &impl Print, totals: Totals) {
+    tell(rt, b"done");
+    tell_number(rt, totals.ticket as u64);
+    tell_number(rt, totals.hits as u64);
+    tell_number(rt, totals.unreadable as u64);
+    tell_end(rt);
 }
 
-pub fn tell_turn(answer: TurnAnswer) {
+pub fn tell_turn(rt: &impl Print, answer: TurnAnswer) {
     match answer {
-        TurnAnswer::Idle => tell(b"idle\n"),
-        TurnAnswer::Hit(at) => tell_placed(b"hit", at),
-        TurnAnswer::Miss(at) => tell_placed(b"miss", at),
-        TurnAnswer::Unreadable(at, refusal) => tell_unreadable(at, refusal.number),
-        TurnAnswer::Done(totals) => tell_done(totals),
+        TurnAnswer::Idle => tell(rt, b"idle\n"),
+        TurnAnswer::Hit(at) => tell_placed(rt, b"hit", at),
+        TurnAnswer::Miss(at) => tell_placed(rt, b"miss", at),
+        TurnAnswer::Unreadable(at, refusal) => tell_unreadable(rt, at, refusal.number),
+        TurnAnswer::Done(totals) => tell_done(rt, totals),
         // 12, 11: not here, where the desk is sound and the timetable is the one that it was made for
-        TurnAnswer::Refused(refusal) => tell_refused(refusal.number),
+        TurnAnswer::Refused(refusal) => tell_refused(rt, refusal.number),
     }
 }

@@ -1,8 +1,8 @@
 // A program of one's own over this library (docs/LINES.md, "Library example"; docs/LIBRARY.md goes through it). Each line of
 // standard input is a call: values are made, read, written and compared, and one desk is kept and updated where it stands.
 #![tactic(auto)]
+
 use desk::{Desk, FreshAnswer};
-use libc::STDIN_FILENO;
 use library_told::{tell_no_call, tell_refused};
 
 mod seats; // seats.rt: the desk's calls, and which call a line is
@@ -11,27 +11,27 @@ mod seats; // seats.rt: the desk's calls, and which call a line is
 const MAX_INPUT: usize = line_fields::MAX_INPUT;
 
 // Answers the calls over a desk that is made for the timetable.
-fn serve(t: &[u8], input: &[u8]) {
+fn serve(rt: &impl Print, t: &[u8], input: &[u8]) {
     let made = desk::fresh(t.len());
     let answer = made.answer;
     // 11: the timetable is too long, and there is no desk
     if let FreshAnswer::Refused(refusal) = answer {
-        tell_refused(refusal.number);
+        tell_refused(rt, refusal.number);
         return;
     }
     if MAX_INPUT < input.len() {
-        tell_no_call();
+        tell_no_call(rt);
         return;
     }
     let desk = made.desk;
-    seats::live(desk, t, input);
+    seats::live(rt, desk, t, input);
 }
 
 // One byte more than is taken is asked for, so that what is too long shows. A file that cannot be opened counts as empty.
-fn main() {
+fn main(rt: HostRuntime) {
     let mut file = [0; Desk::MAX_TIMETABLE + 1];
-    let long = files::read(b"timetable.tsv", &mut file);
+    let long = files::read(&rt, b"timetable.tsv", &mut file);
     let mut input = [0; MAX_INPUT + 1];
-    let given = io::read_full(STDIN_FILENO, &mut input);
-    serve(&file[..long], &input[..given]);
+    let given = files::read_full(&mut rt.reader(), &mut input);
+    serve(&rt, &file[..long], &input[..given]);
 }

@@ -12,12 +12,12 @@ use library_lines::calls::{CLOSE, OPEN, TURN, call_at, condition_at, line_at, ti
 use timetable::lines::next_line;
 
 // The calls that are not about the desk, and a line that is no call.
-fn answer_value(input: &[u8], at: usize) {
-    library_values::answer(line_at(input, at));
+fn answer_value(rt: &impl Print, input: &[u8], at: usize) {
+    library_values::answer(rt, line_at(input, at));
 }
 
 // Answers the lines in order.
-fn answer_all(desk: &mut Desk, t: &[u8], input: &[u8])
+fn answer_all(rt: &impl Print, desk: &mut Desk, t: &[u8], input: &[u8])
     ensures { desk.new ≡ after_calls (over t.now) (offset_lines input.now) desk.old }
 {
     let mut at: usize = 0;
@@ -26,25 +26,25 @@ fn answer_all(desk: &mut Desk, t: &[u8], input: &[u8])
         match call {
             TURN => {
                 let turned = turn_in(desk, t);
-                tell_turn(turned);
+                tell_turn(rt, turned);
             }
             OPEN => {
                 let condition = condition_at(input, at);
                 let opened = open_in(desk, condition);
-                tell_open(opened);
+                tell_open(rt, opened);
             }
             CLOSE => {
                 let ticket = ticket_at(input, at);
                 let closed = close_in(desk, ticket);
-                tell_close(closed);
+                tell_close(rt, closed);
             }
-            _ => answer_value(input, at),
+            _ => answer_value(rt, input, at),
         }
         at = next_line(input, at);
     }
 }
 
 // One desk for the program's whole life, in one variable.
-pub fn live(mut desk: Desk, t: &[u8], input: &[u8]) {
-    answer_all(&mut desk, t, input);
+pub fn live(rt: &impl Print, mut desk: Desk, t: &[u8], input: &[u8]) {
+    answer_all(rt, &mut desk, t, input);
 }

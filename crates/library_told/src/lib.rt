@@ -1,6 +1,6 @@
 // The lines that are written: what a call answered, a refusal by its number.
 #![tactic(auto)]
-use libc::STDOUT_FILENO;
+
 use library_lines::late::Lateness;
 use operation_ordering::Compared;
 use value::Refusal;
@@ -8,45 +8,45 @@ use value::Refusal;
 // A line that is no call is refused like a condition that is none.
 const NO_CALL: u8 = Refusal::BAD_CONDITION;
 
-pub fn tell(bytes: &[u8]) {
-    io::write_all(STDOUT_FILENO, bytes);
+pub fn tell(rt: &impl Print, bytes: &[u8]) {
+    let _ = rt.write_all(bytes);
 }
 
 // A tab and a number.
-pub fn tell_number(n: u64) {
-    tell(b"\t");
-    io::print_decimal(STDOUT_FILENO, n);
+pub fn tell_number(rt: &impl Print, n: u64) {
+    tell(rt, b"\t");
+    let _ = rt.print(n);
 }
 
-pub fn tell_end() {
-    tell(b"\n");
+pub fn tell_end(rt: &impl Print) {
+    tell(rt, b"\n");
 }
 
-pub fn tell_refused(number: u8) {
-    tell(b"refused");
-    tell_number(number as u64);
-    tell_end();
+pub fn tell_refused(rt: &impl Print, number: u8) {
+    tell(rt, b"refused");
+    tell_number(rt, number as u64);
+    tell_end(rt);
 }
 
-pub fn tell_no_call() {
-    tell_refused(NO_CALL);
+pub fn tell_no_call(rt: &impl Print) {
+    tell_refused(rt, NO_CALL);
 }
 
-pub fn tell_order(answer: Compared) {
+pub fn tell_order(rt: &impl Print, answer: Compared) {
     match answer {
-        Compared::Less => tell(b"lt\n"),
-        Compared::Equal => tell(b"eq\n"),
-        Compared::Greater => tell(b"gt\n"),
+        Compared::Less => tell(rt, b"lt\n"),
+        Compared::Equal => tell(rt, b"eq\n"),
+        Compared::Greater => tell(rt, b"gt\n"),
         // 16: a value given is outside the bounds; 9: the two are of different kinds
-        Compared::Refused(refusal) => tell_refused(refusal.number),
+        Compared::Refused(refusal) => tell_refused(rt, refusal.number),
     }
 }
 
-pub fn tell_late(answer: Lateness) {
+pub fn tell_late(rt: &impl Print, answer: Lateness) {
     match answer {
-        Lateness::Late => tell(b"yes\n"),
-        Lateness::InTime => tell(b"no\n"),
+        Lateness::Late => tell(rt, b"yes\n"),
+        Lateness::InTime => tell(rt, b"no\n"),
         // 4: the difference is beyond the bounds; 9: it is no dayTimeDuration
-        Lateness::Refused(refusal) => tell_refused(refusal.number),
+        Lateness::Refused(refusal) => tell_refused(rt, refusal.number),
     }
 }
