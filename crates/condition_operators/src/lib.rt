@@ -1,5 +1,6 @@
 // What each operator of a condition does (document 01, "Conditions").
 #![tactic(auto)]
+
 ghost use Rattle.std.specs.Prelude.{◌≡◌};
 ghost use Rattle.condition_operators.specs.Roles as the;
 
