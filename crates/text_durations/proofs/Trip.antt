@@ -11,7 +11,7 @@ use borrow.Author.Tests.{ne_eqb, eqb-true}
 use Rattle.basis.specs.Choice.{pick, both}
 use Rattle.basis.proofs.Tests.{never}
 use Rattle.value.specs.Rows.{has}
-use Rattle.numerals.specs.Reading.{is_digit, at, fraction_digits}
+use Rattle.numerals.specs.Reading.{is_digit, fraction_digits}
 use Rattle.numerals.proofs.Positions.{beyond}
 use Rattle.text_durations.specs.declared.Sums.{Sums}
 use Rattle.text_durations.specs.declared.Walk.{Walk}

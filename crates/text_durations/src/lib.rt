@@ -1,5 +1,6 @@
 // The text of durations, read and written by the form of their kind.
 #![tactic(auto)]
+
 ghost use Rattle.std.specs.Prelude.{◌≡◌, true, ◌<◌};
 ghost use Rattle.basis.specs.Answer.{refuses};
 ghost use Rattle.value.specs.Bounds.{second_ticks};
@@ -61,7 +62,7 @@ pub enum Count {
 }
 
 // Text that grows, and what is left of the sums to be written into it.
-#[derive(Clone, Copy)]
+#[derive(Drop)]
 pub struct Rest {
     pub text: Text,
     pub left: Sums,

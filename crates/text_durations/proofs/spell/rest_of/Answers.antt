@@ -1,0 +1,17 @@
+use Rattle.text_forms.proofs.Weights.{weight_some}
+use Rattle.text_durations.proofs.Written.{month_rest, second_rest}
+use native.Mathlib.Omega.{arith}
+use mathlib.Core.Path.{sym, ◌∙◌}
+use Rattle.text_durations.proofs.spell.rest_of.Goals as goal
+
+pub nonzero_rem-result : goal.nonzero_rem-result
+nonzero_rem-result c = let h = weight_some _ _ c.weight-w.ensures in omega arith
+
+pub returns-then-counts_months : goal.returns-then-counts_months
+returns-then-counts_months c = month_rest _ _ c.args.sums c.weight-w.ensures (sym c.counts_months.ensures ∙ c.if-counts_months.true)
+
+pub nonzero_rem-result-2 : goal.nonzero_rem-result-2
+nonzero_rem-result-2 c = let h = weight_some _ _ c.weight-w.ensures in omega arith
+
+pub returns : goal.returns
+returns c = second_rest _ _ c.args.sums c.weight-w.ensures (sym c.counts_months.ensures ∙ c.if-counts_months.false)
