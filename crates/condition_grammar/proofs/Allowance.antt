@@ -1,8 +1,8 @@
 -- How many parentheses may be opened never decides in a text that is not too deep. Where a part begins, as many parentheses are open
 -- as it may open fewer than sixteen; so where it may open none, sixteen are open, and one more would be too deep. Two readings with
 -- different allowances are alike: they give the same, and end where as many parentheses are open as where they began.
-use mathlib.Core.Path.{◌≡◌, refl, sym, ap, subst, ◌∙◌}
-use mathlib.Core.Bool.{Bool, true, false}
+use mathlib.Core.Path.{◌≡◌, refl, sym, ap, subst}
+use mathlib.Core.Bool.{Bool, false}
 use mathlib.Core.List.{List}
 use Prim.Native.Nat.{ℕ, zero, suc, ◌+◌, ◌-◌, ◌≤◌}
 use native.Mathlib.Omega.{arith}

@@ -1,9 +1,9 @@
 -- A symbol that was found ends past the offset where it was looked for, and within the text. So what reads on after it has
 -- less text before it.
-use mathlib.Core.Path.{◌≡◌, refl, sym, ap, ◌∙◌}
+use mathlib.Core.Path.{◌≡◌, refl}
 use mathlib.Core.Bool.{Bool, true, false}
-use mathlib.Core.List.{List, [], ◌∷◌}
-use Prim.Native.Nat.{ℕ, ◌+◌, ◌-◌, ◌<◌, ◌≤◌}
+use mathlib.Core.List.{List}
+use Prim.Native.Nat.{ℕ, ◌+◌, ◌<◌, ◌≤◌}
 use Prim.Native.Char.{code}
 use native.Mathlib.Omega.{arith}
 use lib.Dec.{leb, ltb, eqb}
@@ -11,7 +11,7 @@ use lib.ListN.{length, get_or}
 use borrow.Author.Tests.{leb-true, leb-false, ltb-true, eqb-true, eqb-false}
 use Rattle.basis.specs.Choice.{pick}
 use Rattle.basis.specs.Letters.{bytes}
-use Rattle.numerals.specs.Reading.{Number, numeral_at}
+use Rattle.numerals.specs.Reading.{numeral_at}
 use Rattle.numerals.proofs.Positions.{within}
 use Rattle.numerals.proofs.Stretches.{stretch_le, stretch_lt}
 use Rattle.numerals.proofs.Powers.{widened}

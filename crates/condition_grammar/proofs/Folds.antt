@@ -1,7 +1,7 @@
 -- Every instance of the grammar is the fold of the tree: where the operations of an instance meet those of a function on
 -- trees, what the grammar gives at the instance is that function of what it gives at trees. By one induction on the depth,
 -- and on the count of each loop.
-use mathlib.Core.Path.{◌≡◌, refl, sym, ap, ◌∙◌}
+use mathlib.Core.Path.{◌≡◌, refl, ap}
 use mathlib.Core.Bool.{Bool}
 use mathlib.Core.List.{List}
 use Prim.Native.Nat.{ℕ, zero, suc, ◌-◌}

@@ -10,7 +10,7 @@ use lib.Dec.{leb, ltb, eqb}
 use lib.ListN.{length, get_or}
 use borrow.Author.Tests.{leb-true, ltb-true, eqb-true, eqb-false}
 use Rattle.basis.specs.Letters.{bytes}
-use Rattle.numerals.specs.Reading.{numeral_at, at}
+use Rattle.numerals.specs.Reading.{numeral_at}
 use Rattle.numerals.proofs.Positions.{within}
 use Rattle.value.specs.declared.Kind.{Kind}
 use Rattle.value.specs.declared.Kind.TheVariants as K

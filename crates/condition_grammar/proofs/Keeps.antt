@@ -1,6 +1,5 @@
 -- One reading principle: what holds of whatever each operation gives holds of whatever was read. By one induction on the depth,
 -- and on the count of each loop.
-use mathlib.Core.Path.{◌≡◌, refl}
 use mathlib.Core.Bool.{Bool, true, false}
 use mathlib.Core.List.{List}
 use Prim.Native.Nat.{ℕ, zero, suc, ◌-◌, ◌<◌}
@@ -24,7 +23,7 @@ use Rattle.condition_symbols.specs.declared.Held.TheVariants as H
 use Rattle.condition_symbols.specs.declared.Multiplier.{Multiplier}
 use Rattle.condition_symbols.specs.declared.Multiplier.TheVariants as T
 use Rattle.condition_grammar.specs.Grammar.{Parsed, none, got, then, past_mark, operated, scaled, started, holding, closed_at, many, repeated, Parts, Inside, inner, condition, condition_in, condition_more_in, clause_in, clause_more_in, test_in, sum_in, sum_more_in, term_in, term_more_in, factor_in, held_in}
-use Rattle.condition_grammar.specs.Trees.{Tree, leaf, one, two, cast, times, trees, whole_text, parse}
+use Rattle.condition_grammar.specs.Trees.{Tree, leaf, one, two, cast, times, trees, parse}
 
 -- what each operation of an instance keeps; a whole number that was read is below 1,000,000
 pub record Keeps (X C : Type 0) (P : Parts X C) (Q : X → Type 0) : Type 0 where

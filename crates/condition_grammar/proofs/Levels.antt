@@ -1,7 +1,7 @@
 -- How many parentheses are open at an offset, outside quotes: each symbol leaves that number as it was, an opening parenthesis raises
 -- it by one, and a closing one lowers it by one. In a text that is not too deep it stays within the bound.
 use mathlib.Core.Path.{◌≡◌, refl, sym, ap, subst, ◌∙◌}
-use mathlib.Core.Bool.{Bool, true, false, not}
+use mathlib.Core.Bool.{Bool, true, false}
 use mathlib.Core.List.{List, [], ◌∷◌}
 use Prim.Native.Nat.{ℕ, zero, suc, ◌+◌, ◌-◌, ◌*◌, ◌<◌, ◌≤◌}
 use Prim.Native.Char.{code}
@@ -14,7 +14,6 @@ use Rattle.basis.specs.Choice.{pick, both}
 use Rattle.basis.specs.Letters.{bytes}
 use Rattle.numerals.specs.Reading.{Number, is_digit, number, numeral_at}
 use Rattle.numerals.proofs.Stretches.{a_digit}
-use Rattle.value.specs.declared.Kind.{Kind}
 use Rattle.condition_words.specs.Words.{letter, belongs, stretch_end_in, stretch_end, skipped, word_at, same}
 use Rattle.condition_depth.specs.Depth.{deep, deep_from, max_depth}
 use Rattle.condition_symbols.specs.Symbols as the
