@@ -52,7 +52,7 @@ unfolding casts_to casts_across every
 cast_moment j k m c = go (same_kind j k) refl c
   where
     go : (b : Bool) → same_kind j k ≡ b → pick b true (casts_across j k) ≡ true → is_moment k ≡ true
-    go true e h = ap is_moment (sym (same_kind j k e)) ∙ m
+    go true e h = ap is_moment (sym (same_kind_lem j k e)) ∙ m
     go false e h = both_left _ _ (both_right _ _ h)
 
 -- a kind without year, month and day casts to itself alone

@@ -1,5 +1,6 @@
 // Which kind casts to which, and what it keeps.
 #![tactic(auto)]
+
 ghost use Rattle.std.specs.Prelude.{◌≡◌, true};
 ghost use Rattle.basis.specs.Choice.{pick};
 ghost use Rattle.operation_casting.specs.Casts as the;
