@@ -1,5 +1,6 @@
 // The checks of the parts that were found in a text, in document 01's order.
 #![tactic(auto)]
+
 ghost use Rattle.std.specs.Prelude.{◌≡◌, true, ◌<◌};
 ghost use Rattle.basis.specs.Answer.{gives, refuses};
 ghost use Rattle.value.specs.Bounds.{second_ticks};
