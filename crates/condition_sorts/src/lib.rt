@@ -1,5 +1,6 @@
 // What the text alone settles of a condition's parts: which kinds fit each operation (document 01, "Conditions").
 #![tactic(auto)]
+
 ghost use Rattle.std.specs.Prelude.{◌≡◌};
 ghost use Rattle.condition_sorts.specs.Sorts as the;
 
