@@ -21,7 +21,7 @@ use Rattle.value_instants.proofs.Within.{east_to, west_to}
 use Rattle.numerals.specs.Reading.{is_digit, number, numeral_at, at, fraction_digits, fraction_at}
 use Rattle.numerals.specs.Writing.{digits}
 use Rattle.numerals.proofs.Positions.{cell, head, beyond, none_left, some_left}
-use Rattle.numerals.proofs.Stretches.{is_digit}
+use Rattle.numerals.proofs.Stretches.{is_digit_lem}
 use Rattle.numerals.proofs.Decimals.{length_digits, two_cells, four_pairs, digits_stretch}
 use Rattle.numerals.proofs.Stripping.{strip_some}
 use Rattle.numerals.proofs.Fractions.{kept, kept_length, fraction_back}

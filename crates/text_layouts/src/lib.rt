@@ -1,5 +1,6 @@
 // Dates, times and dateTimes from text and to text, by the layout of their kind.
 #![tactic(auto)]
+
 ghost use Rattle.std.specs.Prelude.{◌≡◌, true};
 ghost use Rattle.value.specs.Values.{ok_time_part};
 ghost use Rattle.value.specs.Kinds.{meaning};
