@@ -1,5 +1,6 @@
 // What a value is ordered by: a whole number, as one span less another.
 #![tactic(auto)]
+
 ghost use Rattle.std.specs.Prelude.{◌≡◌, true, ◌+◌};
 ghost use Rattle.basis.specs.Answer.{gives, refuses};
 ghost use Rattle.value.specs.Values.{ok_offset};
