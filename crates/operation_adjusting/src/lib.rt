@@ -1,5 +1,6 @@
 // A value in another zone, or in none.
 #![tactic(auto)]
+
 ghost use Rattle.std.specs.Prelude.{◌≡◌, true, ◌*◌, ◌<◌, ◌≤◌, ◌^◌};
 ghost use Rattle.value.specs.Bounds.{second_ticks, minute_seconds, max_zone};
 ghost use Rattle.value.specs.Values.{ok_offset, ok_date_time, ok_day_time};
