@@ -1,14 +1,12 @@
 -- What a lent room holds afterwards: as it was after a refusal, else the text and after it the bytes that stood there.
-use mathlib.Core.Path.{◌≡◌, refl, ap, sym, ◌∙◌}
-use mathlib.Core.Bool.{Bool, true, false}
+use mathlib.Core.Path.{◌≡◌, ap, sym, ◌∙◌}
+use mathlib.Core.Bool.{true, false}
 use mathlib.Core.List.{List, ◌++◌}
 use Prim.Native.Nat.{ℕ, ◌≤◌, ◌<◌}
 use native.Mathlib.Omega.{arith}
-use lib.Dec.{leb}
-use lib.ListN.{length, take, drop}
-use lib.Seq.{take-length}
+use lib.ListN.{length, drop}
 use borrow.Author.Tests.{le-leb, lt-leb}
-use Rattle.basis.specs.Answer.{Answer, gives, refuses}
+use Rattle.basis.specs.Answer.{gives, refuses}
 use Rattle.value.specs.Refusals.{no_room, outside}
 use Rattle.value.specs.Kinds.{ok_value}
 use Rattle.value.specs.declared.Value.{Value}
@@ -29,12 +27,12 @@ module _ (v : Value) (room : List ℕ) where
       let l = lt-leb (length (text_of v)) (length room) (omega arith) in
       (rw (e, l), rw (e, l))
 
-  pub copied : ok_value v ≡ true → (n : ℕ) → n ≡ length (text_of v) → n ≤ length room → (exit s : List ℕ) → s ≡ text_of v
-      → exit ≡ take (length s) s ++ drop (length s) room → (gives n ≡ written v (length room)) × (exit ≡ after_write v room)
+  pub copied : ok_value v ≡ true → (n : ℕ) → n ≡ length (text_of v) → n ≤ length room → (s : List ℕ) → s ≡ text_of v
+      → (gives n ≡ written v (length room)) × (s ++ drop n room ≡ after_write v room)
   unfolding written after_write
-  copied e n en h exit s es x =
+  copied e n en h s es =
       let l = le-leb (length (text_of v)) (length room) (omega arith) in
-      (rw (e, l, en), x ∙ rw (e, l, take-length s, es))
+      (rw (e, l, en), rw (e, l, es, en))
 
 -- a text's length is that of its bytes, and its array is at least as long
 pub own_length : (t : Text) (w : List ℕ) → Holds t.bytes t.len w → (t.len ≡ length (text_in t)) × (t.len ≤ length t.bytes)

@@ -1,5 +1,6 @@
 // Values from text and to text: the two calls of document 01 over the five kinds.
 #![tactic(auto)]
+
 ghost use Rattle.std.specs.Prelude.{◌≡◌, true, length};
 ghost use Rattle.basis.specs.Answer.{refuses};
 ghost use Rattle.value.specs.Kinds as kinds;
@@ -70,6 +71,6 @@ pub fn write(v: Value, room: &mut [u8]) -> Written
     if room.len() < n {
         return refused(Refusal::NO_ROOM);
     }
-    bytes::copy(&bytes[..n], room);
+    room[..n].copy_from_slice(&bytes[..n]);
     Written::Length(n)
 }
