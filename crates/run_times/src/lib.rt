@@ -1,6 +1,7 @@
 // A run of departures over spans (document 02, b): its occurrences and its refusals. Nothing divides ticks, and nothing walks over
 // occurrences.
 #![tactic(auto)]
+
 ghost use Rattle.std.specs.Prelude.{◌≡◌, ◌+◌, ◌≤◌, ltb};
 ghost use Rattle.basis.specs.Answer.{refuses};
 ghost use Rattle.value.specs.Carried.{span_of};
