@@ -1,6 +1,7 @@
 // The operations of document 01 on values: order, sums and differences, products, casts, adjustment to a zone.
 // Each call checks what it is given (16), then the kinds (9), an adjustment's zone (5), and the result (4).
 #![tactic(auto)]
+
 ghost use Rattle.std.specs.Prelude.{◌≡◌};
 ghost use Rattle.value.specs.Kinds.{meaning};
 ghost use Rattle.value_instants.specs.Ticks.{utc};
