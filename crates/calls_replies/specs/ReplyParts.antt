@@ -1,6 +1,6 @@
 -- docs/LINES.md, "The calculator": components are `name=number` pairs with one space between them, those that the kind has, in
 -- the order `year month day hours minutes seconds zone`; of either duration kind all six.
-use Rattle.std.specs.Prelude.{Bool, true, false, List, [], ◌∷◌, ◌++◌, ℕ, ◌+◌, ℤ, pos, negsuc, nat_abs}
+use Rattle.std.specs.Prelude.{Bool, true, false, List, [], ◌∷◌, ◌++◌, ℕ, ℤ, pos, negsuc, nat_abs}
 use Prim.Native.Char.{code}
 use Prim.Native.String.{String}
 use Rattle.basis.specs.Choice.{pick}
