@@ -1,11 +1,11 @@
 -- Which call of the desk a line is: what the tests on the way say, as equations of the definitions.
-use mathlib.Core.Path.{◌≡◌, ap, sym, refl, ◌∙◌}
+use mathlib.Core.Path.{◌≡◌, ap, sym, ◌∙◌}
 use mathlib.Core.Bool.{Bool, true, false, not}
 use mathlib.Core.List.{List}
 use Prim.Native.Nat.{ℕ}
 use Rattle.basis.specs.Choice.{pick}
 use Rattle.basis.specs.Letters.{bytes}
-use Rattle.basis.proofs.Tests.{no, yes}
+use borrow.Author.Tests.{not-true, not-false}
 use Rattle.timetable.specs.Fields.{field_at, has_field}
 use Rattle.condition_words.specs.Words.{same}
 use Rattle.line_fields.specs.Numbers.{number_of}
@@ -20,11 +20,11 @@ module _ (line : List ℕ) {n : FieldNumber} {f : List ℕ} (ef : f ≡ field_at
 
   pub no_number : not n.good ≡ true → 0 ≡ close_by line
   unfolding close_by
-  no_number q = second_of {b = (number_of four_bytes (field_at line 2)).good} (pick (has_field line 3) 0 3) 0 (good ∙ no refl q)
+  no_number q = second_of {b = (number_of four_bytes (field_at line 2)).good} (pick (has_field line 3) 0 3) 0 (good ∙ not-true _ q)
 
   pub one_number : not n.good ≡ false → {h : Bool} {r : ℕ} → h ≡ has_field line 3 → r ≡ pick h 0 3 → r ≡ close_by line
   unfolding close_by
-  one_number q eh er = er ∙ (λ i. pick (eh i) 0 3) ∙ first_of {b = (number_of four_bytes (field_at line 2)).good} (pick (has_field line 3) 0 3) 0 (good ∙ yes refl q)
+  one_number q eh er = er ∙ (λ i. pick (eh i) 0 3) ∙ first_of {b = (number_of four_bytes (field_at line 2)).good} (pick (has_field line 3) 0 3) 0 (good ∙ not-false _ q)
 
 module _ (line w : List ℕ) where
   abbrev turn : ℕ

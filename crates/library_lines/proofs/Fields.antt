@@ -1,14 +1,13 @@
 -- Numbers with a sign, zones and records read from fields: what the tests on the way say, as equations of the definitions.
-use mathlib.Core.Path.{◌≡◌, ap, sym, subst, refl, ◌∙◌}
+use mathlib.Core.Path.{◌≡◌, ap, sym, subst, ◌∙◌}
 use mathlib.Core.Bool.{Bool, true, false, not}
 use mathlib.Core.List.{List, [], ◌∷◌}
 use Prim.Native.Nat.{ℕ, ◌+◌, ◌≤◌}
 use lib.Dec.{eqb}
 use lib.ListN.{length}
-use borrow.Author.Tests.{eq-eqb, ne_eqb}
+use borrow.Author.Tests.{eq-eqb, ne_eqb, not-true, not-false}
 use Rattle.basis.specs.Choice.{pick, every}
 use Rattle.basis.specs.Letters.{bytes}
-use Rattle.basis.proofs.Tests.{no, yes}
 use Rattle.timetable.specs.Fields.{field_at, has_field}
 use Rattle.numerals.specs.Reading.{at}
 use Rattle.condition_words.specs.Words.{between, same}
@@ -131,22 +130,22 @@ moment_read line i eg ep ed et efz ez =
 
 -- ---- records
 pub no_moment : (k : Kind) (m : Moment) → not m.good ≡ true → G.No ≡ given_moment k m
-no_moment k m q = second_of {b = m.good} (G.Is (VV.Moment k m.parts)) G.No (no refl q)
+no_moment k m q = second_of {b = m.good} (G.Is (VV.Moment k m.parts)) G.No (not-true _ q)
 
 pub is_moment_lem : (k : Kind) (m : Moment) → not m.good ≡ false → G.Is (VV.Moment k m.parts) ≡ given_moment k m
-is_moment_lem k m q = first_of {b = m.good} (G.Is (VV.Moment k m.parts)) G.No (yes refl q)
+is_moment_lem k m q = first_of {b = m.good} (G.Is (VV.Moment k m.parts)) G.No (not-false _ q)
 
 pub no_day_time : (n : LastingGiven) → not n.good ≡ true → G.No ≡ given_day_time n
-no_day_time n q = second_of {b = n.good} (G.Is (VV.DayTime (day_time_in n))) G.No (no refl q)
+no_day_time n q = second_of {b = n.good} (G.Is (VV.DayTime (day_time_in n))) G.No (not-true _ q)
 
 pub is_day_time : (n : LastingGiven) → not n.good ≡ false → G.Is (VV.DayTime (day_time_in n)) ≡ given_day_time n
-is_day_time n q = first_of {b = n.good} (G.Is (VV.DayTime (day_time_in n))) G.No (yes refl q)
+is_day_time n q = first_of {b = n.good} (G.Is (VV.DayTime (day_time_in n))) G.No (not-false _ q)
 
 pub no_year_month : (n : Signed) → not n.good ≡ true → G.No ≡ given_year_month n
-no_year_month n q = second_of {b = n.good} (G.Is (VV.YearMonth (record { negative = n.negative; months = n.value }))) G.No (no refl q)
+no_year_month n q = second_of {b = n.good} (G.Is (VV.YearMonth (record { negative = n.negative; months = n.value }))) G.No (not-true _ q)
 
 pub is_year_month : (n : Signed) → not n.good ≡ false → G.Is (VV.YearMonth (record { negative = n.negative; months = n.value })) ≡ given_year_month n
-is_year_month n q = first_of {b = n.good} (G.Is (VV.YearMonth (record { negative = n.negative; months = n.value }))) G.No (yes refl q)
+is_year_month n q = first_of {b = n.good} (G.Is (VV.YearMonth (record { negative = n.negative; months = n.value }))) G.No (not-false _ q)
 
 module _ (line : List ℕ) (i : ℕ) {r g : GivenRecord} {h : Bool} (er : r ≡ unless_more h g) where
   pub by_moment : (k : Kind) {m : Moment} → h ≡ has_field line (i + 6) → m ≡ moment_at line i → g ≡ given_moment k m → r ≡ moment_by k line i
