@@ -1,6 +1,6 @@
 -- A field of a row: of a plain line it is what document 01 says, and rows with the same texts, but for blanks round them, have the same
 -- fields.
-use mathlib.Core.Path.{◌≡◌, ◌∙◌}
+use mathlib.Core.Path.{◌≡◌}
 use mathlib.Core.Bool.{Bool, true, false, not}
 use mathlib.Core.List.{List}
 use Prim.Native.Nat.{ℕ, ◌≤◌, ◌<◌}

@@ -1,7 +1,7 @@
 -- Document 01, "Conditions" and "Refusal numbers", and document 02, b: a field of a row, read as a kind.
 use Rattle.std.specs.Prelude.{List, map, ℕ}
 use Rattle.basis.specs.Choice.{pick}
-use Rattle.basis.specs.Answer.{Answer, gives, refuses}
+use Rattle.basis.specs.Answer.{Answer, refuses}
 use Rattle.value.specs.Refusals.{no_field}
 use Rattle.value.specs.declared.Kind.{Kind}
 use Rattle.value.specs.declared.Value.{Value}

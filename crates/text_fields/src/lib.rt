@@ -1,6 +1,7 @@
 // A field of a row, read as a kind (document 01, "Conditions"; document 02, b). In code a row is a line with a made text beside it: the
 // text of its second field, empty for none. No line is copied.
 #![tactic(auto)]
+
 ghost use Rattle.std.specs.Prelude.{◌≡◌};
 ghost use Rattle.value.specs.Kinds.{meaning};
 ghost use Rattle.timetable.specs.Rows.{row_with};
