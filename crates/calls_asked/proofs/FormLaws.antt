@@ -23,13 +23,13 @@ module _ (line : List ℕ) (n : ℕ) (h : 1 ≤ n) where
   has_field_lem = rw (le-leb 1 n h)
 
 module _ (line : List ℕ) (n : ℕ) (h : 1 ≤ n) {t : Bool} (e : t ≡ has_field line n) where
-  pub too_few : not t ≡ true → false ≡ exactly line n
+  pub too_few : t ≡ false → false ≡ exactly line n
   unfolding exactly
   too_few q =
       let l : length (fields_of line) < n = leb-false n _ (sym (has_field_lem line n h) ∙ no e q) in
       sym (ne_eqb (length (fields_of line)) n (λ x. omega arith))
 
-  pub enough : not t ≡ false → {u : Bool} → u ≡ has_field line (n + 1) → not u ≡ exactly line n
+  pub enough : t ≡ true → {u : Bool} → u ≡ has_field line (n + 1) → not u ≡ exactly line n
   unfolding exactly
   enough q {u} f =
       let l : n ≤ length (fields_of line) = leb-true n _ (sym (has_field_lem line n h) ∙ yes e q) in
@@ -45,36 +45,36 @@ names line i ef en ey = sym ey ∙ en ∙ ap named ef
 
 module _ (line : List ℕ) {t : Bool} where
   module _ (o : One) (e : t ≡ exactly line 3) where
-    pub no_one : not t ≡ true → F.No ≡ one_form line o
+    pub no_one : t ≡ false → F.No ≡ one_form line o
     unfolding one_form
     no_one q = sym (λ i. pick (no e q i) (one_by o (named (field_at line 2))) F.No)
 
-    pub is_one : not t ≡ false → {y : Named} → y ≡ named (field_at line 2) → one_by o y ≡ one_form line o
+    pub is_one : t ≡ true → {y : Named} → y ≡ named (field_at line 2) → one_by o y ≡ one_form line o
     unfolding one_form
     is_one q ey = ap (one_by o) ey ∙ sym (λ i. pick (yes e q i) (one_by o (named (field_at line 2))) F.No)
 
   module _ (o : Two) (e : t ≡ exactly line 5) where
-    pub no_two : not t ≡ true → F.No ≡ two_form line o
+    pub no_two : t ≡ false → F.No ≡ two_form line o
     unfolding two_form
     no_two q = sym (λ i. pick (no e q i) (two_by o (named (field_at line 2)) (named (field_at line 4))) F.No)
 
-    pub is_two : not t ≡ false → {y z : Named} → y ≡ named (field_at line 2) → z ≡ named (field_at line 4) → two_by o y z ≡ two_form line o
+    pub is_two : t ≡ true → {y z : Named} → y ≡ named (field_at line 2) → z ≡ named (field_at line 4) → two_by o y z ≡ two_form line o
     unfolding two_form
     is_two q ey ez = (λ i. two_by o (ey i) (ez i)) ∙ sym (λ i. pick (yes e q i) (two_by o (named (field_at line 2)) (named (field_at line 4))) F.No)
 
   module _ (e : t ≡ exactly line 4) where
-    pub no_product : not t ≡ true → F.No ≡ product_form line
+    pub no_product : t ≡ false → F.No ≡ product_form line
     unfolding product_form
     no_product q = sym (λ i. pick (no e q i) (product_by (is_whole (field_at line 4)) (named (field_at line 2))) F.No)
 
-    pub is_product : not t ≡ false → {b : Bool} {y : Named} → b ≡ is_whole (field_at line 4) → y ≡ named (field_at line 2) → product_by b y ≡ product_form line
+    pub is_product : t ≡ true → {b : Bool} {y : Named} → b ≡ is_whole (field_at line 4) → y ≡ named (field_at line 2) → product_by b y ≡ product_form line
     unfolding product_form
     is_product q eb ey = (λ i. product_by (eb i) (ey i)) ∙ sym (λ i. pick (yes e q i) (product_by (is_whole (field_at line 4)) (named (field_at line 2))) F.No)
 
-    pub no_cast : not t ≡ true → F.No ≡ cast_form line
+    pub no_cast : t ≡ false → F.No ≡ cast_form line
     unfolding cast_form
     no_cast q = sym (λ i. pick (no e q i) (cast_by (named (field_at line 2)) (named (field_at line 4))) F.No)
 
-    pub is_cast : not t ≡ false → {y z : Named} → y ≡ named (field_at line 2) → z ≡ named (field_at line 4) → cast_by y z ≡ cast_form line
+    pub is_cast : t ≡ true → {y z : Named} → y ≡ named (field_at line 2) → z ≡ named (field_at line 4) → cast_by y z ≡ cast_form line
     unfolding cast_form
     is_cast q ey ez = (λ i. cast_by (ey i) (ez i)) ∙ sym (λ i. pick (yes e q i) (cast_by (named (field_at line 2)) (named (field_at line 4))) F.No)

@@ -1,5 +1,6 @@
 // Which call a line of the calculator is, with the kinds that it names.
 #![tactic(auto)]
+
 use value::Kind;
 
 pub mod forms; // forms.rt: which call a line is
