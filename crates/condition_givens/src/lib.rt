@@ -1,5 +1,6 @@
 // What a part of a condition gives, and what a literal and a field of a row give, checked or evaluated (document 01, "Conditions").
 #![tactic(auto)]
+
 ghost use Rattle.std.specs.Prelude.{◌≡◌};
 ghost use Rattle.value.specs.Kinds.{meaning};
 ghost use Rattle.basis.specs.Answer.{refuses};

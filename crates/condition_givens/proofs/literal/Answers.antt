@@ -1,0 +1,10 @@
+use Rattle.condition_givens.proofs.literal.Goals as goal
+
+pub returns-in-Check : goal.returns-in-Check
+returns-in-Check c = rw (c.in-Check.is, ← c.cut.ensures, ← c.read.ensures) c.bad.ensures
+
+pub returns-in-Live : goal.returns-in-Live
+returns-in-Live c = rw (c.in-Live.is, ← c.cut-in-Live.ensures, ← c.read-in-Live.ensures) c.valued.ensures
+
+pub returns-in-Dead : goal.returns-in-Dead
+returns-in-Dead c = rw c.in-Dead.is
