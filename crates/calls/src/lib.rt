@@ -1,5 +1,6 @@
 // One library call as a line of text, and the text of its answer (docs/LINES.md, "The calculator").
 #![tactic(auto)]
+
 ghost use Rattle.std.specs.Prelude.{◌≡◌, leb, length};
 ghost use Rattle.calls_replies.specs.Replies.{reply_of};
 ghost use Rattle.calls.specs.Answers as the;
