@@ -1,5 +1,6 @@
 // The parts of a condition: a part's sort and what it gives, together, and the operations on them.
 #![tactic(auto)]
+
 use condition_givens::Given;
 use condition_sorts::Sort;
 

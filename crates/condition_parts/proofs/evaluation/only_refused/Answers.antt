@@ -1,0 +1,13 @@
+use Rattle.condition_parts.proofs.evaluation.only_refused.Goals as goal
+
+pub returns-in-Nothing : goal.returns-in-Nothing
+returns-in-Nothing c = rw c.in-Nothing.is
+
+pub returns-in-Is : goal.returns-in-Is
+returns-in-Is c = rw c.in-Is.is
+
+pub returns-in-Truth : goal.returns-in-Truth
+returns-in-Truth c = rw c.in-Truth.is
+
+pub returns-in-Refused : goal.returns-in-Refused
+returns-in-Refused c = rw c.in-Refused.is
