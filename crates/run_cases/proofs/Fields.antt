@@ -117,7 +117,7 @@ read_as_lem zone line x = go (fields_read line) refl
 pub read_spans_good : (zone : Offset) (line : List ℕ) (x : RunSpans) → ok_offset zone ≡ true → gives x ≡ spans_read zone (fields_read line)
     → GoodSpans x.run x.zone
 read_spans_good zone line x o e =
-    let r = read_as zone line x e in
+    let r = read_as_lem zone line x e in
     subst (λ (y : RunSpans). GoodSpans y.run y.zone) (sym r.spans) (spans_good zone r.fields o (fields_good line r.fields r.read))
 
 pub read_refused : (zone : Offset) (line : List ℕ) (why : Reason) → refuses_for why ≡ spans_read zone (fields_read line) → fields_read line ≡ refuses_for why

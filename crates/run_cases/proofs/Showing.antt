@@ -141,7 +141,7 @@ module _ (r : CaseAtPlace) (zone : Offset) (line : List ℕ) (p : ℕ) where
   pub run_shown : (x : RunSpans) → is_run line ≡ true → gives x ≡ spans_read zone (fields_read line) → ShowsRun r x.run x.zone p
       → Shows r line (stands_for zone line) p
   run_shown x e h s =
-      let a = read_as zone line x h in
+      let a = read_as_lem zone line x h in
       as_cases (run_cases zone line (and_then (run_checked (times_in zone a.fields)) (λ good. gives a.fields)))
       (is_run_line zone line e ∙ ap (run_cases zone line) (run_of_read zone line a.fields a.read))
       (s zone line a.fields a.spans)

@@ -1,5 +1,6 @@
 // What a line stands for, at a place (document 02, b, "Runs of departures"): its own fields, an occurrence of a run, a miss, or a refusal.
 #![tactic(auto)]
+
 ghost use Rattle.std.specs.Prelude.{◌≡◌, true, ◌<◌};
 ghost use Rattle.value.specs.Values.{ok_offset, ok_date_time};
 ghost use Rattle.text.specs.Alike.{moment_of};
@@ -32,7 +33,7 @@ pub enum CaseRead {
 }
 
 // That, the made text of the row's second field (empty for none), and whether the line has a case at the next place.
-#[derive(Clone, Copy)]
+#[derive(Drop)]
 pub struct CaseAtPlace {
     pub read: CaseRead,
     pub made: Text,
@@ -40,7 +41,7 @@ pub struct CaseAtPlace {
 }
 
 // The times of a dateTime, and its own zone.
-#[derive(Drop)]
+#[derive(Clone, Copy)]
 pub struct Timed {
     pub local: Span,
     pub instant: Span,
