@@ -41,7 +41,7 @@ use Rattle.calls_asked.specs.Asked.{exactly, one_form, two_form, pair_by, form_b
 use Rattle.calls_replies.specs.Replies.{number_text}
 use Rattle.calls_cases.specs.Table.{TableRow, no_row, table, row_holds, tests, all_hold}
 
-pub all_hold : all_hold ≡ true
+pub all_hold_lem : all_hold ≡ true
 unfolding both every total period_of date_of dated_of fields_of has_field field_at onto parted has is_moment is_dated is_clocked of_kind ok_value local_of instant_of in_years placed_at ok_date ok_offset ok_zone ok_time_part ok_date_time ok_signed ok_day_time clock_of same_clock ticks_in is_digit number fraction_at digits shortest decimal kept_digits fraction_text pair_at is_pair with_pair fraction_part zone_signed zone_part four_zeros year_at year_part part_at scanned next_day ok_clock is_day_end clock_ticks good_clock clocked ok_parts zone_is on_calendar bounded judge read_layout pair_of part_text layout_text weight shown shown_all left body duration_text component components shape_from shape counted read_by is_blank leading_blanks untrailed stripped bare read_bare read_as text_of in_ticks in_months at_ticks moved_to moved shifted is_zone adjusted_from moment_to value_to adjust_of up down order_in sum_of plus_of less_moment difference_in minus_in same named one_text two_text answer_by answer_of exactly one_form two_form pair_by form_by form_of number_text refused_text table row_holds tests all_hold
 all_hold_lem = refl
 
