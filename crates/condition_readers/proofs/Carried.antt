@@ -9,7 +9,6 @@ use Rattle.basis.specs.Answer.{Answer, gives, refuses_for, and_then}
 use Rattle.value.specs.declared.Kind.{Kind}
 use Rattle.value.specs.declared.Offset.{Offset}
 use Rattle.timetable.specs.Rows.{Row}
-use Rattle.value.specs.declared.Value.{Value}
 use Rattle.condition_symbols.specs.declared.Op.{Op}
 use Rattle.text.specs.Reading.{read_as}
 use Rattle.text_fields.specs.Fields.{read_field}

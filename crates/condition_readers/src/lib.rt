@@ -3,6 +3,7 @@
 // read or fewer parentheses may be opened (document 01, "Conditions"). Every arm of a `match` on what was read returns: a `match` that has
 // a value has a place for it, and the proof writes out the type of every place at every step.
 #![tactic(auto)]
+
 ghost use Rattle.std.specs.Prelude.{◌≡◌};
 ghost use Rattle.timetable.specs.Rows.{row_with};
 ghost use Rattle.condition_readers.specs.Lengths.{parse_within};
