@@ -4,7 +4,6 @@ use mathlib.Core.List.{List, map}
 use Prim.Native.Nat.{ℕ}
 use Rattle.basis.specs.Answer.{and_then}
 use Rattle.value.specs.declared.Offset.{Offset}
-use Rattle.timetable.specs.Fields.{fields_of}
 use Rattle.timetable.specs.Rows.{Row, row_of}
 use Rattle.timetable.proofs.Rows.{row_texts}
 use Rattle.text_blanks.specs.Blanks.{bare}

@@ -1,5 +1,6 @@
 // Conditions: which texts are accepted, and the result of a condition at a row (document 01, "Conditions"; document 02, b).
 #![tactic(auto)]
+
 ghost use Rattle.std.specs.Prelude.{◌≡◌};
 ghost use Rattle.basis.specs.Answer.{gives, only_number, refuses};
 ghost use Rattle.timetable.specs.Rows.{row_with};
