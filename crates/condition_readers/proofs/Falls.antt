@@ -5,7 +5,6 @@ use mathlib.Core.List.{List}
 use lib.ListN.{length}
 use Prim.Native.Nat.{ℕ, ◌+◌, ◌-◌, ◌*◌, ◌<◌, ◌≤◌}
 use native.Mathlib.Omega.{arith}
-use Rattle.value.specs.declared.Kind.{Kind}
 use Rattle.value.specs.declared.Offset.{Offset}
 use Rattle.timetable.specs.Rows.{Row}
 use Rattle.condition_symbols.specs.Symbols.{comparison_at, start_at, multiplier_at}
@@ -103,20 +102,6 @@ module _ (s : List ℕ) (t : ℕ) (x : Rule) (g : Read) (e : left s g ≡ t) (v 
   falls_more zone d row c f j i k = ends_left s n t j (omega (arith, past, whole)) (omega (arith, past, whole))
       (subst (Ends (length s) n) (sym k) (joined_ends zone (length s) n o v f (subst (Ends (length s) n) (sym i) (operand_ends zone d s row n c x))))
 
--- the operands
-module _ (s : List ℕ) (t at : ℕ) (x : Rule) (e : measure s at (rank x) ≡ t) where
-  ranked : (z : Rule) → x ≡ z → measure s at (rank z) ≡ t
-  ranked z h = subst (λ y. measure s at (rank y) ≡ t) h e
-
-  pub falls_clause : x ≡ Condition → measure s at 6 < t
-  falls_clause h = omega (arith, ranked Condition h)
-
-  pub falls_test : x ≡ Clause → measure s at 4 < t
-  falls_test h = omega (arith, ranked Clause h)
-
-  pub falls_factor : x ≡ Sum → measure s at 1 < t
-  falls_factor h = omega (arith, ranked Sum h)
-
 -- the second sum of a test
 pub falls_second : (zone : Offset) (d : ℕ) (s : List ℕ) (row : Row) (t at n k : ℕ) (m : Mode) (g : Read) (v : Part) (y : Joint) (o : Op) (p : ℕ) → measure s at 4 ≡ t →
     g ≡ chain_read zone d s row Sum at m → g ≡ Got v n → y ≡ comparison_at s n → y ≡ J.At o p k → measure s k 3 < t
@@ -139,13 +124,6 @@ starts_behind s at t (S.Make k p n) e h = omega arith
 
 pub falls_inner : (s : List ℕ) (t at : ℕ) (y : Start) → measure s at 1 ≡ t → y ≡ start_at s at → behind s y < t
 falls_inner s t at y e q = starts_behind s at t y e (subst (PastStart (length s) at) (sym q) (start_past s at))
-
-module _ (s : List ℕ) (t : ℕ) (x : Start) (e : behind s x ≡ t) where
-  pub falls_open : (n : ℕ) → x ≡ S.Open n → measure s n 8 < t
-  falls_open n h = omega (arith, subst (λ y. behind s y ≡ t) h e)
-
-  pub falls_cast : (k : Kind) (p n : ℕ) → x ≡ S.Make k p n → measure s n 3 < t
-  falls_cast k p n h = omega (arith, subst (λ y. behind s y ≡ t) h e)
 
 -- a multiplier
 pub falls_star : (s : List ℕ) (t at n : ℕ) (y : Multiplier) (b : Bool) (k p : ℕ) → length s - at ≡ t → y ≡ multiplier_at s at → y ≡ T.At b k p n → length s - n < t
