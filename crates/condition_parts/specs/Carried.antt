@@ -1,6 +1,6 @@
 -- Carried: a part's sort and what it gives in the mode in which it is read, as functions hand them on. No promise to a
 -- caller rests on it: what a condition gives at a row is stated over Evaluation.antt, and that the code comes to the same is
--- proved (`code-Meets` in crate `condition_readers`).
+-- proved (`code_meets` in crate `condition_readers`).
 use Rattle.std.specs.Prelude.{Bool, List, ℕ}
 use Rattle.basis.specs.Choice.{pick}
 use Rattle.basis.specs.Answer.{Answer}
