@@ -14,7 +14,7 @@ use Rattle.text.specs.Reading.{read_as}
 use Rattle.condition_words.specs.Words.{skipped, between}
 use Rattle.condition_symbols.specs.declared.Op.{Op}
 use Rattle.condition_grammar.specs.Trees.{Tree, Below, leaf, one, two, literal, field, cast, times}
-use Rattle.condition_grammar.specs.Productions.{Spaces, Field, Quoted, quoted, Phrase, Condition, Clause, Test, Sum, Term, Factor, Argument, Derives, one_clause, or_clause, one_test, and_test, one_sum_lem, two_sums, one_term, signed_term, one_factor, times_whole, enclosed, of_kind_lem, a_text, a_field, a_cast, States}
+use Rattle.condition_grammar.specs.Productions.{Spaces, Field, Quoted, quoted, Phrase, Condition, Clause, Test, Sum, Term, Factor, Argument, Derives, one_clause, or_clause, one_test, and_test, lone_sum, two_sums, one_term, signed_term, one_factor, times_whole, enclosed, of_named_kind, a_text, a_field, a_cast, States}
 use Rattle.condition_grammar.proofs.Stretches.{spaces_stand}
 use Rattle.condition_grammar.proofs.Standing.{Operator, or, and, comparison, sign}
 use Rattle.condition_blanks.specs.Literals.{LiteralIn}
@@ -227,7 +227,7 @@ module _ (s r : List ℕ) (from to : ℕ) where
       carry (and_test g x e y) w a' n' pl =
           let q = parted pl (spans x) (word_forward e) (spans y) in
           joined (and e) (spans x) q (carry x w a' q.b' q.left) (carry y w q.c' n' q.right)
-      carry (one_sum_lem x) w a' n' pl = alone (λ u d. one_sum_lem d) (carry x w a' n' pl)
+      carry (lone_sum x) w a' n' pl = alone (λ u d. lone_sum d) (carry x w a' n' pl)
       carry (two_sums g x e y) w a' n' pl =
           let q = parted pl (spans x) (comparison_forward e) (spans y) in
           joined (comparison e) (spans x) q (carry x w a' q.b' q.left) (carry y w q.c' n' q.right)
@@ -251,7 +251,7 @@ module _ (s r : List ℕ) (from to : ℕ) where
           let u = headed q.part (spans x) (omega arith) in
           let c = carry x w q.c' u.b' u.part in
           record { tree = c.tree; derived = enclosed (carry_mark e q.rest).1 c.derived (carry_mark z u.rest).1; same = c.same }
-      carry (of_kind_lem {a = a} {m = l} {c = i} {b = b} {n = n} v e x z) w a' n' pl =
+      carry (of_named_kind {a = a} {m = l} {c = i} {b = b} {n = n} v e x z) w a' n' pl =
           let o : a ≤ l = word_forward v in
           let j : l < i = mark_forward e in
           let k : b < n = mark_forward z in
@@ -260,7 +260,7 @@ module _ (s r : List ℕ) (from to : ℕ) where
           let y = cut q.rest o (omega arith) in
           let m = carry_word v y.left in
           let c = carry x m.0 q.c' u.b' u.part in
-          record { tree = c.tree; derived = of_kind_lem m.1 (carry_mark e y.right).1 c.derived (carry_mark z u.rest).1; same = c.same }
+          record { tree = c.tree; derived = of_named_kind m.1 (carry_mark e y.right).1 c.derived (carry_mark z u.rest).1; same = c.same }
       carry (a_text {w = v} x) w a' n' pl = text_again v w a' n' x pl
       carry (a_field {w = v} x) w a' n' pl = field_again v w a' n' x pl
       carry (a_cast {k = k} x) w a' n' pl = let c = carry x w a' n' (place_below pl) in record { tree = one (cast k) w c.tree; derived = a_cast c.derived; same = ones c.same }

@@ -12,7 +12,7 @@ use Rattle.numerals.specs.Reading.{at}
 use Rattle.value.specs.declared.Kind.{Kind}
 use Rattle.condition_symbols.specs.declared.Op.{Op}
 use Rattle.condition_grammar.specs.Trees.{Tree, Below, leaf, one, two, literal, field}
-use Rattle.condition_grammar.specs.Productions.{OneByte, Word, Field, numbered, Quoted, quoted, Whole, unsigned, signed, Sign, plus, minus, Comparison, eq, ne, lt, le, gt, ge, Phrase, Derives, one_clause, or_clause, one_test, and_test, one_sum_lem, two_sums, one_term, signed_term, one_factor, times_whole, enclosed, of_kind_lem, a_text, a_field, a_cast}
+use Rattle.condition_grammar.specs.Productions.{OneByte, Word, Field, numbered, Quoted, quoted, Whole, unsigned, signed, Sign, plus, minus, Comparison, eq, ne, lt, le, gt, ge, Phrase, Derives, one_clause, or_clause, one_test, and_test, lone_sum, two_sums, one_term, signed_term, one_factor, times_whole, enclosed, of_named_kind, a_text, a_field, a_cast}
 use Rattle.condition_grammar.proofs.Stretches.{digits_from}
 use Rattle.condition_blanks.specs.Literals.{LiteralIn, here, below, left, right}
 
@@ -103,14 +103,14 @@ module _ {s : List ℕ} where
   spans (or_clause g x e y) = spans_two (spans x) (word_forward e) (spans y)
   spans (one_test x) = spans x
   spans (and_test g x e y) = spans_two (spans x) (word_forward e) (spans y)
-  spans (one_sum_lem x) = spans x
+  spans (lone_sum x) = spans x
   spans (two_sums g x e y) = spans_two (spans x) (comparison_forward e) (spans y)
   spans (one_term x) = spans x
   spans (signed_term g x e y) = spans_two (spans x) (sign_forward e) (spans y)
   spans (one_factor x) = spans x
   spans (times_whole {a = a} x e y) = spans_one (spans_wider (spans x) (le_refl a) (omega (arith, mark_forward e, whole_forward y)))
   spans (enclosed e x f) = spans_wider (spans x) (omega (arith, mark_forward e)) (omega (arith, mark_forward f))
-  spans (of_kind_lem w e x f) = spans_wider (spans x) (omega (arith, word_forward w, mark_forward e)) (omega (arith, mark_forward f))
+  spans (of_named_kind w e x f) = spans_wider (spans x) (omega (arith, word_forward w, mark_forward e)) (omega (arith, mark_forward f))
   spans (a_text x) = spans_text x
   spans (a_field x) = record { forward = field_forward x; literals = λ from to l. absurd (at_field l) }
   spans (a_cast x) = spans_one (spans x)

@@ -18,7 +18,7 @@ use Rattle.condition_symbols.specs.declared.Held.TheVariants as H
 use Rattle.condition_symbols.specs.declared.Multiplier.TheVariants as T
 use Rattle.condition_grammar.specs.Grammar.{Parsed, got, closed_at, Inside, inner, condition_in, condition_more_in, clause_in, clause_more_in, test_in, sum_in, sum_more_in, term_in, term_more_in, factor_in, held_in}
 use Rattle.condition_grammar.specs.Trees.{Tree, leaf, one, two, literal, field, cast, times, trees, parse_with}
-use Rattle.condition_grammar.specs.Productions.{Phrase, Condition, Clause, Test, Sum, Term, Factor, Argument, Derives, one_clause, or_clause, one_test, and_test, one_sum_lem, two_sums, one_term, signed_term, one_factor, times_whole, enclosed, of_kind_lem, a_text, a_field, a_cast, States}
+use Rattle.condition_grammar.specs.Productions.{Phrase, Condition, Clause, Test, Sum, Term, Factor, Argument, Derives, one_clause, or_clause, one_test, and_test, lone_sum, two_sums, one_term, signed_term, one_factor, times_whole, enclosed, of_named_kind, a_text, a_field, a_cast, States}
 use Rattle.condition_grammar.specs.Laws.{StatedIsParsed, RefusedStatesNone, OneTree}
 use Rattle.condition_grammar.proofs.Good.{inner_good, condition_more_unfolds, clause_more_unfolds, sum_more_unfolds, term_more_unfolds}
 use Rattle.condition_grammar.proofs.Allowance.{allowance_never_decides}
@@ -35,14 +35,14 @@ parens (one_clause x) = parens x
 parens (or_clause g x e y) = parens x + parens y
 parens (one_test x) = parens x
 parens (and_test g x e y) = parens x + parens y
-parens (one_sum_lem x) = parens x
+parens (lone_sum x) = parens x
 parens (two_sums g x e y) = parens x + parens y
 parens (one_term x) = parens x
 parens (signed_term g x e y) = parens x + parens y
 parens (one_factor x) = parens x
 parens (times_whole x e y) = parens x
 parens (enclosed e x f) = suc (parens x)
-parens (of_kind_lem w e x f) = suc (parens x)
+parens (of_named_kind w e x f) = suc (parens x)
 parens (a_text x) = 0
 parens (a_field x) = 0
 parens (a_cast x) = parens x
@@ -195,7 +195,7 @@ module _ (s : List ℕ) where
   reads (and_test {t = t} {b = b} g x e y) d h r =
       let q : rank s b ≡ 4 = operator_rank s b (and e) in
       reads x d (omega arith) (omega arith) ∙ clause_goes d _ b t _ (spaces_end g) (operator_found (and e)) (reads y d (omega arith) r)
-  reads {n = n} (one_sum_lem {t = t} x) d h r = test_one d _ _ _ (reads x d h (omega arith) ∙ sum_stops d _ n t (operator_none s n Sum (λ e. omega arith))) (operator_none s n Test (λ e. omega arith))
+  reads {n = n} (lone_sum {t = t} x) d h r = test_one d _ _ _ (reads x d h (omega arith) ∙ sum_stops d _ n t (operator_none s n Sum (λ e. omega arith))) (operator_none s n Test (λ e. omega arith))
   reads (two_sums {t = t} {u = u} {b = b} {n = n} g x e y) d h r =
       let q : rank s b ≡ 3 = operator_rank s b (comparison e) in
       test_two d _ _ _ _ (spaces_end g) (reads x d (omega arith) (omega arith) ∙ sum_stops d _ b t (operator_none s b Sum (λ f. omega arith))) (operator_found (comparison e))
@@ -212,8 +212,8 @@ module _ (s : List ℕ) where
   reads (enclosed {t = t} {b = b} e x f) (suc d) h r =
       let q : rank s b ≡ 6 = closing_rank s b f in
       factor_enclosed d _ t b _ (closing_found f) (opening_found e) (reads x d (omega arith) (omega arith) ∙ condition_stops d _ b t (operator_none s b Condition (λ g. omega arith)))
-  reads (of_kind_lem w e x f) zero h r = absurd (omega arith)
-  reads (of_kind_lem {t = t} {b = b} w e x f) (suc d) h r =
+  reads (of_named_kind w e x f) zero h r = absurd (omega arith)
+  reads (of_named_kind {t = t} {b = b} w e x f) (suc d) h r =
       let q : rank s b ≡ 6 = closing_rank s b f in
       factor_of_kind d _ t b _ (closing_found f) (naming_found (record { m = _; q = _; name = w; opening = e })) (reads x d (omega arith) (omega arith))
   reads (a_text x) d h r = argument_text d _ _ _ (quoted_found x)

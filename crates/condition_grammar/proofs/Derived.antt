@@ -24,7 +24,7 @@ use Rattle.condition_symbols.specs.declared.Multiplier.{Multiplier}
 use Rattle.condition_symbols.specs.declared.Multiplier.TheVariants as T
 use Rattle.condition_grammar.specs.Grammar.{Parsed, none, got, then, past_mark, operated, scaled, started, holding, closed_at, many, repeated, Inside, inner, condition_in, condition_more_in, clause_in, clause_more_in, test_in, sum_in, sum_more_in, term_in, term_more_in, factor_in, held_in}
 use Rattle.condition_grammar.specs.Trees.{Tree, two, trees, whole_text, parse, parse_with}
-use Rattle.condition_grammar.specs.Productions.{Spaces, Phrase, Condition, Clause, Test, Sum, Term, Factor, Argument, Derives, one_clause, or_clause, one_test, and_test, one_sum_lem, two_sums, one_term, signed_term, one_factor, times_whole, enclosed, of_kind_lem, a_text, a_field, a_cast, States}
+use Rattle.condition_grammar.specs.Productions.{Spaces, Phrase, Condition, Clause, Test, Sum, Term, Factor, Argument, Derives, one_clause, or_clause, one_test, and_test, lone_sum, two_sums, one_term, signed_term, one_factor, times_whole, enclosed, of_named_kind, a_text, a_field, a_cast, States}
 use Rattle.condition_grammar.specs.Laws.{ParsedIsStated}
 use Rattle.condition_grammar.proofs.Good.{Good, condition_good, inner_good}
 use Rattle.condition_grammar.proofs.Standing.{Operator, or, and, comparison, sign}
@@ -140,7 +140,7 @@ module _ (s : List ℕ) where
     unfolding factor_in
     factor_derived a = started_gives (Of Factor a) (start_at s a) _ _
         (λ n e. then_gives _ (Of Condition n) (i.cond n tt) _ (d.0 n) (λ t m x. closed_gives _ m t (λ j f. enclosed (opening_stands s a e).mark x f.mark)))
-        (λ k w n e. let m = naming_stands s a e in gives_too _ (Closed k w n) (i.held k w n tt) (d.1 k w n) (λ t j x. of_kind_lem m.name m.opening x.argument x.closing.mark))
+        (λ k w n e. let m = naming_stands s a e in gives_too _ (Closed k w n) (i.held k w n tt) (d.1 k w n) (λ t j x. of_named_kind m.name m.opening x.argument x.closing.mark))
 
     term_derived : (a : ℕ) → Gives (Of Term a) (term_in Tree U trees s i a tt)
     unfolding term_in term_more_in
@@ -156,7 +156,7 @@ module _ (s : List ℕ) where
     test_derived : (a : ℕ) → Gives (Of Test a) (test_in Tree U trees s i a tt)
     unfolding test_in
     test_derived a = then_gives _ (Of Sum a) (sum_in Tree U trees s i a tt) _ (sum_derived a)
-        (λ t n x. operated_gives _ (comparison_at s n) _ _ (this _ (one_sum_lem x))
+        (λ t n x. operated_gives _ (comparison_at s n) _ _ (this _ (lone_sum x))
         (λ o p m e. then_gives _ (Of Sum m) (sum_in Tree U trees s i m tt) _ (sum_derived m) (λ u k y. this _ (compared (begins x).spaces x (operator_stands s n Test e) y))))
 
     clause_derived : (a : ℕ) → Gives (Of Clause a) (clause_in Tree U trees s i a tt)

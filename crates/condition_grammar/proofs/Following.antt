@@ -20,7 +20,7 @@ use Rattle.condition_symbols.specs.declared.Joint.TheVariants as J
 use Rattle.condition_symbols.specs.declared.Held.TheVariants as H
 use Rattle.condition_symbols.specs.declared.Multiplier.TheVariants as T
 use Rattle.condition_grammar.specs.Trees.{Tree}
-use Rattle.condition_grammar.specs.Productions.{Spaces, OneByte, Word, plus, minus, eq, ne, lt, le, gt, ge, name_of, Phrase, Condition, Clause, Test, Sum, Term, Factor, Argument, Derives, one_clause, or_clause, one_test, and_test, one_sum_lem, two_sums, one_term, signed_term, one_factor, times_whole, enclosed, of_kind_lem, a_text, a_field, a_cast}
+use Rattle.condition_grammar.specs.Productions.{Spaces, OneByte, Word, plus, minus, eq, ne, lt, le, gt, ge, name_of, Phrase, Condition, Clause, Test, Sum, Term, Factor, Argument, Derives, one_clause, or_clause, one_test, and_test, lone_sum, two_sums, one_term, signed_term, one_factor, times_whole, enclosed, of_named_kind, a_text, a_field, a_cast}
 use Rattle.condition_grammar.proofs.Ends.{picked}
 use Rattle.condition_grammar.proofs.Stretches.{spaces_end, first_of}
 use Rattle.condition_grammar.proofs.Standing.{Operator, or, and, comparison, sign, joint, name_first}
@@ -122,14 +122,14 @@ begins (one_clause x) = begins x
 begins (or_clause g x e y) = begins x
 begins (one_test x) = begins x
 begins (and_test g x e y) = begins x
-begins (one_sum_lem x) = begins x
+begins (lone_sum x) = begins x
 begins (two_sums g x e y) = begins x
 begins (one_term x) = begins x
 begins (signed_term g x e y) = begins x
 begins (one_factor x) = begins x
 begins (times_whole x e y) = begins x
 begins (enclosed e x f) = opening_begins _ _ e
-begins (of_kind_lem {k = k} w e x f) = name_begins _ _ k w
+begins (of_named_kind {k = k} w e x f) = name_begins _ _ k w
 begins (a_text x) = tt
 begins (a_field x) = tt
 begins (a_cast x) = tt

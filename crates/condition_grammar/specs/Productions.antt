@@ -118,7 +118,7 @@ pub data Derives (s : List ℕ) : Phrase → Tree → ℕ → ℕ → Type 0 whe
   and_test : {t u : Tree} {a z b p c n : ℕ} → Spaces s a z → Derives s Clause t a b → Word s "and" b p c → Derives s Test u c n →
       Derives s Clause (two O.And z p t u) a n
   -- "A test is one sum, or two sums with `eq ne lt le gt ge` between."
-  one_sum_lem : {t : Tree} {a n : ℕ} → Derives s Sum t a n → Derives s Test t a n
+  lone_sum : {t : Tree} {a n : ℕ} → Derives s Sum t a n → Derives s Test t a n
   two_sums : {t u : Tree} {o : Op} {a z b p c n : ℕ} → Spaces s a z → Derives s Sum t a b → Comparison s o b p c → Derives s Sum u c n →
       Derives s Test (two o z p t u) a n
   -- "A sum is terms joined by `+` or `-`, taken from the left."
@@ -131,7 +131,7 @@ pub data Derives (s : List ℕ) : Phrase → Tree → ℕ → ℕ → Type 0 whe
       Derives s Term (one (times negative v) p t) a n
   -- "A factor is a condition in parentheses, or `xs:date` .. with, in parentheses,"
   enclosed : {t : Tree} {a p c b q n : ℕ} → OneByte s "(" a p c → Derives s Condition t c b → OneByte s ")" b q n → Derives s Factor t a n
-  of_kind_lem : {k : Kind} {t : Tree} {a p m o c b q n : ℕ} → Word s (name_of k) a p m → OneByte s "(" m o c → Derives s (Argument k p) t c b →
+  of_named_kind : {k : Kind} {t : Tree} {a p m o c b q n : ℕ} → Word s (name_of k) a p m → OneByte s "(" m o c → Derives s (Argument k p) t c b →
       OneByte s ")" b q n → Derives s Factor t a n
   -- "a text in double quotes (no quote inside), a field `$1` to `$16`, or a sum to be cast."
   a_text : {k : Kind} {w from to a n : ℕ} → Quoted s from to a n → Derives s (Argument k w) (leaf k w (literal from to)) a n

@@ -19,7 +19,7 @@ drop_same (suc n) zero x = let e : 0 ≡ 0 - suc n = omega arith in ap (λ (k : 
 drop_same (suc n) (suc m) x = let e : m - n ≡ suc m - suc n = omega arith in drop_same n m x ∙ ap (λ (k : ℕ). replicate k x) e
 
 module _ (s : Seat) (text : List ℕ) where
-  pub no_room : condition_room < length text → s ≡ condition_with s text
+  pub no_room_lem : condition_room < length text → s ≡ condition_with s text
   no_room_lem h = rw (lt-leb (length text) condition_room h)
 
   pub copied_in : length text ≤ condition_room → {c : List ℕ} → c ≡ take (length text) text ++ drop (length text) (replicate condition_room 0)

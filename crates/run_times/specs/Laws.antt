@@ -20,7 +20,7 @@ PassesExactly = (t : Times) → Exactly (some_passes t ≡ true) ((p : ℕ) × (
 abbrev pub LastPasses : Type 0
 LastPasses = (t : Times) (n : ℕ) → n + 1 ≡ count_of t → past_years (local_at_place t n) ≡ some_passes t
 
--- none passes where the last instant, in first's local time, does not; proved as `None-passes`
+-- none passes where the last instant, in first's local time, does not; proved as `none_passes`
 abbrev pub NonePasses : Type 0
 NonePasses = (t : Times) → 0 < t.step → past_years (t.local + (t.last - t.first)) ≡ false → some_passes t ≡ false
 
