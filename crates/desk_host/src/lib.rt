@@ -205,7 +205,7 @@ fn read_input(reader: &mut impl Read, buffer: &mut [u8]) -> usize
 }
 
 // The program over the timetable of a name and the conditions that a reader hands out, to its end.
-pub fn run_over(rt: &(impl Files + Print), name: &[u8], conditions: &mut impl Read) {
+pub fn run_over<R: Files + Print, C: Read>(rt: &R, name: &[u8], conditions: &mut C) {
     let mut timetable = output_pieces::timetable_buffer();
     let long = read_file(rt, name, &mut timetable);
     let mut input = output_pieces::input_buffer();
@@ -214,6 +214,6 @@ pub fn run_over(rt: &(impl Files + Print), name: &[u8], conditions: &mut impl Re
 }
 
 // The whole program.
-pub fn run(rt: &(impl Files + Input + Print)) {
+pub fn run<R: Files + Input + Print>(rt: &R) {
     run_over(rt, b"timetable.tsv", &mut rt.reader());
 }

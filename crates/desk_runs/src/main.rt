@@ -12,7 +12,7 @@ use timetable_reader::read_line;
 const MAX_INPUT: usize = 4_096;
 
 // Runs the program over the two files that a line names, below that line.
-fn run_case(rt: &(impl Files + Print), line: &[u8]) {
+fn run_case<R: Files + Print>(rt: &R, line: &[u8]) {
     let _ = rt.write_all(b"case\t");
     let _ = rt.write_all(line);
     let _ = rt.write_all(b"\n");
@@ -24,7 +24,7 @@ fn run_case(rt: &(impl Files + Print), line: &[u8]) {
 }
 
 // Runs the cases in order.
-fn run_all(rt: &(impl Files + Print), cases: &[u8]) {
+fn run_all<R: Files + Print>(rt: &R, cases: &[u8]) {
     let mut at = 0;
     while at < cases.len() {
         let line = read_line(cases, at);
