@@ -2,6 +2,7 @@
 // value and hands the next one back beside its answer; a refused call hands back the desk it got. One seat by itself is the
 // crate `desk_seat`.
 #![tactic(auto)]
+
 ghost use Rattle.std.specs.Prelude.{◌≡◌, true, false, ◌+◌, ◌≤◌, ◌<◌};
 ghost use Rattle.desk_seat.specs.Files.{over};
 ghost use Rattle.desk_seat.specs.Request.{asking};
@@ -17,7 +18,7 @@ use value::Refusal;
 
 pub mod bounds; // bounds.rt: each constant is the number of the definitions
 
-#[derive(Drop)]
+#[derive(Clone, Copy)]
 pub struct Desk {
     pub seats: [Seat; Desk::SEATS],
     pub last_served: usize,

@@ -1,6 +1,7 @@
 // The desk's calls on a desk that is updated where it stands (document 01: the host program "keeps one desk for its whole life").
 // Each calls the method of the crate `desk` by value and stores the desk that it hands back.
 #![tactic(auto)]
+
 ghost use Rattle.std.specs.Prelude.{◌≡◌};
 ghost use Rattle.desk_seat.specs.Files.{over};
 ghost use Rattle.desk_seat.specs.Request.{asking};

@@ -6,7 +6,7 @@ use mathlib.Core.List.{List}
 use Prim.Native.Nat.{ℕ, ◌≤◌}
 use native.Mathlib.Omega.{arith}
 use lib.ListN.{length}
-use Rattle.basis.specs.Answer.{Reason, Answer, gives, refuses_for}
+use Rattle.basis.specs.Answer.{Reason, gives, refuses_for}
 use Rattle.value.specs.Reasons.{reason_of}
 use Rattle.value.specs.declared.Refusal.{Refusal}
 use Rattle.condition.specs.Condition.{checked}

@@ -9,7 +9,6 @@ use borrow.Author.Tests.{lt-ltb, le-ltb, ltb-true, ltb-false}
 use lib.Dec.{ltb}
 use lib.ListN.{length}
 use Rattle.basis.specs.Choice.{pick}
-use Rattle.value.specs.Values.{ok_offset}
 use Rattle.value_instants.specs.Ticks.{utc}
 use Rattle.numerals.specs.Carried.{text_in}
 use Rattle.timetable.specs.Lines.{next_line, line_at}

@@ -6,7 +6,7 @@ use Prim.Native.Nat.{ℕ, zero, suc, ◌+◌, ◌*◌, ◌≤◌, ◌<◌}
 use native.Mathlib.Omega.{arith}
 use borrow.Author.Tests.{lt-ltb, le-leb, leb-true, ltb-true}
 use lib.ListN.{get_or}
-use Rattle.basis.specs.Choice.{both, every}
+use Rattle.basis.specs.Choice.{every}
 use Rattle.basis.proofs.Tests.{both_left, both_right, both_true}
 use Rattle.run_times.specs.Occurrences.{most_occurrences}
 use Rattle.desk_seat.specs.Bounds.{condition_room, max_timetable, max_count}

@@ -1,6 +1,7 @@
 // One seat by itself (document 01, "Timetable, seats and turns"; document 02, b): free, taken, sound, and served. The desk of
 // sixteen is the crate `desk`.
 #![tactic(auto)]
+
 ghost use Rattle.std.specs.Prelude.{◌≡◌, true, ◌++◌, ℕ, ◌+◌, ◌-◌, ◌≤◌, ◌<◌, length, replicate};
 ghost use Rattle.basis.specs.Choice.{pick};
 ghost use Rattle.basis.specs.Answer.{gives};
@@ -24,7 +25,7 @@ use value::Refusal;
 use value_instants::ticks;
 
 // A seat. A fresh desk, close and Done leave a free seat all zeros; of a free seat in a desk that is handed in nothing is asked.
-#[derive(Drop)]
+#[derive(Clone, Copy)]
 pub struct Seat {
     pub held: bool,
     pub ticket: u32,
