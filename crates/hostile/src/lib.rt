@@ -1,6 +1,7 @@
 // What the script of the hostile desks is made of (docs/LINES.md, "Hostile desks"): its events with their names and
 // numbers, and the bytes of a condition as they are shown.
 #![tactic(auto)]
+
 pub mod events; // events.rt: which event a line is
 pub mod fields; // fields.rt: the text of a condition
 pub mod shown; // shown.rt: bytes without the zeros at their end

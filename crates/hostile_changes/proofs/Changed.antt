@@ -4,8 +4,7 @@ use mathlib.Core.List.{List, ◌++◌}
 use Prim.Native.Nat.{ℕ, zero, suc, ◌-◌, ◌≤◌, ◌<◌}
 use native.Mathlib.Omega.{arith}
 use borrow.Author.Tests.{le-leb, lt-leb, lt-ltb, le-ltb}
-use lib.ListN.{length, take, drop, set, replicate}
-use lib.Seq.{take_all}
+use lib.ListN.{length, drop, set, replicate}
 use Rattle.desk_seat.specs.Bounds.{condition_room}
 use Rattle.desk_seat.specs.declared.Seat.{Seat}
 use Rattle.desk.specs.Bounds.{seat_count}
@@ -22,14 +21,10 @@ module _ (s : Seat) (text : List ℕ) where
   pub no_room_lem : condition_room < length text → s ≡ condition_with s text
   no_room_lem h = rw (lt-leb (length text) condition_room h)
 
-  pub copied_in : length text ≤ condition_room → {c : List ℕ} → c ≡ take (length text) text ++ drop (length text) (replicate condition_room 0)
-      → record { held = s.held; ticket = s.ticket; offset = s.offset; place = s.place; hits = s.hits; unreadable = s.unreadable; condition_length = s.condition_length; condition = c }
+  pub copied_in : length text ≤ condition_room → {w : List ℕ} → w ≡ text
+      → record { held = s.held; ticket = s.ticket; offset = s.offset; place = s.place; hits = s.hits; unreadable = s.unreadable; condition_length = s.condition_length; condition = w ++ drop (length text) (replicate condition_room 0) }
       ≡ condition_with s text
-  copied_in h {c} e =
-      let w : c ≡ text ++ replicate (condition_room - length text) 0 =
-      e ∙ (λ i. take_all (length text) text (omega arith) i ++ drop_same (length text) condition_room 0 i) in
-      rw (le-leb (length text) condition_room h)
-      (λ i. record { held = s.held; ticket = s.ticket; offset = s.offset; place = s.place; hits = s.hits; unreadable = s.unreadable; condition_length = s.condition_length; condition = w i })
+  copied_in h {w} e = rw (le-leb (length text) condition_room h, e, drop_same (length text) condition_room 0)
 
 module _ (d : Desk) (index : ℕ) where
   pub no_seat_lem : (s : Seat) → seat_count ≤ index → d ≡ with_seat d index s

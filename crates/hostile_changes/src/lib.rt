@@ -1,5 +1,6 @@
 // The desk after `set` and `seat`: one number of it, or of a seat, or a seat's condition is another.
 #![tactic(auto)]
+
 ghost use Rattle.std.specs.Prelude.{◌≡◌};
 ghost use Rattle.hostile_changes.specs.Changes as the;
 
@@ -42,7 +43,7 @@ fn with_condition(mut seat: Seat, text: &[u8]) -> Seat
         return seat;
     }
     let mut condition = [0u8; Seat::ROOM];
-    bytes::copy(text, &mut condition);
+    condition[..text.len()].copy_from_slice(text);
     seat.condition = condition;
     seat
 }

@@ -1,5 +1,6 @@
 // The lines that the desk program writes: a word, numbers in decimal with a tab before each, and byte 10.
 #![tactic(auto)]
+
 ghost use Rattle.std.specs.Prelude.{◌≡◌, [], ◌∷◌, ◌++◌, ◌+◌, ◌≤◌, ◌<◌, length, take, drop};
 ghost use Rattle.timetable.specs.Fields.{tab};
 ghost use Rattle.timetable.specs.Lines.{newline};
@@ -22,7 +23,7 @@ const NEWLINE: u8 = b'\n';
 const ZERO: u64 = b'0' as u64;
 
 // A line as it grows. The text of values has no room for a line that is longer than they are.
-#[derive(Drop)]
+#[derive(Clone, Copy)]
 pub struct LineText {
     pub bytes: [u8; LineText::ROOM],
     pub len: usize,
@@ -172,5 +173,5 @@ pub fn put(room: &mut [u8], at: usize, line: LineText)
 {
     let bytes = line.bytes;
     let long = line.len;
-    bytes::copy(&bytes[..long], &mut room[at..]);
+    room[at..at + long].copy_from_slice(&bytes[..long]);
 }
