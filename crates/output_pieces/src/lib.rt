@@ -1,6 +1,7 @@
 // The pieces of what the desk program prints: each call leaves one in lent room, at its start, and says how many bytes it
 // has and whether more is due after it. What the program has to write is then these bytes.
 #![tactic(auto)]
+
 ghost use Rattle.std.specs.Prelude.{◌≡◌, true, false, ◌++◌, ◌+◌, ◌≤◌, length, drop, replicate};
 ghost use Rattle.desk_seat.specs.Bounds.{max_timetable};
 ghost use Rattle.desk_seat.specs.Files.{over};

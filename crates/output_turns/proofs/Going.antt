@@ -8,7 +8,6 @@ use borrow.Author.Tests.{le-leb, lt-leb}
 use lib.ListN.{length, take, drop, length-append, length-drop}
 use lib.Seq.{take_at, drop_at, length-take-le, drop-drop}
 use Rattle.desk_seat.specs.Files.{Files}
-use Rattle.desk_seat.specs.Answers.{idle}
 use Rattle.desk.specs.Desk.{turn_of}
 use Rattle.desk.specs.declared.Desk.{Desk}
 use Rattle.output_lines.specs.Text.{turn_line}

@@ -1,5 +1,6 @@
 // Many turns at once, their lines written into lent room.
 #![tactic(auto)]
+
 ghost use Rattle.std.specs.Prelude.{◌≡◌, true, false, ◌++◌, ◌+◌, ◌-◌, ◌≤◌, ◌<◌, leb, length, take, drop};
 ghost use Rattle.basis.specs.Choice.{pick};
 ghost use Rattle.desk_seat.specs.Files.{over};
@@ -16,7 +17,7 @@ use output_lines::LineText;
 use value::Refusal;
 
 // How many bytes of lines were written, and whether the last turn was Idle.
-#[derive(Drop)]
+#[derive(Clone, Copy)]
 pub struct WrittenTurns {
     pub count: usize,
     pub idle: bool,
