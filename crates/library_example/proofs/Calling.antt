@@ -1,15 +1,14 @@
 -- The desk after a line, by what the line is, and after the lines from an offset on.
 use mathlib.Core.Path.{◌≡◌, refl, sym, ap, ◌∙◌}
-use mathlib.Core.Bool.{Bool, true, false}
 use mathlib.Core.List.{List}
-use Prim.Native.Nat.{ℕ, ◌-◌, ◌≤◌, ◌<◌}
+use Prim.Native.Nat.{ℕ, ◌≤◌, ◌<◌}
 use native.Mathlib.Omega.{arith}
 use lib.Dec.{eqb}
 use lib.ListN.{length}
 use borrow.Author.Tests.{eq-eqb, ne_eqb}
 use Rattle.basis.specs.Choice.{pick}
-use Rattle.timetable.specs.Lines.{Line, line_end, line_at, next_line, lines_from, offset_lines}
-use Rattle.timetable.proofs.Offsets.{line_cut, lines_end, lines_next, next_further}
+use Rattle.timetable.specs.Lines.{Line, line_end, next_line, lines_from, offset_lines}
+use Rattle.timetable.proofs.Offsets.{line_cut, lines_end, lines_next}
 use Rattle.line_fields.specs.Fields.{after_tab}
 use Rattle.desk_seat.specs.Files.{Files}
 use Rattle.desk_seat.specs.Request.{asking}
