@@ -28,7 +28,7 @@ pub enum SeatNumber {
 
 // An event, with its numbers. `Seat` and `Condition` have the number of the seat first. The texts of `Open` and `Condition`
 // stay in the line.
-#[derive(Drop)]
+#[derive(Clone, Copy)]
 pub enum ScriptEvent {
     Fresh(usize),
     Part(usize),
