@@ -1,6 +1,6 @@
 -- A stretch goes on at a byte of its class and stops at any other; it ends at or past its beginning, and within the text if it
 -- begins there. So a word is as long as its stretch.
-use mathlib.Core.Path.{◌≡◌, refl, sym, ap, ◌∙◌}
+use mathlib.Core.Path.{◌≡◌, refl, sym, ◌∙◌}
 use mathlib.Core.Bool.{Bool, true, false}
 use mathlib.Core.List.{List, []}
 use Prim.Native.Nat.{ℕ, zero, suc, ◌+◌, ◌-◌, ◌<◌, ◌≤◌, min}

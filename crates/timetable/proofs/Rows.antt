@@ -13,7 +13,7 @@ use borrow.Author.Tests.{eqb-true, leb-true, ltb-true, ltb-false}
 use Rattle.basis.specs.Choice.{pick, both}
 use Rattle.timetable.specs.Parted.{parted, bytes_before}
 use Rattle.timetable.specs.Fields.{tab, fields_of, has_field, field_at}
-use Rattle.timetable.specs.Rows.{Standing, stands_at, stands_nowhere, Cell, Row, texts_of, row_from, row_of, with_second, row_with, has_cell, cell_text}
+use Rattle.timetable.specs.Rows.{stands_at, stands_nowhere, Cell, Row, texts_of, row_from, row_of, with_second, row_with, has_cell, cell_text}
 use Rattle.timetable.proofs.Parting.{before_within, first_part, parts_after}
 
 -- ---- a row by its texts

@@ -1,12 +1,11 @@
 -- The bound of a dayTimeDuration and its sign, test by test, as the code asks for them.
 use mathlib.Core.Path.{◌≡◌, refl, ap, sym, ◌∙◌}
 use mathlib.Core.Bool.{Bool, true, false, not}
-use mathlib.Core.List.{List, [], ◌∷◌}
 use Prim.Native.Nat.{ℕ, ◌+◌, ◌*◌, ◌≤◌, ◌<◌}
 use native.Mathlib.Omega.{arith}
 use lib.Dec.{eqb, leb, ltb}
 use borrow.Author.Tests.{le-leb, lt-leb, lt-ltb, eqb-true, eqb-false, not-true, not-false}
-use Rattle.basis.specs.Choice.{pick, both, every}
+use Rattle.basis.specs.Choice.{pick}
 use Rattle.basis.proofs.Tests.{every_goes, every_fails, every_ends}
 use Rattle.value.specs.Bounds.{second_ticks, max_nanosecond, max_day_time_seconds, max_day_time}
 use Rattle.value.specs.Clocks.{ticks_in}

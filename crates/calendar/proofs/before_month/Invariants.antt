@@ -1,9 +1,6 @@
-use mathlib.Core.Path.{◌≡◌, refl, ap, ◌∙◌}
-use Prim.Native.Nat.{ℕ, ◌≤◌, ◌-◌}
-use native.Mathlib.Omega.{arith}
-use borrow.Author.Rules.{rules}
+use mathlib.Core.Path.{◌≡◌}
+use Prim.Native.Nat.{◌≤◌, ◌-◌}
 use Rattle.calendar.specs.Calendar.{total, month_row, leap_row}
-use Rattle.calendar.proofs.Months.{month_le, months_le, next_month}
 use Rattle.calendar.proofs.before_month.Given as goal
 
 abbrev pub invariant-loop-m : goal.invariant-loop-m

@@ -1,4 +1,3 @@
-use borrow.Author.Rules.{rules}
 use Rattle.calendar.proofs.Cycle.{sum_by_cycle}
 use Rattle.calendar.proofs.before_year.Goals as goal
 

@@ -1,9 +1,6 @@
 use mathlib.Core.Path.{◌≡◌}
 use Prim.Native.Nat.{◌+◌, ◌-◌, ◌≤◌}
-use native.Mathlib.Omega.{arith}
-use borrow.Author.Rules.{rules}
 use Rattle.calendar.specs.Calendar.{total, month_row, leap_row, month_count}
-use Rattle.calendar.proofs.Months.{month_le, month_in, next_month, dated_in}
 use Rattle.calendar.proofs.date_in.Given as goal
 
 abbrev pub invariant-loop-left : goal.invariant-loop-left

@@ -1,6 +1,5 @@
 use native.Mathlib.Omega.{arith}
 use Rattle.calendar.proofs.Answers.{later_from, on_from_lem}
-use borrow.Author.Rules.{rules}
 use Rattle.calendar.proofs.date_of.Goals as goal
 
 pub returns-then-year_days-left : goal.returns-then-year_days-left

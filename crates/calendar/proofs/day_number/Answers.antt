@@ -3,7 +3,6 @@ use Prim.Native.Nat.{◌-◌}
 use Rattle.calendar.specs.Calendar.{leap_row}
 use Rattle.calendar.proofs.Years.{years_le}
 use Rattle.calendar.proofs.Months.{months_le}
-use borrow.Author.Rules.{rules}
 use Rattle.calendar.proofs.day_number.Goals as goal
 
 pub overflow_add-result : goal.overflow_add-result

@@ -1,4 +1,3 @@
-use borrow.Author.Rules.{rules}
 use native.Mathlib.Omega.{arith}
 use Rattle.calendar.proofs.Leap.{leap_le}
 use Rattle.calendar.proofs.month_days.Goals as goal

@@ -1,6 +1,5 @@
 use native.Mathlib.Omega.{arith}
 use Rattle.calendar.proofs.Leap.{leap_le}
-use borrow.Author.Rules.{rules}
 use Rattle.calendar.proofs.year_days.Goals as goal
 
 pub overflow_add-result : goal.overflow_add-result

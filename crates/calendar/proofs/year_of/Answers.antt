@@ -1,7 +1,6 @@
 use mathlib.Core.Path.{subst}
 use Prim.Native.Nat.{ℕ, ◌+◌}
 use native.Mathlib.Omega.{arith}
-use borrow.Author.Rules.{rules}
 use Rattle.calendar.specs.Cycle.{early_year, HoldsDay}
 use Rattle.calendar.proofs.Cycle.{early_before, early_year_lem, found_early, found_next, year_by_cycle_lem}
 use Rattle.calendar.proofs.Years.{years_next}

@@ -1,5 +1,4 @@
 use Rattle.condition_words.proofs.Letters.{of_space, of_letter, of_unquoted}
-use borrow.Author.Rules.{rules}
 use Rattle.condition_words.proofs.belongs.Goals as goal
 
 pub returns-in-Space : goal.returns-in-Space

@@ -1,5 +1,4 @@
 use Rattle.condition_words.proofs.Stretching.{cut_long}
-use borrow.Author.Rules.{rules}
 use Rattle.condition_words.proofs.cut.Goals as goal
 
 pub returns-then-s-to : goal.returns-then-s-to

@@ -1,5 +1,4 @@
 use Rattle.condition_words.proofs.Stretching.{cut_none}
-use borrow.Author.Rules.{rules}
 use Rattle.condition_words.proofs.cut_within.Goals as goal
 
 pub returns-then-to-from : goal.returns-then-to-from

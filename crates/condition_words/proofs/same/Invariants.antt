@@ -1,10 +1,7 @@
 use Prim.Native.Nat.{◌-◌, ◌≤◌}
-use mathlib.Core.Path.{◌≡◌, refl}
-use native.Mathlib.Omega.{arith}
+use mathlib.Core.Path.{◌≡◌}
 use lib.ListN.{length, drop}
-use borrow.Author.Rules.{rules}
 use Rattle.condition_words.specs.Words as the
-use Rattle.condition_words.proofs.Sameness.{lengths_differ, bytes_differ, bytes_alike, all_alike}
 use Rattle.condition_words.proofs.same.Given as goal
 
 abbrev pub invariant-loop-i : goal.invariant-loop-i

@@ -1,10 +1,7 @@
-use Prim.Native.Nat.{◌-◌}
-use mathlib.Core.Path.{◌≡◌, refl}
+use mathlib.Core.Path.{refl}
 use native.Mathlib.Omega.{arith}
-use lib.ListN.{length}
-use borrow.Author.Rules.{rules}
 use Rattle.basis.proofs.Tests.{no, yes}
-use Rattle.condition_words.specs.Words.{stretch_end_in, stretch_end}
+use Rattle.condition_words.specs.Words.{stretch_end}
 use Rattle.condition_words.proofs.Stretching.{stretch_on, stretch_stops, stretch_ends}
 use Rattle.condition_words.proofs.stretch_end.Goals as goal
 

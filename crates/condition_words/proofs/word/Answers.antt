@@ -1,5 +1,4 @@
 use Rattle.condition_words.proofs.Stretching.{no_word, word_from, word_within, word_cut}
-use borrow.Author.Rules.{rules}
 use Rattle.condition_words.proofs.word.Goals as goal
 
 pub returns-then-s-at : goal.returns-then-s-at

@@ -1,4 +1,4 @@
-use Rattle.numerals.proofs.Powers.{no_zero, one_zero, ten_fits}
+use Rattle.numerals.proofs.Powers.{one_zero, ten_fits}
 use native.Mathlib.Omega.{arith}
 use mathlib.Core.Path.{◌∙◌}
 use Rattle.numerals.proofs.+raised.Goals as goal

@@ -1,4 +1,3 @@
-use borrow.Author.Rules.{rules}
 use Rattle.numerals.proofs.Decimals.{wrote_all}
 use Rattle.numerals.proofs.decimal.Goals as goal
 

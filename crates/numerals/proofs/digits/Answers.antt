@@ -1,10 +1,7 @@
 use native.Mathlib.Omega.{arith}
-use Prim.Native.Nat.{◌-◌}
-use lib.ListN.{length}
-use borrow.Author.Rules.{rules}
 use Rattle.basis.proofs.Tests.{no, yes}
 use Rattle.numerals.proofs.Stretches.{a_digit}
-use Rattle.numerals.proofs.Passing.{Passed, start, next, at_other, at_end}
+use Rattle.numerals.proofs.Passing.{start, next, at_other, at_end}
 use Rattle.numerals.proofs.digits.Goals as goal
 
 pub loop-i-init : goal.loop-i-init

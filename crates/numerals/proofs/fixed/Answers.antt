@@ -3,7 +3,7 @@ use native.Mathlib.Omega.{arith}
 use lib.ListN.{length}
 use borrow.Author.Rules.{rules}
 use Rattle.numerals.specs.Writing.{longest}
-use Rattle.numerals.proofs.Filling.{Filled, none_yet, one_put, all_put}
+use Rattle.numerals.proofs.Filling.{none_yet, one_put, all_put}
 use Rattle.numerals.proofs.fixed.Goals as goal
 
 pub loop-i-init : goal.loop-i-init

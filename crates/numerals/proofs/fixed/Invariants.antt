@@ -1,9 +1,5 @@
-use mathlib.Core.Path.{◌≡◌, refl}
-use native.Mathlib.Omega.{arith}
-use lib.ListN.{length}
-use borrow.Author.Rules.{rules}
 use Rattle.numerals.specs.Writing.{longest}
-use Rattle.numerals.proofs.Filling.{Filled, none_yet, one_put, all_put}
+use Rattle.numerals.proofs.Filling.{Filled}
 use Rattle.numerals.proofs.fixed.Given as goal
 
 abbrev pub invariant-loop-i : goal.invariant-loop-i

@@ -1,6 +1,5 @@
 use Rattle.numerals.proofs.Fractions.{too_many, ticks_fit, some_ticks}
 use native.Mathlib.Omega.{arith}
-use borrow.Author.Rules.{rules}
 use Rattle.numerals.proofs.fraction_at.Goals as goal
 
 pub returns-then-count-gt-FRACTION_DIGITS : goal.returns-then-count-gt-FRACTION_DIGITS

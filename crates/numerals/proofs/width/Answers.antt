@@ -1,8 +1,6 @@
-use mathlib.Core.Path.{◌≡◌, ap}
-use Prim.Native.Nat.{◌+◌}
+use mathlib.Core.Path.{ap}
 use native.Mathlib.Omega.{arith}
 use lib.ListN.{length}
-use Rattle.numerals.specs.Writing.{decimal}
 use Rattle.numerals.proofs.Decimals.{decimal_one, decimal_longer, decimal_some, decimal_le}
 use Rattle.numerals.proofs.width.Goals as goal
 

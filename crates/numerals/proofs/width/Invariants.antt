@@ -1,9 +1,7 @@
-use mathlib.Core.Path.{◌≡◌, ap}
+use mathlib.Core.Path.{◌≡◌}
 use Prim.Native.Nat.{◌+◌}
-use native.Mathlib.Omega.{arith}
 use lib.ListN.{length}
 use Rattle.numerals.specs.Writing.{decimal}
-use Rattle.numerals.proofs.Decimals.{decimal_one, decimal_longer, decimal_some, decimal_le}
 use Rattle.numerals.proofs.width.Given as goal
 
 abbrev pub invariant-loop-left : goal.invariant-loop-left

@@ -1,6 +1,5 @@
 use Rattle.numerals.proofs.Fractions.{wrote_none, wrote_some, strip_length}
 use native.Mathlib.Omega.{arith}
-use borrow.Author.Rules.{rules}
 use Rattle.numerals.proofs.with_fraction.Goals as goal
 
 pub returns-then-ticks-eq0 : goal.returns-then-ticks-eq0

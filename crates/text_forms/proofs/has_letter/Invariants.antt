@@ -1,8 +1,6 @@
-use mathlib.Core.Path.{refl}
 use Prim.Native.Nat.{◌-◌}
-use native.Mathlib.Omega.{arith}
 use lib.ListN.{length}
-use Rattle.text_forms.proofs.Looking.{Looking, found, next, ended}
+use Rattle.text_forms.proofs.Looking.{Looking}
 use Rattle.text_forms.proofs.has_letter.Given as goal
 
 abbrev pub invariant-loop-k : goal.invariant-loop-k

@@ -1,7 +1,6 @@
 use native.Mathlib.Omega.{arith}
 use mathlib.Core.Path.{refl}
 use Rattle.text_forms.proofs.Held.{held}
-use borrow.Author.Rules.{rules}
 use Rattle.text_forms.proofs.row.Goals as goal
 
 pub returns-in-Date : goal.returns-in-Date

@@ -1,8 +1,5 @@
-use mathlib.Core.Logic.{⊎_elim}
-use Prim.Native.Nat.{◌-◌}
 use native.Mathlib.Omega.{arith}
-use lib.ListN.{length}
-use Rattle.timetable.proofs.Tabs.{Passing, at_start, past_tab, past_other, none_left, all_passed}
+use Rattle.timetable.proofs.Tabs.{at_start, past_tab, past_other, none_left, all_passed}
 use Rattle.timetable.proofs.fields.after_tabs.Goals as goal
 use Rattle.timetable.proofs.fields.after_tabs.Goals.{then-line-at-eq-TAB, else-line-at-eq-TAB}
 
@@ -30,8 +27,8 @@ loop-left-smaller c = omega arith
 pub loop-left-preserved : goal.loop-left-preserved
 loop-left-preserved c =
     elim c.if-line-at-eq-TAB.branch [
-    then-line-at-eq-TAB w ↦ past_tab _ _ _ _ c.loop-left.invariant c.if-line-at.false c.loop-left-test.true w.if-line-at-eq-TAB.true w.left-is
-    | else-line-at-eq-TAB w ↦ past_other _ _ _ _ c.loop-left.invariant c.if-line-at.false c.loop-left-test.true w.if-line-at-eq-TAB.false w.left-is
+      | then-line-at-eq-TAB w ↦ past_tab _ _ _ _ c.loop-left.invariant c.if-line-at.false c.loop-left-test.true w.if-line-at-eq-TAB.true w.left-is
+      | else-line-at-eq-TAB w ↦ past_other _ _ _ _ c.loop-left.invariant c.if-line-at.false c.loop-left-test.true w.if-line-at-eq-TAB.false w.left-is
     ]
 
 pub returns : goal.returns

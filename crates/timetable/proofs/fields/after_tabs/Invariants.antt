@@ -1,8 +1,6 @@
-use mathlib.Core.Logic.{⊎_elim}
 use Prim.Native.Nat.{◌-◌}
-use native.Mathlib.Omega.{arith}
 use lib.ListN.{length}
-use Rattle.timetable.proofs.Tabs.{Passing, at_start, past_tab, past_other, none_left, all_passed}
+use Rattle.timetable.proofs.Tabs.{Passing}
 use Rattle.timetable.proofs.fields.after_tabs.Given as goal
 
 -- `fields::after_tabs` meets its contract: the fields after n tabs are, from each offset that the loop reaches, those after

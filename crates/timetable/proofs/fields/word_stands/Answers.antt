@@ -1,7 +1,5 @@
-use Prim.Native.Nat.{◌-◌}
 use native.Mathlib.Omega.{arith}
-use lib.ListN.{length}
-use Rattle.timetable.proofs.Words.{Comparing, at_first, line_short, byte_differs, field_short, byte_same, line_done, field_done}
+use Rattle.timetable.proofs.Words.{at_first, line_short, byte_differs, field_short, byte_same, line_done, field_done}
 use Rattle.timetable.proofs.fields.word_stands.Goals as goal
 
 pub loop-i-init : goal.loop-i-init

@@ -1,7 +1,6 @@
 use Prim.Native.Nat.{◌-◌}
-use native.Mathlib.Omega.{arith}
 use lib.ListN.{length}
-use Rattle.timetable.proofs.Words.{Comparing, at_first, line_short, byte_differs, field_short, byte_same, line_done, field_done}
+use Rattle.timetable.proofs.Words.{Comparing}
 use Rattle.timetable.proofs.fields.word_stands.Given as goal
 
 -- `fields::word_stands` meets its contract: up to each byte that the loop reaches the field and the word are alike.

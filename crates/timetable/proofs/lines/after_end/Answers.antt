@@ -1,4 +1,3 @@
-use borrow.Author.Rules.{rules}
 use borrow.Author.Tests.{lt-ltb, le-ltb}
 use Rattle.timetable.specs.Lines.{after_end}
 use Rattle.timetable.proofs.lines.after_end.Goals as goal

@@ -1,4 +1,3 @@
-use borrow.Author.Rules.{rules}
 use Rattle.timetable.specs.Lines.{line_end}
 use Rattle.timetable.proofs.lines.line_end.Goals as goal
 

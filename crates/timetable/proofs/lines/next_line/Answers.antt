@@ -1,4 +1,3 @@
-use borrow.Author.Rules.{rules}
 use Rattle.timetable.specs.Lines.{next_line}
 use Rattle.timetable.proofs.lines.next_line.Goals as goal
 

@@ -1,8 +1,5 @@
-use Prim.Native.Nat.{◌+◌, ◌-◌}
-use mathlib.Core.Path.{◌≡◌, refl}
+use mathlib.Core.Path.{refl}
 use native.Mathlib.Omega.{arith}
-use lib.ListN.{length, drop}
-use Rattle.timetable.specs.Parted.{bytes_before}
 use Rattle.timetable.proofs.Parting.{before_stop, before_on, before_end}
 use Rattle.timetable.proofs.parts.offset_of.Goals as goal
 

@@ -1,9 +1,7 @@
 use Prim.Native.Nat.{◌+◌, ◌-◌}
-use mathlib.Core.Path.{◌≡◌, refl}
-use native.Mathlib.Omega.{arith}
+use mathlib.Core.Path.{◌≡◌}
 use lib.ListN.{length, drop}
 use Rattle.timetable.specs.Parted.{bytes_before}
-use Rattle.timetable.proofs.Parting.{before_stop, before_on, before_end}
 use Rattle.timetable.proofs.parts.offset_of.Given as goal
 
 -- `parts::offset_of` meets its contract: what is left to pass, from each offset that the loop reaches, ends where the first

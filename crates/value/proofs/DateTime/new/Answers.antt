@@ -3,7 +3,6 @@ use Rattle.value.specs.declared.Kind.TheVariants as KV
 use Rattle.value.specs.declared.DateTime.{DateTime}
 use Rattle.value.specs.Kinds.{made}
 use mathlib.Core.Path.{ap, ◌∙◌}
-use borrow.Author.Rules.{rules}
 use Rattle.value.proofs.DateTime.new.Goals as goal
 
 pub returns : goal.returns

@@ -5,7 +5,6 @@ use Rattle.value.specs.Clocks.{with_time}
 use Rattle.value.specs.Values.{date_in}
 use Rattle.value.specs.Kinds.{made}
 use mathlib.Core.Path.{ap, ◌∙◌}
-use borrow.Author.Rules.{rules}
 use Rattle.value.proofs.DateTime.time.Goals as goal
 
 pub returns : goal.returns

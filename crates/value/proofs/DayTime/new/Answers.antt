@@ -2,7 +2,6 @@ use Rattle.value.specs.declared.Value.TheVariants as VV
 use Rattle.value.specs.declared.DayTime.{DayTime}
 use Rattle.value.specs.Kinds.{made}
 use mathlib.Core.Path.{ap, ◌∙◌}
-use borrow.Author.Rules.{rules}
 use Rattle.value.proofs.DayTime.new.Goals as goal
 
 pub returns : goal.returns

@@ -1,6 +1,5 @@
 use mathlib.Core.Path.{◌∙◌}
 use Rattle.value.proofs.ClockLaws.{at_span}
-use borrow.Author.Rules.{rules}
 use Rattle.value.proofs.clocks.at.Goals as goal
 
 pub returns : goal.returns

@@ -1,4 +1,3 @@
-use borrow.Author.Rules.{rules}
 use Rattle.value.proofs.clocks.at_clock_of.Goals as goal
 
 pub returns : goal.returns

@@ -1,5 +1,4 @@
 use Rattle.value.proofs.ClockLaws.{clock_span}
-use borrow.Author.Rules.{rules}
 use Rattle.value.proofs.clocks.clock.Goals as goal
 
 pub returns : goal.returns

@@ -1,6 +1,5 @@
 use mathlib.Core.Path.{◌∙◌}
 use Rattle.value.proofs.ClockLaws.{lasting_span}
-use borrow.Author.Rules.{rules}
 use Rattle.value.proofs.clocks.lasting.Goals as goal
 
 pub returns : goal.returns

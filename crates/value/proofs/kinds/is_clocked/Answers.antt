@@ -1,7 +1,6 @@
 use mathlib.Core.Path.{ap}
 use Rattle.value.specs.Rows.{is_clocked}
 use Rattle.value.specs.declared.OwnParts.{OwnParts}
-use borrow.Author.Rules.{rules}
 use Rattle.value.proofs.kinds.is_clocked.Goals as goal
 
 pub returns : goal.returns

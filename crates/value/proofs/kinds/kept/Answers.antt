@@ -1,7 +1,6 @@
 use mathlib.Core.Path.{◌∙◌}
 use mathlib.Core.Bool.{true, false}
 use Rattle.value.proofs.KindParts.{kept_by_lem}
-use borrow.Author.Rules.{rules}
 use Rattle.value.proofs.kinds.kept.Goals as goal
 
 pub returns-then-own : goal.returns-then-own

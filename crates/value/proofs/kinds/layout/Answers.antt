@@ -1,7 +1,6 @@
 use native.Mathlib.Omega.{arith}
 use mathlib.Core.Path.{refl, ap, sym}
 use Rattle.value.specs.Rows.{layout_of}
-use borrow.Author.Rules.{rules}
 use Rattle.value.proofs.kinds.layout.Goals as goal
 
 pub returns-in-Date : goal.returns-in-Date

@@ -2,7 +2,6 @@ use Rattle.value.proofs.KindParts.{of_kind_by}
 use Rattle.basis.proofs.Tests.{every_goes, every_fails, every_ends}
 use mathlib.Core.Path.{sym, ◌∙◌}
 use borrow.Author.Tests.{eq-eqb, ne_eqb}
-use borrow.Author.Rules.{rules}
 use Rattle.value.proofs.kinds.of_kind.Goals as goal
 
 pub returns-then-d-k : goal.returns-then-d-k

@@ -1,6 +1,5 @@
 use mathlib.Core.Path.{◌∙◌}
 use Rattle.value.proofs.Looking.{spaced_parts}
-use borrow.Author.Rules.{rules}
 use Rattle.value.proofs.kinds.parts.Goals as goal
 
 pub returns : goal.returns

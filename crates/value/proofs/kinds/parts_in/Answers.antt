@@ -1,9 +1,6 @@
 use mathlib.Core.Path.{refl}
-use Prim.Native.Nat.{◌-◌}
 use native.Mathlib.Omega.{arith}
-use lib.ListN.{length}
-use borrow.Author.Rules.{rules}
-use Rattle.value.proofs.Looking.{Looking, next, ended}
+use Rattle.value.proofs.Looking.{next, ended}
 use Rattle.value.proofs.kinds.parts_in.Goals as goal
 
 pub loop-k-init : goal.loop-k-init

@@ -1,9 +1,6 @@
-use mathlib.Core.Path.{refl}
 use Prim.Native.Nat.{◌-◌}
-use native.Mathlib.Omega.{arith}
 use lib.ListN.{length}
-use borrow.Author.Rules.{rules}
-use Rattle.value.proofs.Looking.{Looking, next, ended}
+use Rattle.value.proofs.Looking.{Looking}
 use Rattle.value.proofs.kinds.parts_in.Given as goal
 
 abbrev pub invariant-loop-k : goal.invariant-loop-k

@@ -1,4 +1,3 @@
-use borrow.Author.Rules.{rules}
 use Rattle.value.proofs.kinds.same.Goals as goal
 
 pub returns : goal.returns

@@ -1,6 +1,5 @@
 use mathlib.Core.Path.{ap, sym, ◌∙◌}
 use Rattle.value.specs.Rows.{template_of}
-use borrow.Author.Rules.{rules}
 use Rattle.value.proofs.kinds.template.Goals as goal
 
 pub returns-in-Date : goal.returns-in-Date

@@ -1,5 +1,4 @@
 use Rattle.value.specs.Kinds.{made}
-use borrow.Author.Rules.{rules}
 use Rattle.value.proofs.valid.checked.Goals as goal
 
 pub returns-then-value_ok : goal.returns-then-value_ok

@@ -2,7 +2,6 @@ use Rattle.basis.proofs.Tests.{both_end}
 use borrow.Author.Tests.{le-leb, lt-leb}
 use Rattle.basis.specs.Choice.{both, every}
 use Rattle.value.specs.Values.{ok_date}
-use borrow.Author.Rules.{rules}
 use Rattle.value.proofs.valid.date_ok.Goals as goal
 
 pub returns-then-year-lt-MIN_YEAR : goal.returns-then-year-lt-MIN_YEAR

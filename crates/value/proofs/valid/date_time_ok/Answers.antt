@@ -2,7 +2,6 @@ use Rattle.basis.proofs.Tests.{both_end}
 use Rattle.basis.proofs.Tests.{no, yes as good}
 use Rattle.basis.specs.Choice.{both, every}
 use Rattle.value.specs.Values.{ok_date_time}
-use borrow.Author.Rules.{rules}
 use Rattle.value.proofs.valid.date_time_ok.Goals as goal
 
 pub returns-then-not-date_ok : goal.returns-then-not-date_ok

@@ -1,6 +1,5 @@
 use Rattle.basis.proofs.Tests.{no, yes}
 use Rattle.value.proofs.Sizes.{many_nanoseconds, too_long, not_negative, some_seconds, no_seconds}
-use borrow.Author.Rules.{rules}
 use Rattle.value.proofs.valid.day_time_ok.Goals as goal
 
 pub returns-then-d-gt-MAX_NANOSECONDS : goal.returns-then-d-gt-MAX_NANOSECONDS

@@ -2,7 +2,6 @@ use Rattle.basis.proofs.Tests.{both_end}
 use borrow.Author.Tests.{le-leb, lt-leb}
 use Rattle.basis.specs.Choice.{both, every}
 use Rattle.value.specs.Values.{ok_offset}
-use borrow.Author.Rules.{rules}
 use Rattle.value.proofs.valid.offset_ok.Goals as goal
 
 pub returns-then-m-lt1 : goal.returns-then-m-lt1

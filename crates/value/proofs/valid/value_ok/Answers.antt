@@ -2,7 +2,6 @@ use Rattle.basis.proofs.Tests.{no, yes as good}
 use Rattle.basis.specs.Choice.{both}
 use Rattle.value.specs.Kinds.{ok_value}
 use Rattle.value.proofs.KindParts.{moment_bad, moment_out, moment_is}
-use borrow.Author.Rules.{rules}
 use Rattle.value.proofs.valid.value_ok.Goals as goal
 
 pub returns-then-not-is_moment : goal.returns-then-not-is_moment

@@ -1,5 +1,4 @@
 use Rattle.value.specs.Values.{ok_zone}
-use borrow.Author.Rules.{rules}
 use Rattle.value.proofs.valid.zone_ok.Goals as goal
 
 pub returns-in-Absent : goal.returns-in-Absent
