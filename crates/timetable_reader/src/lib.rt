@@ -9,7 +9,7 @@ ghost use Rattle.timetable.specs.Lines.{line_end, next_line};
 use timetable::lines::{after_end, line_end, next_line};
 
 // The timetable, and the offset at which the next line starts.
-#[derive(Drop)]
+#[derive(Clone, Copy)]
 pub struct LineReader<'a> {
     pub timetable: &'a [u8],
     pub at: usize,
