@@ -3,7 +3,6 @@ use native.Mathlib.Omega.{arith}
 use mathlib.Core.Path.{◌≡◌, refl, sym, ap, ◌∙◌}
 use mathlib.Core.Bool.{Bool, true, false, not}
 use Prim.Native.Nat.{ℕ, suc, ◌+◌, ◌-◌, ◌<◌, ◌≤◌, ◌^◌}
-use lib.Dec.{T}
 use lib.ListN.{length}
 use Rattle.basis.specs.Choice.{pick, both}
 use Rattle.desk_seat.specs.Files.{Files}
@@ -12,7 +11,8 @@ use Rattle.output_pieces.specs.Bounds.{room_size}
 use Rattle.output_pieces.specs.Pieces.{turns_piece, until_idle, most_turns}
 use Rattle.output_pieces.specs.Carried.{until_idle_told}
 use Rattle.desk_host.specs.declared.Sent.{Sent}
-use Rattle.desk_host.proofs.Due.{held, failed, second_holds, second_fails}
+use borrow.Author.Tests.{not-true, not-false}
+use Rattle.desk_host.proofs.Due.{second_holds, second_fails}
 
 -- ---- the loop, which takes at most so many pieces
 abbrev pub N : ℕ
@@ -62,11 +62,11 @@ module _ (f : Files) (d h : Desk) (z : Sent) (i k : ℕ) (x : Desk) (m : ℕ) (l
       (sym w.0 ∙ ap (λ (n : ℕ). until_idle f n d) (sym (left_is i l)) ∙ v, omega (arith, w.1, ap (λ (n : ℕ). until_idle_told f n d) (left_is i l), e.2, v'))
 
   -- more turns are due
-  pub more_due : T (not (not z.more)) → (until_idle f (N - (i + 1)) h ≡ x) × (to_tell f h (i + 1) z.told ≡ m)
-  more_due on = step true (second_holds z.through _ z.more e.1 (held _ on))
+  pub more_due : not z.more ≡ false → (until_idle f (N - (i + 1)) h ≡ x) × (to_tell f h (i + 1) z.told ≡ m)
+  more_due on = step true (second_holds z.through _ z.more e.1 (not-false _ on))
 
   -- none are due
-  pub none_due : T (not z.more) → z.through ≡ true → (h ≡ x) × (z.told ≡ m)
+  pub none_due : not z.more ≡ true → z.through ≡ true → (h ≡ x) × (z.told ≡ m)
   none_due off p =
-      let w = step false (second_fails z.through _ z.more e.1 (failed _ off) p) in
+      let w = step false (second_fails z.through _ z.more e.1 (not-true _ off) p) in
       (w.0, omega (arith, w.1))
