@@ -7,6 +7,3 @@ offset_bounds-row c = omega (arith, leap_le c.args.year)
 
 pub returns : goal.returns
 returns c = simp c.leap_row-row.ensures
-
--- ? index-1-result : tie.Need-bounds-1-result
--- ? index-1-result c = omega (arith, leap_le c.args.year)
