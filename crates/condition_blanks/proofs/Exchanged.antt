@@ -21,7 +21,8 @@ use Rattle.condition_blanks.specs.Literals.{LiteralIn}
 use Rattle.condition_blanks.proofs.Replaced.{replaced, replaced_length, byte_before, byte_in, byte_after, bytes_in}
 use Rattle.condition_blanks.proofs.Carried.{Carried, cut, carry_longest, carry_mark, carry_word, carry_field, carry_whole, carry_operator, carry_text}
 use Rattle.condition_blanks.proofs.Meaning.{Same, literals, fields, ones, twos}
-use Rattle.condition_blanks.proofs.Spans.{Spans, spans, spans_wider, at_leaf, at_field, at_one, at_two, mark_forward, word_forward, whole_forward, sign_forward, comparison_forward}
+use Rattle.condition_blanks.proofs.Leaves.{at_leaf, at_field, at_one, at_two}
+use Rattle.condition_blanks.proofs.Spans.{Spans, spans, spans_wider, mark_forward, word_forward, whole_forward, sign_forward, comparison_forward}
 
 -- an argument's kind has its name at another offset
 abbrev renamed : ℕ → Phrase → Phrase

@@ -1,3 +1,4 @@
+pub mod Leaves
 pub mod Spans
 pub mod Replaced
 pub mod Carried

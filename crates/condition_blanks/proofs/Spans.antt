@@ -1,5 +1,5 @@
 -- Where the literals of a part stand: between the offsets from which and up to which the part stands, each with its quotes.
-use mathlib.Core.Path.{◌≡◌, refl, subst}
+use mathlib.Core.Path.{◌≡◌, subst}
 use mathlib.Core.Bool.{Bool}
 use mathlib.Core.List.{List}
 use mathlib.Core.Logic.{◌⊎◌, inl, inr}
@@ -11,25 +11,11 @@ use native.Mathlib.Omega.{arith}
 use Rattle.numerals.specs.Reading.{at}
 use Rattle.value.specs.declared.Kind.{Kind}
 use Rattle.condition_symbols.specs.declared.Op.{Op}
-use Rattle.condition_grammar.specs.Trees.{Tree, Below, leaf, one, two, literal, field}
+use Rattle.condition_grammar.specs.Trees.{Tree, Below, leaf, one, two, literal}
 use Rattle.condition_grammar.specs.Productions.{OneByte, Word, Field, numbered, Quoted, quoted, Whole, unsigned, signed, Sign, plus, minus, Comparison, eq, ne, lt, le, gt, ge, Phrase, Derives, one_clause, or_clause, one_test, and_test, lone_sum, two_sums, one_term, signed_term, one_factor, times_whole, enclosed, of_named_kind, a_text, a_field, a_cast}
 use Rattle.condition_grammar.proofs.Stretches.{digits_from}
-use Rattle.condition_blanks.specs.Literals.{LiteralIn, here, below, left, right}
-
--- what a tree with a literal is
-module _ {from to : ℕ} where
-  pub at_leaf : {k : Kind} {w i j : ℕ} → LiteralIn from to (leaf k w (literal i j)) → (i ≡ from) × (j ≡ to)
-  at_leaf here = (refl, refl)
-
-  pub at_field : {k : Kind} {w i p : ℕ} → LiteralIn from to (leaf k w (field i p)) → ⊥
-  at_field l = elim l [ ]
-
-  pub at_one : {b : Below} {p : ℕ} {t : Tree} → LiteralIn from to (one b p t) → LiteralIn from to t
-  at_one (below l) = l
-
-  pub at_two : {o : Op} {z p : ℕ} {t u : Tree} → LiteralIn from to (two o z p t u) → LiteralIn from to t ⊎ LiteralIn from to u
-  at_two (left l) = inl l
-  at_two (right l) = inr l
+use Rattle.condition_blanks.specs.Literals.{LiteralIn}
+use Rattle.condition_blanks.proofs.Leaves.{at_leaf, at_field, at_one, at_two}
 
 -- a literal without a quote inside, after a and before n
 pub record Inside (s : List ℕ) (a n from to : ℕ) : Type 0 where
