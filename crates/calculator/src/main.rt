@@ -1,12 +1,12 @@
 // The calculator: one library call a line, one line of answer for each (docs/LINES.md, "The calculator").
 #![tactic(auto)]
 
-ghost use Rattle.std.specs.Prelude.{◌≡◌, ◌+◌, ◌≤◌, length};
+ghost use Rattle.std.specs.Prelude.{◌≡◌, ◌+◌, length};
 ghost use Rattle.calls.specs.Answers.{max_calls_input};
 
 use calls::MAX_INPUT;
 use calls_replies::Reply;
-use timetable::lines::{after_end, line_end};
+use timetable_reader::LineReader;
 
 // One byte more than is taken, so that an input that is too long shows.
 const ROOM: usize = MAX_INPUT + 1;
@@ -17,21 +17,14 @@ fn room() -> [u8; ROOM]
     [0; ROOM]
 }
 
-fn show(rt: &impl Print, reply: Reply)
-    requires { reply.len ≤ length reply.bytes }
-{
-    let n = reply.len;
-    let bytes = reply.bytes;
-    let _ = rt.write_all(&bytes[..n]);
+fn show(rt: &impl Print, reply: Reply) {
+    let _ = rt.write_all(reply.as_slice());
     let _ = rt.write_all(b"\n");
 }
 
 fn answer_lines(rt: &impl Print, input: &[u8]) {
-    let mut at = 0;
-    while at < input.len() {
-        let end = line_end(input, at);
-        show(rt, calls::answer(&input[at..end]));
-        at = after_end(input, end);
+    for line in LineReader::new(input, 0) {
+        show(rt, calls::answer(line.text));
     }
 }
 

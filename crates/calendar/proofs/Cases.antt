@@ -1,8 +1,8 @@
 -- Worked cases, by computation: either side of a leap day, of a century and of the last year of four digits; by the cycle,
 -- either side of its end and of a leap year's.
+use Rattle.std.specs.Prelude.{None, Some}
 use mathlib.Core.Path.{◌≡◌, refl}
 use Prim.Native.Nat.{◌-◌}
-use Rattle.calendar.specs.declared.Dated.TheVariants.{On, Later}
 use Rattle.calendar.specs.Calendar.{leap_row, month_days, total, day_number, period_of, date_of, dated_of}
 use Rattle.calendar.specs.Cycle.{before_by_cycle, year_by_cycle}
 
@@ -37,11 +37,11 @@ february_2000 : month_days 2000 2 ≡ 29
 february_2000 = refl
 
 -- year 0 is a leap year: its last day is 365, and with it as the last year the next day is later
-last_of_year_0 : dated_of 365 0 ≡ On (record { year = 0; month = 12; day = 31 })
+last_of_year_0 : dated_of 365 0 ≡ Some (record { year = 0; month = 12; day = 31 })
 unfolding period_of date_of dated_of
 last_of_year_0 = refl
 
-after_year_0 : dated_of 366 0 ≡ Later
+after_year_0 : dated_of 366 0 ≡ None
 unfolding period_of date_of dated_of
 after_year_0 = refl
 

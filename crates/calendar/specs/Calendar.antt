@@ -1,10 +1,8 @@
 -- Document 01, "Values and their bounds": the proleptic Gregorian calendar, its month lengths as two rows of twelve.
 -- Days are counted from 0000-01-01, which is day 0. No bound on years stands here.
-use Rattle.std.specs.Prelude.{Bool, true, false, List, [], ◌∷◌, ℕ, zero, suc, ◌+◌, ◌-◌, ◌%◌, ◌≤◌, eqb, leb, ltb, get_or}
+use Rattle.std.specs.Prelude.{Bool, true, false, List, [], ◌∷◌, ℕ, zero, suc, ◌+◌, ◌-◌, ◌%◌, ◌≤◌, eqb, leb, ltb, get_or, None, Option, Some}
 use Rattle.basis.specs.Choice.{pick}
 use Rattle.calendar.specs.declared.Date.{Date}
-use Rattle.calendar.specs.declared.Dated.{Dated}
-use Rattle.calendar.specs.declared.Dated.TheVariants.{On, Later}
 
 -- 1 in a leap year, 0 in an ordinary one
 abbrev pub leap_row : ℕ → ℕ
@@ -71,8 +69,8 @@ unfoldable pub date_of : ℕ → Date
 date_of n = date_within (period_of year_days (suc n) 0 n)
 
 -- the date of a day number, or that its year is later than a last one
-unfoldable pub dated_of : ℕ → ℕ → Dated
-dated_of n last = pick (leb (date_of n).year last) (On (date_of n)) Later
+unfoldable pub dated_of : ℕ → ℕ → Option Date
+dated_of n last = pick (leb (date_of n).year last) (Some (date_of n)) None
 
 -- the order of dates: by year, then by month, then by day
 unfoldable pub before : Date → Date → Bool

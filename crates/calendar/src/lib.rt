@@ -31,24 +31,12 @@ pub struct Date {
     pub day: u8,
 }
 
-// The date of a day number, or that its year is later than the last one asked for.
-#[derive(Clone, Copy)]
-pub enum Dated {
-    On(Date),
-    Later,
-}
-
 // The row of the month lengths that a year has.
 pub fn leap_row(year: u16) -> usize
     ensures { result ≡ leap_row year }
 {
-    if year % 400 == 0 {
-        return 1;
-    }
-    if year % 100 == 0 {
-        return 0;
-    }
-    if year % 4 == 0 { 1 } else { 0 }
+    let leap = year % 4 == 0 && (year % 100 != 0 || year % 400 == 0);
+    leap as usize
 }
 
 pub fn month_days(year: u16, month: u8) -> u8
@@ -85,10 +73,8 @@ fn before_month(year: u16, month: u8) -> u64
     ensures { result ≡ total (month_row (leap_row year)) (month - 1) }
 {
     let mut n: u64 = 0;
-    let mut m: u8 = 1;
-    while m < month {
+    for m in 1..month {
         n += month_days(year, m) as u64;
-        m += 1;
     }
     n
 }
@@ -138,29 +124,24 @@ fn date_in(year: u16, n: u64) -> Date
     ensures { result ≡ date_within (record { number = year; left = n }) }
 {
     let mut left = n;
-    let mut m: u8 = 1;
-    loop {
-        let len = month_days(year, m) as u64;
+    for month in 1..=MONTH_COUNT as u8 {
+        let len = month_days(year, month) as u64;
         if left < len {
-            return Date {
-                year,
-                month: m,
-                day: (left + 1) as u8,
-            };
+            let day = (left + 1) as u8;
+            return Date { year, month, day };
         }
         left -= len;
-        m += 1;
     }
+    unreachable!()
 }
 
-pub fn date_of(n: u64, last: u16) -> Dated
+// The date of a day number; none where its year is later than the last one asked for.
+pub fn date_of(n: u64, last: u16) -> Option<Date>
     ensures { result ≡ dated_of n last }
 {
-    let y = year_of(n, last);
-    let year = y.year;
-    let left = y.left;
+    let YearDay { year, left } = year_of(n, last);
     if year_days(year) <= left {
-        return Dated::Later;
+        return None;
     }
-    Dated::On(date_in(year, left))
+    Some(date_in(year, left))
 }

@@ -2,14 +2,13 @@
 #![tactic(auto)]
 
 ghost use Rattle.std.specs.Prelude.{◌≡◌, leb, length};
-ghost use Rattle.calls_replies.specs.Replies.{reply_of};
 ghost use Rattle.calls.specs.Answers as the;
 ghost use Rattle.calls_asked.specs.declared.CallForm.TheVariants as F;
 
 use calls_asked::{CallForm, One, Two, forms};
 use calls_replies::Reply;
 use timetable::fields::field;
-use value::{Kind, Outcome, Refusal};
+use value::{Kind, Refusal};
 
 mod calling; // calling.rt: the call on the values that were read
 
@@ -17,32 +16,32 @@ mod calling; // calling.rt: the call on the values that were read
 pub const MAX_INPUT: usize = 65_536;
 
 fn one_call(line: &[u8], o: One, k: Kind) -> Reply
-    ensures { result ≡ reply_of (the.answer_by line.now (F.OfOne o k)) }
+    ensures { result ≡ the.answer_by line.now (F.OfOne o k) }
 {
     match text::read(k, field(line, 3)) {
-        Outcome::Refused(r) => calling::refused(r),
-        Outcome::Is(a) => calling::one_said(o, a),
+        Err(r) => calling::refused(r),
+        Ok(a) => calling::one_said(o, a),
     }
 }
 
 fn two_call(line: &[u8], o: Two, left: Kind, right: Kind) -> Reply
-    ensures { result ≡ reply_of (the.answer_by line.now (F.OfTwo o left right)) }
+    ensures { result ≡ the.answer_by line.now (F.OfTwo o left right) }
 {
     match text::read(left, field(line, 3)) {
-        Outcome::Refused(r) => calling::refused(r),
-        Outcome::Is(a) => match text::read(right, field(line, 5)) {
-            Outcome::Refused(r) => calling::refused(r),
-            Outcome::Is(b) => calling::two_said(o, a, b),
+        Err(r) => calling::refused(r),
+        Ok(a) => match text::read(right, field(line, 5)) {
+            Err(r) => calling::refused(r),
+            Ok(b) => calling::two_said(o, a, b),
         },
     }
 }
 
 fn product_call(line: &[u8], k: Kind) -> Reply
-    ensures { result ≡ reply_of (the.answer_by line.now (F.Product k)) }
+    ensures { result ≡ the.answer_by line.now (F.Product k) }
 {
     match text::read(k, field(line, 3)) {
-        Outcome::Refused(r) => calling::refused(r),
-        Outcome::Is(a) => {
+        Err(r) => calling::refused(r),
+        Ok(a) => {
             let n = forms::whole(field(line, 4));
             calling::value_said(operation::times(a, n.negative, n.magnitude))
         }
@@ -50,11 +49,11 @@ fn product_call(line: &[u8], k: Kind) -> Reply
 }
 
 fn cast_call(line: &[u8], k: Kind, l: Kind) -> Reply
-    ensures { result ≡ reply_of (the.answer_by line.now (F.Cast k l)) }
+    ensures { result ≡ the.answer_by line.now (F.Cast k l) }
 {
     match text::read(k, field(line, 3)) {
-        Outcome::Refused(r) => calling::refused(r),
-        Outcome::Is(a) => calling::value_said(operation::cast(a, l)),
+        Err(r) => calling::refused(r),
+        Ok(a) => calling::value_said(operation::cast(a, l)),
     }
 }
 
@@ -67,14 +66,14 @@ pub fn takes(input: &[u8]) -> bool
 
 // The answer to an input that is too long, and to a line that is no call.
 pub fn no_call() -> Reply
-    ensures { result ≡ reply_of the.no_call }
+    ensures { result ≡ the.no_call }
 {
     calling::refused(Refusal::numbered(Refusal::BAD_CONDITION))
 }
 
 // The answer to a line without its byte 10.
 pub fn answer(line: &[u8]) -> Reply
-    ensures { result ≡ reply_of (the.answer_of line.now) }
+    ensures { result ≡ the.answer_of line.now }
 {
     match forms::form(line) {
         CallForm::No => no_call(),

@@ -7,11 +7,12 @@ use native.Mathlib.Omega.{arith}
 use lib.Dec.{eqb, leb}
 use lib.ListN.{length}
 use borrow.Author.Tests.{le-leb, leb-true, leb-false, eq-eqb, ne_eqb}
+use Rattle.std.specs.Prelude.{Option}
 use Rattle.basis.specs.Choice.{pick, both}
 use Rattle.basis.proofs.Tests.{no, yes}
 use Rattle.timetable.specs.Fields.{fields_of, has_field, field_at}
+use Rattle.value.specs.declared.Kind.{Kind}
 use Rattle.condition_symbols.specs.Symbols.{named}
-use Rattle.condition_symbols.specs.declared.Named.{Named}
 use Rattle.calls_asked.specs.declared.One.{One}
 use Rattle.calls_asked.specs.declared.Two.{Two}
 use Rattle.calls_asked.specs.declared.CallForm.TheVariants as F
@@ -40,7 +41,7 @@ module _ (line : List ℕ) (n : ℕ) (h : 1 ≤ n) {t : Bool} (e : t ≡ has_fie
       go l false z = let k : length (fields_of line) < n + 1 = leb-false _ _ z in sym (eq-eqb (length (fields_of line)) n (omega arith))
 
 -- the kind that a field names
-pub names : (line : List ℕ) (i : ℕ) {f : List ℕ} {x y : Named} → f ≡ field_at line i → x ≡ named f → x ≡ y → y ≡ named (field_at line i)
+pub names : (line : List ℕ) (i : ℕ) {f : List ℕ} {x y : Option Kind} → f ≡ field_at line i → x ≡ named f → x ≡ y → y ≡ named (field_at line i)
 names line i ef en ey = sym ey ∙ en ∙ ap named ef
 
 module _ (line : List ℕ) {t : Bool} where
@@ -49,7 +50,7 @@ module _ (line : List ℕ) {t : Bool} where
     unfolding one_form
     no_one q = sym (λ i. pick (no e q i) (one_by o (named (field_at line 2))) F.No)
 
-    pub is_one : t ≡ true → {y : Named} → y ≡ named (field_at line 2) → one_by o y ≡ one_form line o
+    pub is_one : t ≡ true → {y : Option Kind} → y ≡ named (field_at line 2) → one_by o y ≡ one_form line o
     unfolding one_form
     is_one q ey = ap (one_by o) ey ∙ sym (λ i. pick (yes e q i) (one_by o (named (field_at line 2))) F.No)
 
@@ -58,7 +59,7 @@ module _ (line : List ℕ) {t : Bool} where
     unfolding two_form
     no_two q = sym (λ i. pick (no e q i) (two_by o (named (field_at line 2)) (named (field_at line 4))) F.No)
 
-    pub is_two : t ≡ true → {y z : Named} → y ≡ named (field_at line 2) → z ≡ named (field_at line 4) → two_by o y z ≡ two_form line o
+    pub is_two : t ≡ true → {y z : Option Kind} → y ≡ named (field_at line 2) → z ≡ named (field_at line 4) → two_by o y z ≡ two_form line o
     unfolding two_form
     is_two q ey ez = (λ i. two_by o (ey i) (ez i)) ∙ sym (λ i. pick (yes e q i) (two_by o (named (field_at line 2)) (named (field_at line 4))) F.No)
 
@@ -67,7 +68,7 @@ module _ (line : List ℕ) {t : Bool} where
     unfolding product_form
     no_product q = sym (λ i. pick (no e q i) (product_by (is_whole (field_at line 4)) (named (field_at line 2))) F.No)
 
-    pub is_product : t ≡ true → {b : Bool} {y : Named} → b ≡ is_whole (field_at line 4) → y ≡ named (field_at line 2) → product_by b y ≡ product_form line
+    pub is_product : t ≡ true → {b : Bool} {y : Option Kind} → b ≡ is_whole (field_at line 4) → y ≡ named (field_at line 2) → product_by b y ≡ product_form line
     unfolding product_form
     is_product q eb ey = (λ i. product_by (eb i) (ey i)) ∙ sym (λ i. pick (yes e q i) (product_by (is_whole (field_at line 4)) (named (field_at line 2))) F.No)
 
@@ -75,6 +76,6 @@ module _ (line : List ℕ) {t : Bool} where
     unfolding cast_form
     no_cast q = sym (λ i. pick (no e q i) (cast_by (named (field_at line 2)) (named (field_at line 4))) F.No)
 
-    pub is_cast : t ≡ true → {y z : Named} → y ≡ named (field_at line 2) → z ≡ named (field_at line 4) → cast_by y z ≡ cast_form line
+    pub is_cast : t ≡ true → {y z : Option Kind} → y ≡ named (field_at line 2) → z ≡ named (field_at line 4) → cast_by y z ≡ cast_form line
     unfolding cast_form
     is_cast q ey ez = (λ i. cast_by (ey i) (ez i)) ∙ sym (λ i. pick (yes e q i) (cast_by (named (field_at line 2)) (named (field_at line 4))) F.No)

@@ -1,15 +1,14 @@
 -- docs/LINES.md, "The calculator": which call a line is. "A line that is no such call is answered with `refused→7`: an unknown
 -- word, too few or too many fields, a K that is no kind's name, an N of another form."
-use Rattle.std.specs.Prelude.{Bool, false, List, ℕ, ◌+◌, eqb, length}
+use Rattle.std.specs.Prelude.{Bool, false, List, ℕ, ◌+◌, eqb, length, Option, Some, None}
 use Prim.Native.Char.{code}
 use Rattle.basis.specs.Choice.{pick}
 use Rattle.basis.specs.Letters.{bytes}
 use Rattle.timetable.specs.Fields.{fields_of, field_at}
 use Rattle.numerals.specs.Reading.{at, numeral_at}
 use Rattle.condition_words.specs.Words.{same}
+use Rattle.value.specs.declared.Kind.{Kind}
 use Rattle.condition_symbols.specs.Symbols.{named}
-use Rattle.condition_symbols.specs.declared.Named.{Named}
-use Rattle.condition_symbols.specs.declared.Named.TheVariants as N
 use Rattle.calls_asked.specs.declared.One.{One}
 use Rattle.calls_asked.specs.declared.One.TheVariants as O
 use Rattle.calls_asked.specs.declared.Two.{Two}
@@ -40,35 +39,35 @@ unfoldable pub whole_magnitude : List ℕ → ℕ
 whole_magnitude s = (numeral_at s (digits_at s)).value
 
 -- word K T
-abbrev pub one_by : One → Named → CallForm
-one_by o N.No = F.No
-one_by o (N.Is k) = F.OfOne o k
+abbrev pub one_by : One → Option Kind → CallForm
+one_by o None = F.No
+one_by o (Some k) = F.OfOne o k
 
 unfoldable pub one_form : List ℕ → One → CallForm
 one_form line o = pick (exactly line 3) (one_by o (named (field_at line 2))) F.No
 
 -- word K T K T
-abbrev pub two_by : Two → Named → Named → CallForm
-two_by o N.No second = F.No
-two_by o (N.Is k) N.No = F.No
-two_by o (N.Is k) (N.Is l) = F.OfTwo o k l
+abbrev pub two_by : Two → Option Kind → Option Kind → CallForm
+two_by o None second = F.No
+two_by o (Some k) None = F.No
+two_by o (Some k) (Some l) = F.OfTwo o k l
 
 unfoldable pub two_form : List ℕ → Two → CallForm
 two_form line o = pick (exactly line 5) (two_by o (named (field_at line 2)) (named (field_at line 4))) F.No
 
 -- `multiply` K T N
-abbrev pub product_by : Bool → Named → CallForm
-product_by whole N.No = F.No
-product_by whole (N.Is k) = pick whole (F.Product k) F.No
+abbrev pub product_by : Bool → Option Kind → CallForm
+product_by whole None = F.No
+product_by whole (Some k) = pick whole (F.Product k) F.No
 
 unfoldable pub product_form : List ℕ → CallForm
 product_form line = pick (exactly line 4) (product_by (is_whole (field_at line 4)) (named (field_at line 2))) F.No
 
 -- `cast` K T K
-abbrev pub cast_by : Named → Named → CallForm
-cast_by N.No second = F.No
-cast_by (N.Is k) N.No = F.No
-cast_by (N.Is k) (N.Is l) = F.Cast k l
+abbrev pub cast_by : Option Kind → Option Kind → CallForm
+cast_by None second = F.No
+cast_by (Some k) None = F.No
+cast_by (Some k) (Some l) = F.Cast k l
 
 unfoldable pub cast_form : List ℕ → CallForm
 cast_form line = pick (exactly line 4) (cast_by (named (field_at line 2)) (named (field_at line 4))) F.No

@@ -5,7 +5,7 @@ ghost use Rattle.calls_asked.specs.Asked as the;
 ghost use Rattle.calls_asked.specs.Carried as carried;
 
 use crate::{CallForm, One, Two};
-use condition_symbols::{Named, kind_named};
+use condition_symbols::kind_named;
 use condition_words::same;
 use numerals::byte;
 use operation_arithmetic::products::MAX_FACTOR;
@@ -69,8 +69,8 @@ fn one(line: &[u8], o: One) -> CallForm
         return CallForm::No;
     }
     match kind_named(field(line, 2)) {
-        Named::No => CallForm::No,
-        Named::Is(k) => CallForm::OfOne(o, k),
+        None => CallForm::No,
+        Some(k) => CallForm::OfOne(o, k),
     }
 }
 
@@ -81,10 +81,10 @@ fn two(line: &[u8], o: Two) -> CallForm
         return CallForm::No;
     }
     match kind_named(field(line, 2)) {
-        Named::No => CallForm::No,
-        Named::Is(k) => match kind_named(field(line, 4)) {
-            Named::No => CallForm::No,
-            Named::Is(l) => CallForm::OfTwo(o, k, l),
+        None => CallForm::No,
+        Some(k) => match kind_named(field(line, 4)) {
+            None => CallForm::No,
+            Some(l) => CallForm::OfTwo(o, k, l),
         },
     }
 }
@@ -97,8 +97,8 @@ fn product(line: &[u8]) -> CallForm
     }
     let n = whole(field(line, 4));
     match kind_named(field(line, 2)) {
-        Named::No => CallForm::No,
-        Named::Is(k) => {
+        None => CallForm::No,
+        Some(k) => {
             if n.good {
                 return CallForm::Product(k);
             }
@@ -114,10 +114,10 @@ fn cast(line: &[u8]) -> CallForm
         return CallForm::No;
     }
     match kind_named(field(line, 2)) {
-        Named::No => CallForm::No,
-        Named::Is(k) => match kind_named(field(line, 4)) {
-            Named::No => CallForm::No,
-            Named::Is(l) => CallForm::Cast(k, l),
+        None => CallForm::No,
+        Some(k) => match kind_named(field(line, 4)) {
+            None => CallForm::No,
+            Some(l) => CallForm::Cast(k, l),
         },
     }
 }

@@ -1,3 +1,1 @@
-pub mod Growing
 pub mod NumberTexts
-pub mod Magnitudes

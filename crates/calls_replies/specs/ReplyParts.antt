@@ -1,21 +1,16 @@
 -- docs/LINES.md, "The calculator": components are `name=number` pairs with one space between them, those that the kind has, in
 -- the order `year month day hours minutes seconds zone`; of either duration kind all six.
-use Rattle.std.specs.Prelude.{Bool, true, false, List, [], ◌∷◌, ◌++◌, ℕ, ℤ, pos, negsuc, nat_abs}
+use Rattle.std.specs.Prelude.{Bool, true, false, List, [], ◌∷◌, ◌++◌, ℕ, ℤ, pos, negsuc, nat_abs, None, Option, Some}
 use Prim.Native.Char.{code}
 use Prim.Native.String.{String}
 use Rattle.basis.specs.Choice.{pick}
 use Rattle.basis.specs.Letters.{bytes}
 use Rattle.value_components.specs.Components.{ComponentParts, of_moment, of_duration}
 use Rattle.value.specs.declared.Offset.TheVariants.{East, West}
-use Rattle.value.specs.declared.Zone.{Zone}
-use Rattle.value.specs.declared.Zone.TheVariants.{Absent, At}
 use Rattle.value_components.specs.declared.Clock.{Clock}
-use Rattle.value_components.specs.declared.DateField.{DateField}
-use Rattle.value_components.specs.declared.DateField.TheVariants as DV
-use Rattle.value_components.specs.declared.ClockField.{ClockField}
-use Rattle.value_components.specs.declared.ClockField.TheVariants as TV
 use Rattle.value_components.specs.declared.Lasting.{Lasting}
 use Rattle.calls_replies.specs.Replies.{number_text}
+use Rattle.value.specs.declared.Offset.{Offset}
 
 abbrev pub space : ℕ
 space = code " "
@@ -24,24 +19,24 @@ abbrev pub plain : String → ℕ → List ℕ
 plain name n = bytes name ++ number_text false n 0
 
 -- a field that the kind has, and a space after it; the zone is the last of the pairs
-abbrev pub date_field_text : List ℕ → DateField → List ℕ
-date_field_text name DV.Absent = []
-date_field_text name (DV.Is n) = (name ++ number_text false n 0) ++ (space ∷ [])
+abbrev pub date_field_text : List ℕ → Option ℕ → List ℕ
+date_field_text name None = []
+date_field_text name (Some n) = (name ++ number_text false n 0) ++ (space ∷ [])
 
 -- "`seconds` has its fraction after a point, without final zeros, and no point where the fraction is zero"
 abbrev pub clock_text : Clock → List ℕ
 clock_text c =
     plain "hours=" c.hours ++ (plain " minutes=" c.minutes ++ (bytes " seconds=" ++ number_text false c.seconds c.part))
 
-abbrev pub clock_field_text : ClockField → List ℕ
-clock_field_text TV.Absent = []
-clock_field_text (TV.Is c) = clock_text c ++ (space ∷ [])
+abbrev pub clock_field_text : Option Clock → List ℕ
+clock_field_text None = []
+clock_field_text (Some c) = clock_text c ++ (space ∷ [])
 
 -- "the offset in minutes, with a minus west of UTC, or `none`"
-abbrev pub zone_shown : Zone → List ℕ
-zone_shown Absent = bytes "zone=none"
-zone_shown (At (East n)) = bytes "zone=" ++ number_text false n 0
-zone_shown (At (West n)) = bytes "zone=" ++ number_text true n 0
+abbrev pub zone_shown : Option Offset → List ℕ
+zone_shown None = bytes "zone=none"
+zone_shown (Some (East n)) = bytes "zone=" ++ number_text false n 0
+zone_shown (Some (West n)) = bytes "zone=" ++ number_text true n 0
 
 -- whether a number is below zero
 abbrev pub is_negative : ℤ → Bool

@@ -1,7 +1,8 @@
 -- Document 01, "Conditions" and "Refusal numbers": which texts Open accepts, "7 by length, 8, 7 by grammar, 9, the leftmost
 -- bad literal's own number", and the result of a condition at a row, in the zone that values without one count in. `parse` gives the
 -- tree that the productions of crate condition_grammar derive (Laws.antt).
-use Rattle.std.specs.Prelude.{ℕ, Bool, true, false, List, length, leb}
+use Rattle.std.specs.Prelude.{ℕ, Bool, true, false, List, length, leb, Err, Ok}
+use Rattle.std.specs.Prelude as std
 use Rattle.basis.specs.Choice.{pick, both}
 use Rattle.basis.specs.Answer.{Reason, Answer, gives, refuses_for, only_number, refuses}
 use Rattle.value.specs.Reasons.{reason_of}
@@ -18,10 +19,9 @@ use Rattle.condition_grammar.specs.Trees.{Tree, parse}
 use Rattle.condition_readers.specs.Lengths.{parse_within}
 pub use Rattle.condition_readers.specs.Lengths.{min_length, max_length}
 use Rattle.condition_readers.specs.Meaning.{sort_of, first, first_bad, eval}
-use Rattle.condition.specs.declared.Checked.{Checked}
-use Rattle.condition.specs.declared.Checked.TheVariants as C
 use Rattle.condition.specs.declared.Judged.{Judged}
 use Rattle.condition.specs.declared.Judged.TheVariants as J
+use Rattle.value.specs.declared.Refusal.{Refusal}
 
 -- whether an answer is no refusal
 unfoldable pub passes : Answer (Unit {0}) → Bool
@@ -44,9 +44,9 @@ check_of s =
     pick (both (leb min_length (length s)) (leb (length s) max_length)) (pick (deep s) (refuses too_deep) (by_tree s (parse s))) (refuses bad_condition)
 
 -- what an answer says: that the condition is accepted, or the number of a refusal
-abbrev pub checked : Checked → Answer (Unit {0})
-checked C.Accepted = gives tt
-checked (C.Refused r) = refuses_for (reason_of r)
+abbrev pub checked : std.Result Unit Refusal → Answer (Unit {0})
+checked (Ok tt) = gives tt
+checked (Err r) = refuses_for (reason_of r)
 
 -- a condition that passes Open's checks
 unfoldable pub accepted : List ℕ → Bool
@@ -81,9 +81,13 @@ if_accepted (refuses_for r) v = refuses_for r
 unfoldable pub result_of : List ℕ → List ℕ → Answer Result
 result_of s line = if_accepted (check_of s) (result_at utc s (row_of line))
 
--- what an answer says: the result, or Open's number
-abbrev pub judged : Judged → Answer Result
-judged J.Hit = gives hit
-judged J.Miss = gives miss
-judged (J.Unreadable r) = gives (unreadable (reason_of r))
-judged (J.Refused r) = refuses_for (reason_of r)
+-- what a judgement says
+abbrev pub judged : Judged → Result
+judged J.Hit = hit
+judged J.Miss = miss
+judged (J.Unreadable r) = unreadable (reason_of r)
+
+-- what an answer says: a judgement, or Open's number
+abbrev pub result_said : std.Result Judged Refusal → Answer Result
+result_said (Ok j) = gives (judged j)
+result_said (Err r) = refuses_for (reason_of r)

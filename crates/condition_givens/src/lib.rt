@@ -1,4 +1,5 @@
-// What a part of a condition gives, and what a literal and a field of a row give, checked or evaluated (document 01, "Conditions").
+// What a part of a condition gives, and what a literal and a field of a row give, checked or evaluated (document 01,
+// "Conditions").
 #![tactic(auto)]
 
 ghost use Rattle.std.specs.Prelude.{◌≡◌};
@@ -12,7 +13,7 @@ ghost use Rattle.condition_givens.specs.Data as its;
 ghost use Rattle.condition_givens.specs.Carried as the;
 
 use condition_words::cut;
-use value::{Kind, Outcome, Refusal, Value};
+use value::{Kind, Refusal, Value};
 
 // What a part gives: nothing where it is not evaluated, a value, a truth value, or the first refusal.
 #[derive(Clone, Copy)]
@@ -31,6 +32,13 @@ pub enum Mode {
     Dead,
 }
 
+// A row: a line, and beside it a made text, which is that of its second field; empty for none.
+#[derive(Clone, Copy)]
+pub struct RowTexts<'a> {
+    pub line: &'a [u8],
+    pub made: &'a [u8],
+}
+
 // A refusal.
 pub fn refused(number: u8) -> Given
     ensures { result ≡ the.given_of (refuses number) }
@@ -39,22 +47,22 @@ pub fn refused(number: u8) -> Given
 }
 
 // A value that was answered.
-pub fn valued(a: Outcome) -> Given
+pub fn valued(a: Result<Value, Refusal>) -> Given
     ensures { result ≡ the.given_of (its.valued (meaning a)) }
 {
     match a {
-        Outcome::Is(v) => Given::Is(v),
-        Outcome::Refused(r) => Given::Refused(r),
+        Ok(v) => Given::Is(v),
+        Err(r) => Given::Refused(r),
     }
 }
 
 // The refusal of a text that is only checked.
-fn bad(a: Outcome) -> Given
+fn bad(a: Result<Value, Refusal>) -> Given
     ensures { result ≡ the.bad_of (meaning a) }
 {
     match a {
-        Outcome::Is(_) => Given::Nothing,
-        Outcome::Refused(r) => Given::Refused(r),
+        Ok(_) => Given::Nothing,
+        Err(r) => Given::Refused(r),
     }
 }
 
@@ -69,13 +77,12 @@ pub fn literal(mode: Mode, kind: Kind, s: &[u8], from: usize, to: usize) -> Give
     }
 }
 
-// The n-th field of the row: a line with a made text beside it.
-pub fn field(mode: Mode, kind: Kind, line: &[u8], n: usize, made: &[u8]) -> Given
-    ensures { result ≡ the.field_in mode (read_field kind (row_with line.now made.now) n) }
+// The n-th field of a row.
+pub fn field(mode: Mode, kind: Kind, row: RowTexts, n: usize) -> Given
+    ensures { result ≡ the.field_in mode (read_field kind (row_with row.entry.line.now row.entry.made.now) n) }
 {
     match mode {
-        Mode::Check => Given::Nothing,
-        Mode::Live => valued(text_fields::read(kind, line, n, made)),
-        Mode::Dead => Given::Nothing,
+        Mode::Live => valued(text_fields::read(kind, row.line, n, row.made)),
+        Mode::Check | Mode::Dead => Given::Nothing,
     }
 }

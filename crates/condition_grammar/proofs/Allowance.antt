@@ -7,22 +7,18 @@ use mathlib.Core.List.{List}
 use Prim.Native.Nat.{ℕ, zero, suc, ◌+◌, ◌-◌, ◌≤◌}
 use native.Mathlib.Omega.{arith}
 use lib.ListN.{length}
+use Rattle.std.specs.Prelude.{Option, Some, None, Ok, Err}
 use Rattle.value.specs.declared.Kind.{Kind}
 use Rattle.condition_words.specs.Words.{skipped}
 use Rattle.condition_depth.specs.Depth.{deep, max_depth}
-use Rattle.condition_symbols.specs.Symbols.{or_at, and_at, comparison_at, sign_at, start_at, held_at, multiplier_at, closing_at}
+use Rattle.condition_symbols.specs.Symbols.{or_at, and_at, comparison_at, sign_at, start_at, held_at, multiplier_at, closing_at, Multiplied}
 use Rattle.condition_grammar.proofs.Levels.{Level, LevelMark, LevelJoint, LevelMultiplier, LevelHeld, LevelStart, closing_level, or_level, and_level, comparison_level, sign_level, multiplier_level, held_level, start_level, level_0}
 use Rattle.condition_symbols.specs.declared.Op.{Op}
 use Rattle.condition_symbols.specs.declared.Joint.{Joint}
-use Rattle.condition_symbols.specs.declared.Joint.TheVariants as J
-use Rattle.condition_symbols.specs.declared.Mark.{Mark}
-use Rattle.condition_symbols.specs.declared.Mark.TheVariants as M
 use Rattle.condition_symbols.specs.declared.Start.{Start}
 use Rattle.condition_symbols.specs.declared.Start.TheVariants as S
 use Rattle.condition_symbols.specs.declared.Held.{Held}
 use Rattle.condition_symbols.specs.declared.Held.TheVariants as H
-use Rattle.condition_symbols.specs.declared.Multiplier.{Multiplier}
-use Rattle.condition_symbols.specs.declared.Multiplier.TheVariants as T
 use Rattle.condition_grammar.specs.Grammar.{Parsed, none, got, then, past_mark, operated, scaled, started, holding, closed_at, many, repeated, Parts, Inside, inner, condition, condition_in, condition_more_in, clause_in, clause_more_in, test_in, sum_in, sum_more_in, term_in, term_more_in, factor_in, held_in}
 use Rattle.condition_grammar.specs.Trees.{Tree, trees, whole_text, parse, AllowanceNeverDecides}
 
@@ -42,42 +38,42 @@ module _ {X : Type 0} (s : List ℕ) where
       by none e = (refl, tt)
       by (got x n) e = h x n e
 
-  operated_alike : (k : ℕ) (x : Joint) (a b : Parsed X) (f g : Op → ℕ → ℕ → Parsed X) → LevelJoint s k x → Alike k a b →
+  operated_alike : (k : ℕ) (x : Option Joint) (a b : Parsed X) (f g : Op → ℕ → ℕ → Parsed X) → LevelJoint s k x → Alike k a b →
       ((o : Op) (p n : ℕ) → Level s false k n → Alike k (f o p n) (g o p n)) → Alike k (operated x a f) (operated x b g)
-  operated_alike k J.No a b f g l q h = q
-  operated_alike k (J.At o p n) a b f g l q h = h o p n l
+  operated_alike k None a b f g l q h = q
+  operated_alike k (Some j) a b f g l q h = h j.op j.at j.end l
 
-  scaled_alike : (k : ℕ) (x : Multiplier) (a : Parsed X) (f : Bool → ℕ → ℕ → ℕ → Parsed X) → LevelMultiplier s k x → Ends k a →
+  scaled_alike : (k : ℕ) (x : Multiplied) (a : Parsed X) (f : Bool → ℕ → ℕ → ℕ → Parsed X) → LevelMultiplier s k x → Ends k a →
       ((b : Bool) (v p n : ℕ) → Level s false k n → Ends k (f b v p n)) → Ends k (scaled x a f)
-  scaled_alike k T.No a f l q h = q
-  scaled_alike k T.Bad a f l q h = tt
-  scaled_alike k (T.At b v p n) a f l q h = h b v p n l
+  scaled_alike k (Ok None) a f l q h = q
+  scaled_alike k (Err x) a f l q h = tt
+  scaled_alike k (Ok (Some m)) a f l q h = h m.negative m.number m.at m.end l
 
-  marked_ends : (k : ℕ) (m : Mark) (x : X) → LevelMark s k m → Ends k (past_mark m (λ n. got x n))
-  marked_ends k M.No x l = tt
-  marked_ends k (M.At n) x l = l
+  marked_ends : (k : ℕ) (m : Option ℕ) (x : X) → LevelMark s k m → Ends k (past_mark m (λ n. got x n))
+  marked_ends k None x l = tt
+  marked_ends k (Some n) x l = l
 
   closed_alike : (k at : ℕ) (x : X) → Level s false (k + 1) at → Alike k (closed_at s at x) (closed_at s at x)
   unfolding closed_at
   closed_alike k at x l = (refl, marked_ends k (closing_at s at) x (closing_level s k at l))
 
-  started_alike : (k : ℕ) (x : Start) (o o' : ℕ → Parsed X) (m m' : Kind → ℕ → ℕ → Parsed X) → LevelStart s k x →
+  started_alike : (k : ℕ) (x : Option Start) (o o' : ℕ → Parsed X) (m m' : Kind → ℕ → ℕ → Parsed X) → LevelStart s k x →
       ((n : ℕ) → k + 1 ≤ max_depth → Level s false (k + 1) n → Alike k (o n) (o' n)) →
       ((j : Kind) (p n : ℕ) → k + 1 ≤ max_depth → Level s false (k + 1) n → Alike k (m j p n) (m' j p n)) → Alike k (started x o m) (started x o' m')
-  started_alike k S.No o o' m m' l p q = (refl, tt)
-  started_alike k (S.Open n) o o' m m' l p q = p n l.0 l.1
-  started_alike k (S.Make j w n) o o' m m' l p q = q j w n l.0 l.1
+  started_alike k None o o' m m' l p q = (refl, tt)
+  started_alike k (Some (S.Open n)) o o' m m' l p q = p n l.0 l.1
+  started_alike k (Some (S.Make j w n)) o o' m m' l p q = q j w n l.0 l.1
 
-  holding_alike : (j k : ℕ) (x : Held) (t t' f f' : ℕ → ℕ → ℕ → Parsed X) (e e' : Parsed X) → LevelHeld s j x →
+  holding_alike : (j k : ℕ) (x : Option Held) (t t' f f' : ℕ → ℕ → ℕ → Parsed X) (e e' : Parsed X) → LevelHeld s j x →
       ((a b n : ℕ) → Level s false j n → Alike k (t a b n) (t' a b n)) → ((i p n : ℕ) → Level s false j n → Alike k (f i p n) (f' i p n)) → Alike k e e' →
       Alike k (holding x t f e) (holding x t' f' e')
-  holding_alike j k (H.Text a b n) t t' f f' e e' l p q r = p a b n l
-  holding_alike j k (H.Field i w n) t t' f f' e e' l p q r = q i w n l
-  holding_alike j k H.Bad t t' f f' e e' l p q r = (refl, tt)
-  holding_alike j k H.Sum t t' f f' e e' l p q r = r
+  holding_alike j k (Some (H.Text a b n)) t t' f f' e e' l p q r = p a b n l
+  holding_alike j k (Some (H.Field i w n)) t t' f f' e e' l p q r = q i w n l
+  holding_alike j k None t t' f f' e e' l p q r = (refl, tt)
+  holding_alike j k (Some H.Sum) t t' f f' e e' l p q r = r
 
   -- { operator part }, of two readers of the parts
-  module _ (k : ℕ) (sign : ℕ → Joint) (p q : Op → X → ℕ → Parsed X) (join : Op → ℕ → X → X → X) (gs : (at : ℕ) → Level s false k at → LevelJoint s k (sign at))
+  module _ (k : ℕ) (sign : ℕ → Option Joint) (p q : Op → X → ℕ → Parsed X) (join : Op → ℕ → X → X → X) (gs : (at : ℕ) → Level s false k at → LevelJoint s k (sign at))
       (gp : (o : Op) (x : X) (n : ℕ) → Level s false k n → Alike k (p o x n) (q o x n)) where
     many_alike : (c at : ℕ) (left : X) → Level s false k at → Alike k (many sign p join c at left) (many sign q join c at left)
     unfolding many
@@ -85,7 +81,7 @@ module _ {X : Type 0} (s : List ℕ) where
     many_alike (suc c) at left l = operated_alike k (sign at) _ _ _ _ (gs at l) (refl, l)
         (λ o w n m. then_alike k k (p o left n) (q o left n) _ _ (gp o left n m) (λ x j e. many_alike c j (join o w left x) e))
 
-  repeated_ends : (k : ℕ) (star : ℕ → Multiplier) (scale : Bool → ℕ → ℕ → X → X) → ((at : ℕ) → Level s false k at → LevelMultiplier s k (star at)) →
+  repeated_ends : (k : ℕ) (star : ℕ → Multiplied) (scale : Bool → ℕ → ℕ → X → X) → ((at : ℕ) → Level s false k at → LevelMultiplier s k (star at)) →
       (c at : ℕ) (left : X) → Level s false k at → Ends k (repeated star scale c at left)
   unfolding repeated
   repeated_ends k star scale gs zero at left l = l

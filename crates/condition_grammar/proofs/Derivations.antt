@@ -6,16 +6,14 @@ use mathlib.Core.Bool.{Bool}
 use mathlib.Core.List.{List}
 use Prim.Native.Nat.{ℕ, zero, suc, ◌+◌, ◌<◌, ◌≤◌}
 use native.Mathlib.Omega.{arith}
+use Rattle.std.specs.Prelude.{Some, None, Ok}
 use Rattle.value.specs.declared.Kind.{Kind}
 use Rattle.condition_words.specs.Words.{skipped}
 use Rattle.condition_depth.specs.Depth.{max_depth}
-use Rattle.condition_symbols.specs.Symbols.{or_at, and_at, comparison_at, sign_at, start_at, held_at, multiplier_at, closing_at}
+use Rattle.condition_symbols.specs.Symbols.{or_at, and_at, comparison_at, sign_at, start_at, held_at, multiplier_at, closing_at, joint_of, multiplier_of}
 use Rattle.condition_symbols.specs.declared.Op.{Op}
-use Rattle.condition_symbols.specs.declared.Joint.TheVariants as J
-use Rattle.condition_symbols.specs.declared.Mark.TheVariants as M
 use Rattle.condition_symbols.specs.declared.Start.TheVariants as S
 use Rattle.condition_symbols.specs.declared.Held.TheVariants as H
-use Rattle.condition_symbols.specs.declared.Multiplier.TheVariants as T
 use Rattle.condition_grammar.specs.Grammar.{Parsed, got, closed_at, Inside, inner, condition_in, condition_more_in, clause_in, clause_more_in, test_in, sum_in, sum_more_in, term_in, term_more_in, factor_in, held_in}
 use Rattle.condition_grammar.specs.Trees.{Tree, leaf, one, two, literal, field, cast, times, trees, parse_with}
 use Rattle.condition_grammar.specs.Productions.{Phrase, Condition, Clause, Test, Sum, Term, Factor, Argument, Derives, one_clause, or_clause, one_test, and_test, lone_sum, two_sums, one_term, signed_term, one_factor, times_whole, enclosed, of_named_kind, a_text, a_field, a_cast, States}
@@ -95,11 +93,11 @@ module _ (s : List ℕ) where
       unfolding clause_in
       clause_one e = rw e
 
-      test_one : sum_at a ≡ got t b → comparison_at s b ≡ J.No → test_at a ≡ got t b
+      test_one : sum_at a ≡ got t b → comparison_at s b ≡ None → test_at a ≡ got t b
       unfolding test_in
       test_one e f = rw (e, f)
 
-      test_two : {u : Tree} {o : Op} {z p n : ℕ} (c : ℕ) → skipped s a ≡ z → sum_at a ≡ got t b → comparison_at s b ≡ J.At o p c → sum_at c ≡ got u n → test_at a ≡ got (two o z p t u) n
+      test_two : {u : Tree} {o : Op} {z p n : ℕ} (c : ℕ) → skipped s a ≡ z → sum_at a ≡ got t b → comparison_at s b ≡ Some (joint_of o p c) → sum_at c ≡ got u n → test_at a ≡ got (two o z p t u) n
       unfolding test_in
       test_two c k e f g = rw (e, f, g, k)
 
@@ -113,56 +111,56 @@ module _ (s : List ℕ) where
 
     -- a loop stops where no operator follows, and takes one turn where one does
     module _ (z a : ℕ) (t : Tree) where
-      condition_stops : or_at s a ≡ J.No → condition_more z a t ≡ got t a
+      condition_stops : or_at s a ≡ None → condition_more z a t ≡ got t a
       condition_stops e = condition_more_unfolds Tree U trees s (within d) (inner_good Tree U trees s d) z a tt t ∙ rw e
 
-      clause_stops : and_at s a ≡ J.No → clause_more z a t ≡ got t a
+      clause_stops : and_at s a ≡ None → clause_more z a t ≡ got t a
       clause_stops e = clause_more_unfolds Tree U trees s (within d) (inner_good Tree U trees s d) z a tt t ∙ rw e
 
-      sum_stops : sign_at s a ≡ J.No → sum_more z a t ≡ got t a
+      sum_stops : sign_at s a ≡ None → sum_more z a t ≡ got t a
       sum_stops e = sum_more_unfolds Tree U trees s (within d) (inner_good Tree U trees s d) z a tt t ∙ rw e
 
-      term_stops : multiplier_at s a ≡ T.No → term_more a t ≡ got t a
+      term_stops : multiplier_at s a ≡ Ok None → term_more a t ≡ got t a
       term_stops e = term_more_unfolds Tree U trees s (within d) a t ∙ rw e
 
       module _ {u : Tree} {o : Op} {w p n : ℕ} (c : ℕ) (k : z ≡ w) where
-        condition_goes : or_at s a ≡ J.At o p c → clause_at c ≡ got u n → condition_more z a t ≡ condition_more z n (two o w p t u)
+        condition_goes : or_at s a ≡ Some (joint_of o p c) → clause_at c ≡ got u n → condition_more z a t ≡ condition_more z n (two o w p t u)
         condition_goes e f = condition_more_unfolds Tree U trees s (within d) (inner_good Tree U trees s d) z a tt t ∙ rw (e, f, k)
 
-        clause_goes : and_at s a ≡ J.At o p c → test_at c ≡ got u n → clause_more z a t ≡ clause_more z n (two o w p t u)
+        clause_goes : and_at s a ≡ Some (joint_of o p c) → test_at c ≡ got u n → clause_more z a t ≡ clause_more z n (two o w p t u)
         clause_goes e f = clause_more_unfolds Tree U trees s (within d) (inner_good Tree U trees s d) z a tt t ∙ rw (e, f, k)
 
-        sum_goes : sign_at s a ≡ J.At o p c → term_at c ≡ got u n → sum_more z a t ≡ sum_more z n (two o w p t u)
+        sum_goes : sign_at s a ≡ Some (joint_of o p c) → term_at c ≡ got u n → sum_more z a t ≡ sum_more z n (two o w p t u)
         sum_goes e f = sum_more_unfolds Tree U trees s (within d) (inner_good Tree U trees s d) z a tt t ∙ rw (e, f, k)
 
-      term_goes : {b : Bool} {v p n : ℕ} → multiplier_at s a ≡ T.At b v p n → term_more a t ≡ term_more n (one (times b v) p t)
+      term_goes : {b : Bool} {v p n : ℕ} → multiplier_at s a ≡ Ok (Some (multiplier_of b v p n)) → term_more a t ≡ term_more n (one (times b v) p t)
       term_goes e = term_more_unfolds Tree U trees s (within d) a t ∙ rw e
 
-    closes : {n : ℕ} (a : ℕ) (t : Tree) → closing_at s a ≡ M.At n → closed_at s a t ≡ got t n
+    closes : {n : ℕ} (a : ℕ) (t : Tree) → closing_at s a ≡ Some n → closed_at s a t ≡ got t n
     unfolding closed_at
     closes a t e = rw e
 
     -- what a kind's name holds, up to the offset where its parenthesis is to close
     module _ (k : Kind) (w a : ℕ) {n : ℕ} where
-      argument_text : {from to : ℕ} → held_at s a ≡ H.Text from to n → argument_at k w a ≡ closed_at s n (leaf k w (literal from to))
+      argument_text : {from to : ℕ} → held_at s a ≡ Some (H.Text from to n) → argument_at k w a ≡ closed_at s n (leaf k w (literal from to))
       unfolding held_in
       argument_text e = rw e
 
-      argument_field : {i p : ℕ} → held_at s a ≡ H.Field i p n → argument_at k w a ≡ closed_at s n (leaf k w (field i p))
+      argument_field : {i p : ℕ} → held_at s a ≡ Some (H.Field i p n) → argument_at k w a ≡ closed_at s n (leaf k w (field i p))
       unfolding held_in
       argument_field e = rw e
 
-      argument_cast : {t : Tree} → held_at s a ≡ H.Sum → sum_at a ≡ got t n → argument_at k w a ≡ closed_at s n (one (cast k) w t)
+      argument_cast : {t : Tree} → held_at s a ≡ Some H.Sum → sum_at a ≡ got t n → argument_at k w a ≡ closed_at s n (one (cast k) w t)
       unfolding held_in
       argument_cast e f = rw (e, f)
 
   -- a factor opens one parenthesis more than what it holds
-  module _ (d a : ℕ) {n : ℕ} (t : Tree) (b c : ℕ) (g : closing_at s b ≡ M.At n) where
-    factor_enclosed : start_at s a ≡ S.Open c → condition_at d c ≡ got t b → factor_at (suc d) a ≡ got t n
+  module _ (d a : ℕ) {n : ℕ} (t : Tree) (b c : ℕ) (g : closing_at s b ≡ Some n) where
+    factor_enclosed : start_at s a ≡ Some (S.Open c) → condition_at d c ≡ got t b → factor_at (suc d) a ≡ got t n
     unfolding factor_in inner
     factor_enclosed e f = rw (e, f) (closes d b t g)
 
-    factor_of_kind : {k : Kind} {w : ℕ} → start_at s a ≡ S.Make k w c → argument_at d k w c ≡ closed_at s b t → factor_at (suc d) a ≡ got t n
+    factor_of_kind : {k : Kind} {w : ℕ} → start_at s a ≡ Some (S.Make k w c) → argument_at d k w c ≡ closed_at s b t → factor_at (suc d) a ≡ got t n
     unfolding factor_in inner
     factor_of_kind e f = rw e (f ∙ closes d b t g)
 

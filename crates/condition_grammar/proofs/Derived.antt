@@ -6,22 +6,18 @@ use Prim.Native.Nat.{ℕ, zero, suc, ◌-◌}
 use native.Mathlib.Omega.{arith}
 use lib.Dec.{leb}
 use lib.ListN.{length}
+use Rattle.std.specs.Prelude.{Option, Some, None, Ok, Err}
 use Rattle.basis.specs.Choice.{pick}
 use Rattle.value.specs.declared.Kind.{Kind}
 use Rattle.condition_words.specs.Words.{skipped}
 use Rattle.condition_depth.specs.Depth.{max_depth}
-use Rattle.condition_symbols.specs.Symbols.{or_at, and_at, comparison_at, sign_at, start_at, held_at, multiplier_at, closing_at}
+use Rattle.condition_symbols.specs.Symbols.{or_at, and_at, comparison_at, sign_at, start_at, held_at, multiplier_at, closing_at, Multiplied, joint_of, multiplier_of}
 use Rattle.condition_symbols.specs.declared.Op.{Op}
 use Rattle.condition_symbols.specs.declared.Joint.{Joint}
-use Rattle.condition_symbols.specs.declared.Joint.TheVariants as J
-use Rattle.condition_symbols.specs.declared.Mark.{Mark as Found}
-use Rattle.condition_symbols.specs.declared.Mark.TheVariants as M
 use Rattle.condition_symbols.specs.declared.Start.{Start}
 use Rattle.condition_symbols.specs.declared.Start.TheVariants as S
 use Rattle.condition_symbols.specs.declared.Held.{Held}
 use Rattle.condition_symbols.specs.declared.Held.TheVariants as H
-use Rattle.condition_symbols.specs.declared.Multiplier.{Multiplier}
-use Rattle.condition_symbols.specs.declared.Multiplier.TheVariants as T
 use Rattle.condition_grammar.specs.Grammar.{Parsed, none, got, then, past_mark, operated, scaled, started, holding, closed_at, many, repeated, Inside, inner, condition_in, condition_more_in, clause_in, clause_more_in, test_in, sum_in, sum_more_in, term_in, term_more_in, factor_in, held_in}
 use Rattle.condition_grammar.specs.Trees.{Tree, two, trees, whole_text, parse, parse_with}
 use Rattle.condition_grammar.specs.Productions.{Spaces, Phrase, Condition, Clause, Test, Sum, Term, Factor, Argument, Derives, one_clause, or_clause, one_test, and_test, lone_sum, two_sums, one_term, signed_term, one_factor, times_whole, enclosed, of_named_kind, a_text, a_field, a_cast, States}
@@ -55,44 +51,44 @@ module _ (Q : Tree → ℕ → Type 0) where
   gives_too R none g h = tt
   gives_too R (got t n) g h = h t n g
 
-  operated_gives : (x : Joint) (a : Parsed Tree) (k : Op → ℕ → ℕ → Parsed Tree) → Gives Q a → ((o : Op) (p n : ℕ) → x ≡ J.At o p n → Gives Q (k o p n)) → Gives Q (operated x a k)
-  operated_gives J.No a k g h = g
-  operated_gives (J.At o p n) a k g h = h o p n refl
+  operated_gives : (x : Option Joint) (a : Parsed Tree) (k : Op → ℕ → ℕ → Parsed Tree) → Gives Q a → ((o : Op) (p n : ℕ) → x ≡ Some (joint_of o p n) → Gives Q (k o p n)) → Gives Q (operated x a k)
+  operated_gives None a k g h = g
+  operated_gives (Some j) a k g h = h j.op j.at j.end refl
 
-  scaled_gives : (x : Multiplier) (a : Parsed Tree) (k : Bool → ℕ → ℕ → ℕ → Parsed Tree) → Gives Q a → ((b : Bool) (v p n : ℕ) → x ≡ T.At b v p n → Gives Q (k b v p n)) → Gives Q (scaled x a k)
-  scaled_gives T.No a k g h = g
-  scaled_gives T.Bad a k g h = nothing
-  scaled_gives (T.At b v p n) a k g h = h b v p n refl
+  scaled_gives : (x : Multiplied) (a : Parsed Tree) (k : Bool → ℕ → ℕ → ℕ → Parsed Tree) → Gives Q a → ((b : Bool) (v p n : ℕ) → x ≡ Ok (Some (multiplier_of b v p n)) → Gives Q (k b v p n)) → Gives Q (scaled x a k)
+  scaled_gives (Ok None) a k g h = g
+  scaled_gives (Err x) a k g h = nothing
+  scaled_gives (Ok (Some m)) a k g h = h m.negative m.number m.at m.end refl
 
-  marked_gives : (x : Found) (t : Tree) → ((n : ℕ) → x ≡ M.At n → Q t n) → Gives Q (past_mark x (λ n. got t n))
-  marked_gives M.No t h = nothing
-  marked_gives (M.At n) t h = this (h n refl)
+  marked_gives : (x : Option ℕ) (t : Tree) → ((n : ℕ) → x ≡ Some n → Q t n) → Gives Q (past_mark x (λ n. got t n))
+  marked_gives None t h = nothing
+  marked_gives (Some n) t h = this (h n refl)
 
-  started_gives : (x : Start) (o : ℕ → Parsed Tree) (m : Kind → ℕ → ℕ → Parsed Tree) → ((n : ℕ) → x ≡ S.Open n → Gives Q (o n)) →
-      ((k : Kind) (p n : ℕ) → x ≡ S.Make k p n → Gives Q (m k p n)) → Gives Q (started x o m)
-  started_gives S.No o m g h = nothing
-  started_gives (S.Open n) o m g h = g n refl
-  started_gives (S.Make k p n) o m g h = h k p n refl
+  started_gives : (x : Option Start) (o : ℕ → Parsed Tree) (m : Kind → ℕ → ℕ → Parsed Tree) → ((n : ℕ) → x ≡ Some (S.Open n) → Gives Q (o n)) →
+      ((k : Kind) (p n : ℕ) → x ≡ Some (S.Make k p n) → Gives Q (m k p n)) → Gives Q (started x o m)
+  started_gives None o m g h = nothing
+  started_gives (Some (S.Open n)) o m g h = g n refl
+  started_gives (Some (S.Make k p n)) o m g h = h k p n refl
 
-  holding_gives : (x : Held) (t f : ℕ → ℕ → ℕ → Parsed Tree) (e : Parsed Tree) → ((a b n : ℕ) → x ≡ H.Text a b n → Gives Q (t a b n)) →
-      ((i p n : ℕ) → x ≡ H.Field i p n → Gives Q (f i p n)) → Gives Q e → Gives Q (holding x t f e)
-  holding_gives (H.Text a b n) t f e g h q = g a b n refl
-  holding_gives (H.Field i p n) t f e g h q = h i p n refl
-  holding_gives H.Bad t f e g h q = nothing
-  holding_gives H.Sum t f e g h q = q
+  holding_gives : (x : Option Held) (t f : ℕ → ℕ → ℕ → Parsed Tree) (e : Parsed Tree) → ((a b n : ℕ) → x ≡ Some (H.Text a b n) → Gives Q (t a b n)) →
+      ((i p n : ℕ) → x ≡ Some (H.Field i p n) → Gives Q (f i p n)) → Gives Q e → Gives Q (holding x t f e)
+  holding_gives (Some (H.Text a b n)) t f e g h q = g a b n refl
+  holding_gives (Some (H.Field i p n)) t f e g h q = h i p n refl
+  holding_gives None t f e g h q = nothing
+  holding_gives (Some H.Sum) t f e g h q = q
 
   -- { operator part }: where one turn keeps the relation, the loop does
-  many_gives : (R : ℕ → Tree → ℕ → Type 0) (joint : ℕ → Joint) (part : Op → Tree → ℕ → Parsed Tree) (join : Op → ℕ → Tree → Tree → Tree) →
+  many_gives : (R : ℕ → Tree → ℕ → Type 0) (joint : ℕ → Option Joint) (part : Op → Tree → ℕ → Parsed Tree) (join : Op → ℕ → Tree → Tree → Tree) →
       ((o : Op) (l : Tree) (n : ℕ) → Gives (R n) (part o l n)) →
-      ((o : Op) (l t : Tree) (at p n m : ℕ) → Q l at → joint at ≡ J.At o p n → R n t m → Q (join o p l t) m) →
+      ((o : Op) (l t : Tree) (at p n m : ℕ) → Q l at → joint at ≡ Some (joint_of o p n) → R n t m → Q (join o p l t) m) →
       (k at : ℕ) (l : Tree) → Q l at → Gives Q (many joint part join k at l)
   unfolding many
   many_gives R joint part join g h zero at l q = this q
   many_gives R joint part join g h (suc k) at l q = operated_gives (joint at) _ _ (this q)
       (λ o p n e. then_gives (R n) (part o l n) _ (g o l n) (λ t m r. many_gives R joint part join g h k m (join o p l t) (h o l t at p n m q e r)))
 
-  repeated_gives : (star : ℕ → Multiplier) (scale : Bool → ℕ → ℕ → Tree → Tree) →
-      ((b : Bool) (l : Tree) (v at p n : ℕ) → Q l at → star at ≡ T.At b v p n → Q (scale b v p l) n) →
+  repeated_gives : (star : ℕ → Multiplied) (scale : Bool → ℕ → ℕ → Tree → Tree) →
+      ((b : Bool) (l : Tree) (v at p n : ℕ) → Q l at → star at ≡ Ok (Some (multiplier_of b v p n)) → Q (scale b v p l) n) →
       (k at : ℕ) (l : Tree) → Q l at → Gives Q (repeated star scale k at l)
   unfolding repeated
   repeated_gives star scale h zero at l q = this q

@@ -9,6 +9,7 @@ use native.Mathlib.Omega.{arith}
 use lib.Dec.{leb, ltb, eqb}
 use lib.ListN.{length, get_or}
 use borrow.Author.Tests.{leb-true, leb-false, ltb-true, eqb-true, eqb-false}
+use Rattle.std.specs.Prelude.{Option, Some, None, Result, Ok, Err}
 use Rattle.basis.specs.Choice.{pick}
 use Rattle.basis.specs.Letters.{bytes}
 use Rattle.numerals.specs.Reading.{numeral_at}
@@ -25,45 +26,40 @@ use Rattle.condition_words.specs.declared.Class.TheVariants.{Letter, Unquoted, S
 use Rattle.condition_symbols.specs.declared.Op.{Op}
 use Rattle.condition_symbols.specs.declared.Op.TheVariants as O
 use Rattle.condition_symbols.specs.declared.Joint.{Joint}
-use Rattle.condition_symbols.specs.declared.Joint.TheVariants as J
-use Rattle.condition_symbols.specs.declared.Mark.{Mark}
-use Rattle.condition_symbols.specs.declared.Mark.TheVariants as M
-use Rattle.condition_symbols.specs.declared.Named.{Named}
-use Rattle.condition_symbols.specs.declared.Named.TheVariants as N
 use Rattle.condition_symbols.specs.declared.Start.{Start}
 use Rattle.condition_symbols.specs.declared.Start.TheVariants as S
+use Rattle.condition_symbols.specs.declared.Multiplier.{Multiplier}
+use Rattle.condition_symbols.specs.declared.NoNumber.{NoNumber}
 use Rattle.condition_symbols.specs.declared.Held.{Held}
 use Rattle.condition_symbols.specs.declared.Held.TheVariants as H
-use Rattle.condition_symbols.specs.declared.Multiplier.{Multiplier}
-use Rattle.condition_symbols.specs.declared.Multiplier.TheVariants as T
 
 -- n lies past an offset, and within a text of so many bytes
 abbrev pub Past : ℕ → ℕ → ℕ → Type 0
 Past L at n = (at < n) × (n ≤ L)
 
-abbrev pub PastMark : ℕ → ℕ → Mark → Type 0
-PastMark L at M.No = Unit {0}
-PastMark L at (M.At n) = Past L at n
+abbrev pub PastMark : ℕ → ℕ → Option ℕ → Type 0
+PastMark L at None = Unit {0}
+PastMark L at (Some n) = Past L at n
 
-abbrev pub PastJoint : ℕ → ℕ → Joint → Type 0
-PastJoint L at J.No = Unit {0}
-PastJoint L at (J.At o p n) = Past L at n
+abbrev pub PastJoint : ℕ → ℕ → Option Joint → Type 0
+PastJoint L at None = Unit {0}
+PastJoint L at (Some j) = Past L at j.end
 
-abbrev pub PastStart : ℕ → ℕ → Start → Type 0
-PastStart L at S.No = Unit {0}
-PastStart L at (S.Open n) = Past L at n
-PastStart L at (S.Make k p n) = Past L at n
+abbrev pub PastStart : ℕ → ℕ → Option Start → Type 0
+PastStart L at None = Unit {0}
+PastStart L at (Some (S.Open n)) = Past L at n
+PastStart L at (Some (S.Make k p n)) = Past L at n
 
-abbrev pub PastHeld : ℕ → ℕ → Held → Type 0
-PastHeld L at (H.Text a b n) = Past L at n
-PastHeld L at (H.Field i p n) = Past L at n
-PastHeld L at H.Bad = Unit {0}
-PastHeld L at H.Sum = Unit {0}
+abbrev pub PastHeld : ℕ → ℕ → Option Held → Type 0
+PastHeld L at (Some (H.Text a b n)) = Past L at n
+PastHeld L at (Some (H.Field i p n)) = Past L at n
+PastHeld L at None = Unit {0}
+PastHeld L at (Some H.Sum) = Unit {0}
 
-abbrev pub PastMultiplier : ℕ → ℕ → Multiplier → Type 0
-PastMultiplier L at T.No = Unit {0}
-PastMultiplier L at T.Bad = Unit {0}
-PastMultiplier L at (T.At negative v p n) = Past L at n
+abbrev pub PastMultiplier : ℕ → ℕ → the.Multiplied → Type 0
+PastMultiplier L at (Ok None) = Unit {0}
+PastMultiplier L at (Err x) = Unit {0}
+PastMultiplier L at (Ok (Some m)) = Past L at m.end
 
 -- what holds of both answers of a choice, each under its test, holds of the choice
 pub picked : {A : Type 0} (P : A → Type 0) (b : Bool) (x y : A) → (b ≡ true → P x) → (b ≡ false → P y) → P (pick b x y)
@@ -118,28 +114,31 @@ module _ (s : List ℕ) (at : ℕ) where
   pub and_past : PastJoint (length s) at (the.and_at s at)
   and_past = operator_past (bytes "and") O.And refl
 
+  abbrev PastWord : Option Op → Type 0
+  PastWord o = PastJoint (length s) at (the.word_joint o (skipped s at) (stretch_end Letter s (skipped s at)))
+
   pub comparison_past : PastJoint (length s) at (the.comparison_at s at)
   unfolding the.comparison_at the.comparing
   comparison_past =
-      picked (PastJoint (length s) at) (same (word_at s (skipped s at)) (bytes "eq")) _ _ (λ e. word_past (bytes "eq") e refl) (λ f.
-      picked (PastJoint (length s) at) (same (word_at s (skipped s at)) (bytes "ne")) _ _ (λ e. word_past (bytes "ne") e refl) (λ f.
-      picked (PastJoint (length s) at) (same (word_at s (skipped s at)) (bytes "lt")) _ _ (λ e. word_past (bytes "lt") e refl) (λ f.
-      picked (PastJoint (length s) at) (same (word_at s (skipped s at)) (bytes "le")) _ _ (λ e. word_past (bytes "le") e refl) (λ f.
-      picked (PastJoint (length s) at) (same (word_at s (skipped s at)) (bytes "gt")) _ _ (λ e. word_past (bytes "gt") e refl) (λ f.
-      picked (PastJoint (length s) at) (same (word_at s (skipped s at)) (bytes "ge")) _ _ (λ e. word_past (bytes "ge") e refl) (λ f. tt))))))
+      picked PastWord (same (word_at s (skipped s at)) (bytes "eq")) _ _ (λ e. word_past (bytes "eq") e refl) (λ f.
+      picked PastWord (same (word_at s (skipped s at)) (bytes "ne")) _ _ (λ e. word_past (bytes "ne") e refl) (λ f.
+      picked PastWord (same (word_at s (skipped s at)) (bytes "lt")) _ _ (λ e. word_past (bytes "lt") e refl) (λ f.
+      picked PastWord (same (word_at s (skipped s at)) (bytes "le")) _ _ (λ e. word_past (bytes "le") e refl) (λ f.
+      picked PastWord (same (word_at s (skipped s at)) (bytes "gt")) _ _ (λ e. word_past (bytes "gt") e refl) (λ f.
+      picked PastWord (same (word_at s (skipped s at)) (bytes "ge")) _ _ (λ e. word_past (bytes "ge") e refl) (λ f. tt))))))
 
   pub sign_past : PastJoint (length s) at (the.sign_at s at)
   unfolding the.sign_at
   sign_past = picked (PastJoint (length s) at) (eqb (get_or s (skipped s at) 0) (code "+")) _ _ (λ e. next_past s at (code "+") e refl)
       (λ f. picked (PastJoint (length s) at) (eqb (get_or s (skipped s at) 0) (code "-")) _ _ (λ e. next_past s at (code "-") e refl) (λ e. tt))
 
-  made_past : (k : Kind) (p e : ℕ) (m : Mark) → at ≤ e → PastMark (length s) e m → PastStart (length s) at (the.kind_start k p m)
-  made_past k p e M.No h g = tt
-  made_past k p e (M.At n) h g = (omega arith, g.1)
+  made_past : (k : Kind) (p e : ℕ) (m : Option ℕ) → at ≤ e → PastMark (length s) e m → PastStart (length s) at (the.kind_start k p m)
+  made_past k p e None h g = tt
+  made_past k p e (Some n) h g = (omega arith, g.1)
 
-  makes_past : (p : ℕ) (n : Named) → at ≤ p → PastStart (length s) at (the.makes s p n)
-  makes_past p N.No h = tt
-  makes_past p (N.Is k) h = made_past k p (stretch_end Letter s p) (the.opening_at s (stretch_end Letter s p)) (omega (arith, stretch_from Letter s p))
+  makes_past : (p : ℕ) (n : Option Kind) → at ≤ p → PastStart (length s) at (the.makes s p n)
+  makes_past p None h = tt
+  makes_past p (Some k) h = made_past k p (stretch_end Letter s p) (the.opening_at s (stretch_end Letter s p)) (omega (arith, stretch_from Letter s p))
       (mark_past s (stretch_end Letter s p) (code "(") refl)
 
   pub start_past : PastStart (length s) at (the.start_at s at)
@@ -166,14 +165,17 @@ module _ (s : List ℕ) (at : ℕ) where
       (λ e. picked (PastHeld (length s) at) (eqb (get_or s (skipped s at) 0) (code "$")) _ _
       (λ f. field_past (skipped s at) (skips_from s at) (stands_at s (skipped s at) (code "$") f refl)) (λ f. tt))
 
-  whole_past : (b : Bool) (p d : ℕ) → at < d → d ≤ length s → PastMultiplier (length s) at (the.whole_of b p d (numeral_at s d))
-  unfolding the.whole_of
-  whole_past b p d h k = picked (PastMultiplier (length s) at) (leb 1 (numeral_at s d).count) _ _
-      (λ e. picked (PastMultiplier (length s) at) (leb (numeral_at s d).count 6) _ _ (λ f. (omega arith, stretch_le s d k)) (λ f. tt)) (λ e. tt)
+  abbrev PastWhole : Result Multiplier NoNumber → Type 0
+  PastWhole r = PastMultiplier (length s) at (the.after_star r)
 
-  from_past : (p : ℕ) → at < p → p ≤ length s → PastMultiplier (length s) at (the.whole_from s p)
+  whole_past : (b : Bool) (p d : ℕ) → at < d → d ≤ length s → PastWhole (the.whole_of b p d (numeral_at s d))
+  unfolding the.whole_of
+  whole_past b p d h k = picked PastWhole (leb 1 (numeral_at s d).count) _ _
+      (λ e. picked PastWhole (leb (numeral_at s d).count 6) _ _ (λ f. (omega arith, stretch_le s d k)) (λ f. tt)) (λ e. tt)
+
+  from_past : (p : ℕ) → at < p → p ≤ length s → PastWhole (the.whole_from s p)
   unfolding the.whole_from
-  from_past p h k = picked (PastMultiplier (length s) at) (eqb (get_or s p 0) (code "-")) _ _
+  from_past p h k = picked PastWhole (eqb (get_or s p 0) (code "-")) _ _
       (λ e. let j : p < length s = stands_at s p (code "-") e refl in whole_past true p (p + 1) (omega arith) (omega arith))
       (λ e. whole_past false p p h k)
 
@@ -185,24 +187,27 @@ module _ (s : List ℕ) (at : ℕ) where
       (stretch_within Space s (skipped s at + 1) (omega arith))) (λ e. tt)
 
 -- at the end of a text no `*` stands, so none without its whole number
-pub star_at_end : (s : List ℕ) (at : ℕ) → length s ≤ at → the.multiplier_at s at ≡ T.Bad → ⊥
+pub star_at_end : (s : List ℕ) (at : ℕ) → length s ≤ at → the.multiplier_at s at ≡ Err the.without_number → ⊥
 unfolding the.multiplier_at
-star_at_end s at h = picked (λ x. x ≡ T.Bad → ⊥) (eqb (get_or s (skipped s at) 0) (code "*")) _ _
+star_at_end s at h = picked (λ x. x ≡ Err the.without_number → ⊥) (eqb (get_or s (skipped s at) 0) (code "*")) _ _
     (λ e f. let k : skipped s at < length s = stands_at s (skipped s at) (code "*") e refl in omega (arith, skips_from s at))
     (λ e f. let z : ◌≡◌ {A = ℕ} 0 1 = cc in omega arith)
 
 -- a whole number of at most six digits is below 1,000,000
-abbrev pub Small : Multiplier → Type 0
-Small T.No = Unit {0}
-Small T.Bad = Unit {0}
-Small (T.At negative v p n) = v < 1000000
+abbrev pub Small : the.Multiplied → Type 0
+Small (Ok None) = Unit {0}
+Small (Err x) = Unit {0}
+Small (Ok (Some m)) = m.number < 1000000
 
-whole_small : (s : List ℕ) (b : Bool) (p d : ℕ) → Small (the.whole_of b p d (numeral_at s d))
+abbrev SmallWhole : Result Multiplier NoNumber → Type 0
+SmallWhole r = Small (the.after_star r)
+
+whole_small : (s : List ℕ) (b : Bool) (p d : ℕ) → SmallWhole (the.whole_of b p d (numeral_at s d))
 unfolding the.whole_of
-whole_small s b p d = picked Small (leb 1 (numeral_at s d).count) _ _
-    (λ e. picked Small (leb (numeral_at s d).count 6) _ _ (λ f. widened (numeral_at s d).value (numeral_at s d).count 6 (leb-true _ _ f) (stretch_lt s d)) (λ f. tt)) (λ e. tt)
+whole_small s b p d = picked SmallWhole (leb 1 (numeral_at s d).count) _ _
+    (λ e. picked SmallWhole (leb (numeral_at s d).count 6) _ _ (λ f. widened (numeral_at s d).value (numeral_at s d).count 6 (leb-true _ _ f) (stretch_lt s d)) (λ f. tt)) (λ e. tt)
 
 pub multiplier_small : (s : List ℕ) (at : ℕ) → Small (the.multiplier_at s at)
 unfolding the.multiplier_at the.whole_from
 multiplier_small s at = picked Small (eqb (get_or s (skipped s at) 0) (code "*")) _ _
-    (λ e. picked Small (eqb (get_or s (skipped s (skipped s at + 1)) 0) (code "-")) _ _ (λ f. whole_small s true _ _) (λ f. whole_small s false _ _)) (λ e. tt)
+    (λ e. picked SmallWhole (eqb (get_or s (skipped s (skipped s at + 1)) 0) (code "-")) _ _ (λ f. whole_small s true _ _) (λ f. whole_small s false _ _)) (λ e. tt)

@@ -6,20 +6,16 @@ use mathlib.Core.Bool.{Bool}
 use mathlib.Core.List.{List}
 use Prim.Native.Nat.{ℕ, zero, suc, ◌-◌}
 use lib.ListN.{length}
+use Rattle.std.specs.Prelude.{Option, Some, None, Ok, Err}
 use Rattle.value.specs.declared.Kind.{Kind}
 use Rattle.condition_words.specs.Words.{skipped}
-use Rattle.condition_symbols.specs.Symbols.{or_at, and_at, comparison_at, sign_at, start_at, held_at, multiplier_at, closing_at}
+use Rattle.condition_symbols.specs.Symbols.{or_at, and_at, comparison_at, sign_at, start_at, held_at, multiplier_at, closing_at, Multiplied}
 use Rattle.condition_symbols.specs.declared.Op.{Op}
 use Rattle.condition_symbols.specs.declared.Joint.{Joint}
-use Rattle.condition_symbols.specs.declared.Joint.TheVariants as J
-use Rattle.condition_symbols.specs.declared.Mark.{Mark}
-use Rattle.condition_symbols.specs.declared.Mark.TheVariants as M
 use Rattle.condition_symbols.specs.declared.Start.{Start}
 use Rattle.condition_symbols.specs.declared.Start.TheVariants as S
 use Rattle.condition_symbols.specs.declared.Held.{Held}
 use Rattle.condition_symbols.specs.declared.Held.TheVariants as H
-use Rattle.condition_symbols.specs.declared.Multiplier.{Multiplier}
-use Rattle.condition_symbols.specs.declared.Multiplier.TheVariants as T
 use Rattle.condition_grammar.specs.Grammar.{Parsed, none, got, then, past_mark, operated, scaled, started, holding, closed_at, many, repeated, Parts, Inside, inner, condition, condition_in, condition_more_in, clause_in, clause_more_in, test_in, sum_in, sum_more_in, term_in, term_more_in, factor_in, held_in}
 use Rattle.condition_grammar.specs.Trees.{Tree, leaf, one, two, literal, field, cast, times, trees}
 
@@ -43,40 +39,40 @@ then_each : {X Y : Type 0} (e : Tree → X) (h : Tree → Y) (p : Parsed Tree) (
 then_each e h none k k' q = refl
 then_each e h (got t n) k k' q = q t n
 
-operated_each : {X : Type 0} (h : Tree → X) (x : Joint) (a : Parsed X) (a' : Parsed Tree) (k : Op → ℕ → ℕ → Parsed X) (k' : Op → ℕ → ℕ → Parsed Tree) →
+operated_each : {X : Type 0} (h : Tree → X) (x : Option Joint) (a : Parsed X) (a' : Parsed Tree) (k : Op → ℕ → ℕ → Parsed X) (k' : Op → ℕ → ℕ → Parsed Tree) →
     a ≡ each h a' → ((o : Op) (p n : ℕ) → k o p n ≡ each h (k' o p n)) → operated x a k ≡ each h (operated x a' k')
-operated_each h J.No a a' k k' p q = p
-operated_each h (J.At o w n) a a' k k' p q = q o w n
+operated_each h None a a' k k' p q = p
+operated_each h (Some j) a a' k k' p q = q j.op j.at j.end
 
-scaled_each : {X : Type 0} (h : Tree → X) (x : Multiplier) (a : Parsed X) (a' : Parsed Tree) (k : Bool → ℕ → ℕ → ℕ → Parsed X) (k' : Bool → ℕ → ℕ → ℕ → Parsed Tree) →
+scaled_each : {X : Type 0} (h : Tree → X) (x : Multiplied) (a : Parsed X) (a' : Parsed Tree) (k : Bool → ℕ → ℕ → ℕ → Parsed X) (k' : Bool → ℕ → ℕ → ℕ → Parsed Tree) →
     a ≡ each h a' → ((b : Bool) (v p n : ℕ) → k b v p n ≡ each h (k' b v p n)) → scaled x a k ≡ each h (scaled x a' k')
-scaled_each h T.No a a' k k' p q = p
-scaled_each h T.Bad a a' k k' p q = refl
-scaled_each h (T.At b v w n) a a' k k' p q = q b v w n
+scaled_each h (Ok None) a a' k k' p q = p
+scaled_each h (Err x) a a' k k' p q = refl
+scaled_each h (Ok (Some m)) a a' k k' p q = q m.negative m.number m.at m.end
 
-marked_each : {X : Type 0} (h : Tree → X) (m : Mark) (x : X) (t : Tree) → x ≡ h t → past_mark m (λ n. got x n) ≡ each h (past_mark m (λ n. got t n))
-marked_each h M.No x t e = refl
-marked_each h (M.At n) x t e = ap (λ y. got y n) e
+marked_each : {X : Type 0} (h : Tree → X) (m : Option ℕ) (x : X) (t : Tree) → x ≡ h t → past_mark m (λ n. got x n) ≡ each h (past_mark m (λ n. got t n))
+marked_each h None x t e = refl
+marked_each h (Some n) x t e = ap (λ y. got y n) e
 
 closed_each : {X : Type 0} (h : Tree → X) (s : List ℕ) (at : ℕ) (x : X) (t : Tree) → x ≡ h t → closed_at s at x ≡ each h (closed_at s at t)
 unfolding closed_at
 closed_each h s at x t e = marked_each h (closing_at s at) x t e
 
-started_each : {X : Type 0} (h : Tree → X) (x : Start) (o : ℕ → Parsed X) (m : Kind → ℕ → ℕ → Parsed X) (o' : ℕ → Parsed Tree) (m' : Kind → ℕ → ℕ → Parsed Tree) →
+started_each : {X : Type 0} (h : Tree → X) (x : Option Start) (o : ℕ → Parsed X) (m : Kind → ℕ → ℕ → Parsed X) (o' : ℕ → Parsed Tree) (m' : Kind → ℕ → ℕ → Parsed Tree) →
     ((n : ℕ) → o n ≡ each h (o' n)) → ((k : Kind) (p n : ℕ) → m k p n ≡ each h (m' k p n)) → started x o m ≡ each h (started x o' m')
-started_each h S.No o m o' m' p q = refl
-started_each h (S.Open n) o m o' m' p q = p n
-started_each h (S.Make k w n) o m o' m' p q = q k w n
+started_each h None o m o' m' p q = refl
+started_each h (Some (S.Open n)) o m o' m' p q = p n
+started_each h (Some (S.Make k w n)) o m o' m' p q = q k w n
 
-holding_each : {X : Type 0} (h : Tree → X) (x : Held) (t f : ℕ → ℕ → ℕ → Parsed X) (e : Parsed X) (t' f' : ℕ → ℕ → ℕ → Parsed Tree) (e' : Parsed Tree) →
+holding_each : {X : Type 0} (h : Tree → X) (x : Option Held) (t f : ℕ → ℕ → ℕ → Parsed X) (e : Parsed X) (t' f' : ℕ → ℕ → ℕ → Parsed Tree) (e' : Parsed Tree) →
     ((a b n : ℕ) → t a b n ≡ each h (t' a b n)) → ((i p n : ℕ) → f i p n ≡ each h (f' i p n)) → e ≡ each h e' → holding x t f e ≡ each h (holding x t' f' e')
-holding_each h (H.Text a b n) t f e t' f' e' p q r = p a b n
-holding_each h (H.Field i w n) t f e t' f' e' p q r = q i w n
-holding_each h H.Bad t f e t' f' e' p q r = refl
-holding_each h H.Sum t f e t' f' e' p q r = r
+holding_each h (Some (H.Text a b n)) t f e t' f' e' p q r = p a b n
+holding_each h (Some (H.Field i w n)) t f e t' f' e' p q r = q i w n
+holding_each h None t f e t' f' e' p q r = refl
+holding_each h (Some H.Sum) t f e t' f' e' p q r = r
 
 -- { operator part }: where the parts meet, and so do the joins, the loops do
-module _ {X : Type 0} (h : Tree → X) (sign : ℕ → Joint) (p : Op → X → ℕ → Parsed X) (p' : Op → Tree → ℕ → Parsed Tree)
+module _ {X : Type 0} (h : Tree → X) (sign : ℕ → Option Joint) (p : Op → X → ℕ → Parsed X) (p' : Op → Tree → ℕ → Parsed Tree)
     (j : Op → ℕ → X → X → X) (j' : Op → ℕ → Tree → Tree → Tree) (e : Op → Tree → Tree → X)
     (pe : (o : Op) (t : Tree) (n : ℕ) → p o (h t) n ≡ each (e o t) (p' o t n)) (je : (o : Op) (w : ℕ) (t u : Tree) → j o w (h t) (e o t u) ≡ h (j' o w t u)) where
   many_each : (k at : ℕ) (t : Tree) → many sign p j k at (h t) ≡ each h (many sign p' j' k at t)
@@ -85,7 +81,7 @@ module _ {X : Type 0} (h : Tree → X) (sign : ℕ → Joint) (p : Op → X → 
   many_each (suc k) at t = operated_each h (sign at) _ _ _ _ refl
       (λ o w n. rw (pe o t n) (then_each (e o t) h (p' o t n) _ _ (λ u m. rw (je o w t u) (many_each k m (j' o w t u)))))
 
-module _ {X : Type 0} (h : Tree → X) (star : ℕ → Multiplier) (op : Bool → ℕ → ℕ → X → X) (op' : Bool → ℕ → ℕ → Tree → Tree)
+module _ {X : Type 0} (h : Tree → X) (star : ℕ → Multiplied) (op : Bool → ℕ → ℕ → X → X) (op' : Bool → ℕ → ℕ → Tree → Tree)
     (oe : (b : Bool) (v p : ℕ) (t : Tree) → op b v p (h t) ≡ h (op' b v p t)) where
   repeated_each : (k at : ℕ) (t : Tree) → repeated star op k at (h t) ≡ each h (repeated star op' k at t)
   unfolding repeated

@@ -9,6 +9,7 @@ use lib.Dec.{eqb}
 use lib.ListN.{length, get_or, get_or-eq_default}
 use native.Mathlib.Nat.{le_refl}
 use borrow.Author.Tests.{eqb-true}
+use Rattle.std.specs.Prelude.{Option, Some, None, Ok}
 use Rattle.basis.specs.Choice.{pick}
 use Rattle.basis.specs.Letters.{bytes}
 use Rattle.value.specs.declared.Kind.{Kind}
@@ -16,9 +17,7 @@ use Rattle.condition_words.specs.Words.{skipped}
 use Rattle.condition_symbols.specs.Symbols as the
 use Rattle.condition_symbols.specs.declared.Op.{Op}
 use Rattle.condition_symbols.specs.declared.Joint.{Joint}
-use Rattle.condition_symbols.specs.declared.Joint.TheVariants as J
 use Rattle.condition_symbols.specs.declared.Held.TheVariants as H
-use Rattle.condition_symbols.specs.declared.Multiplier.TheVariants as T
 use Rattle.condition_grammar.specs.Trees.{Tree}
 use Rattle.condition_grammar.specs.Productions.{Spaces, OneByte, Word, plus, minus, eq, ne, lt, le, gt, ge, name_of, Phrase, Condition, Clause, Test, Sum, Term, Factor, Argument, Derives, one_clause, or_clause, one_test, and_test, lone_sum, two_sums, one_term, signed_term, one_factor, times_whole, enclosed, of_named_kind, a_text, a_field, a_cast}
 use Rattle.condition_grammar.proofs.Ends.{picked}
@@ -69,20 +68,20 @@ module _ (s : List ℕ) (a : ℕ) where
   operator_rank (sign (plus m)) = by_mark "+" m
   operator_rank (sign (minus m)) = by_mark "-" m
 
-  pub operator_none : (k : Phrase) → (rank s a ≡ rank_in k → ⊥) → joint k s a ≡ J.No
+  pub operator_none : (k : Phrase) → (rank s a ≡ rank_in k → ⊥) → joint k s a ≡ None
   operator_none k n = by (joint k s a) refl
     where
-      by : (x : Joint) → joint k s a ≡ x → joint k s a ≡ J.No
-      by J.No e = e
-      by (J.At o p m) e = absurd (n (operator_rank (operator_stands s a k e)))
+      by : (x : Option Joint) → joint k s a ≡ x → joint k s a ≡ None
+      by None e = e
+      by (Some j) e = absurd (n (operator_rank (operator_stands s a k e)))
 
   pub star_rank : {p n : ℕ} → OneByte s "*" a p n → rank s a ≡ 1
   unfolding rank_of
   star_rank m = by_mark "*" m
 
-  pub times_none : (rank s a ≡ 1 → ⊥) → the.multiplier_at s a ≡ T.No
+  pub times_none : (rank s a ≡ 1 → ⊥) → the.multiplier_at s a ≡ Ok None
   unfolding the.multiplier_at rank_of rank
-  times_none n = picked (λ x. x ≡ T.No) (eqb (get_or s (skipped s a) 0) (code "*")) _ _ (λ e. absurd (n (ap rank_of (eqb-true (get_or s (skipped s a) 0) (code "*") e)))) (λ e. refl)
+  times_none n = picked (λ x. x ≡ Ok None) (eqb (get_or s (skipped s a) 0) (code "*")) _ _ (λ e. absurd (n (ap rank_of (eqb-true (get_or s (skipped s a) 0) (code "*") e)))) (λ e. refl)
 
   pub closing_rank : {p n : ℕ} → OneByte s ")" a p n → rank s a ≡ 6
   unfolding rank_of
@@ -95,7 +94,7 @@ module _ (s : List ℕ) (a : ℕ) where
   -- where a factor begins, no quote and no `$` stands
   pub record Begins : Type 0 where
     pub spaces : Spaces s a (skipped s a)
-    pub held : the.held_at s a ≡ H.Sum
+    pub held : the.held_at s a ≡ Some H.Sum
 
   begins_at : (p c : ℕ) → Spaces s a p → get_or s p 0 ≡ c → eqb c (code "\"") ≡ false → eqb c (code "$") ≡ false → Begins
   unfolding the.held_at

@@ -9,6 +9,7 @@ use native.Mathlib.Omega.{arith}
 use lib.Dec.{leb, ltb, eqb}
 use lib.ListN.{length, get_or}
 use borrow.Author.Tests.{leb-true, ltb-true, eqb-true, eqb-false}
+use Rattle.std.specs.Prelude.{Option, Some, None, Result, Ok, Err}
 use Rattle.basis.specs.Letters.{bytes}
 use Rattle.numerals.specs.Reading.{numeral_at}
 use Rattle.numerals.proofs.Positions.{within}
@@ -20,16 +21,12 @@ use Rattle.condition_words.specs.declared.Class.TheVariants as C
 use Rattle.condition_symbols.specs.Symbols as the
 use Rattle.condition_symbols.specs.declared.Op.{Op}
 use Rattle.condition_symbols.specs.declared.Joint.{Joint}
-use Rattle.condition_symbols.specs.declared.Joint.TheVariants as J
-use Rattle.condition_symbols.specs.declared.Mark.{Mark as Found}
-use Rattle.condition_symbols.specs.declared.Mark.TheVariants as M
-use Rattle.condition_symbols.specs.declared.Named.{Named}
 use Rattle.condition_symbols.specs.declared.Start.{Start}
 use Rattle.condition_symbols.specs.declared.Start.TheVariants as S
+use Rattle.condition_symbols.specs.declared.Multiplier.{Multiplier}
+use Rattle.condition_symbols.specs.declared.NoNumber.{NoNumber}
 use Rattle.condition_symbols.specs.declared.Held.{Held}
 use Rattle.condition_symbols.specs.declared.Held.TheVariants as H
-use Rattle.condition_symbols.specs.declared.Multiplier.{Multiplier}
-use Rattle.condition_symbols.specs.declared.Multiplier.TheVariants as T
 use Rattle.condition_grammar.specs.Productions.{Spaces, OneByte, Word, Field, numbered, Quoted, quoted, Whole, unsigned, signed, plus, minus, eq, ne, lt, le, gt, ge, name_of, Phrase, Condition, Clause, Test, Sum, Term, Factor, Argument}
 use Rattle.condition_grammar.proofs.Ends.{picked, stands_at}
 use Rattle.condition_grammar.proofs.Stretches.{stretch_before, spaces_stand, letters_stand, same_is, first_of, numeral_stands}
@@ -57,31 +54,34 @@ module _ (s : List ℕ) (a : ℕ) where
       record { spaces = spaces_stand s a (omega (arith, stretch_from C.Space s a)); longest = letters_stand s p (omega arith); letters = f }
 
 module _ (s : List ℕ) (a : ℕ) where
-  abbrev JointStands : Phrase → Joint → Type 0
-  JointStands k J.No = Unit {0}
-  JointStands k (J.At o p n) = Operator s k o a p n
+  abbrev JointStands : Phrase → Option Joint → Type 0
+  JointStands k None = Unit {0}
+  JointStands k (Some j) = Operator s k j.op a j.at j.end
 
   abbrev word : List ℕ
   word = word_at s (skipped s a)
+
+  abbrev WordStands : Option Op → Type 0
+  WordStands o = JointStands Test (the.word_joint o (skipped s a) (stretch_end C.Letter s (skipped s a)))
 
   joint_stands : (k : Phrase) → JointStands k (joint k s a)
   unfolding the.operator_at the.comparison_at the.comparing the.sign_at
   joint_stands Condition = picked (JointStands Condition) (same word (bytes "or")) _ _ (λ e. or (word_stands s a "or" _ _ refl e refl)) (λ e. tt)
   joint_stands Clause = picked (JointStands Clause) (same word (bytes "and")) _ _ (λ e. and (word_stands s a "and" _ _ refl e refl)) (λ e. tt)
   joint_stands Test =
-      picked (JointStands Test) (same word (bytes "eq")) _ _ (λ e. comparison (eq (word_stands s a "eq" _ _ refl e refl))) (λ f.
-      picked (JointStands Test) (same word (bytes "ne")) _ _ (λ e. comparison (ne (word_stands s a "ne" _ _ refl e refl))) (λ f.
-      picked (JointStands Test) (same word (bytes "lt")) _ _ (λ e. comparison (lt (word_stands s a "lt" _ _ refl e refl))) (λ f.
-      picked (JointStands Test) (same word (bytes "le")) _ _ (λ e. comparison (le (word_stands s a "le" _ _ refl e refl))) (λ f.
-      picked (JointStands Test) (same word (bytes "gt")) _ _ (λ e. comparison (gt (word_stands s a "gt" _ _ refl e refl))) (λ f.
-      picked (JointStands Test) (same word (bytes "ge")) _ _ (λ e. comparison (ge (word_stands s a "ge" _ _ refl e refl))) (λ f. tt))))))
+      picked WordStands (same word (bytes "eq")) _ _ (λ e. comparison (eq (word_stands s a "eq" _ _ refl e refl))) (λ f.
+      picked WordStands (same word (bytes "ne")) _ _ (λ e. comparison (ne (word_stands s a "ne" _ _ refl e refl))) (λ f.
+      picked WordStands (same word (bytes "lt")) _ _ (λ e. comparison (lt (word_stands s a "lt" _ _ refl e refl))) (λ f.
+      picked WordStands (same word (bytes "le")) _ _ (λ e. comparison (le (word_stands s a "le" _ _ refl e refl))) (λ f.
+      picked WordStands (same word (bytes "gt")) _ _ (λ e. comparison (gt (word_stands s a "gt" _ _ refl e refl))) (λ f.
+      picked WordStands (same word (bytes "ge")) _ _ (λ e. comparison (ge (word_stands s a "ge" _ _ refl e refl))) (λ f. tt))))))
   joint_stands Sum = picked (JointStands Sum) (eqb (get_or s (skipped s a) 0) (code "+")) _ _ (λ e. sign (plus (mark_stands s a "+" e refl)))
       (λ f. picked (JointStands Sum) (eqb (get_or s (skipped s a) 0) (code "-")) _ _ (λ e. sign (minus (mark_stands s a "-" e refl))) (λ e. tt))
   joint_stands Term = tt
   joint_stands Factor = tt
   joint_stands (Argument k w) = tt
 
-  pub operator_stands : {o : Op} {p n : ℕ} (k : Phrase) → joint k s a ≡ J.At o p n → Operator s k o a p n
+  pub operator_stands : {o : Op} {p n : ℕ} (k : Phrase) → joint k s a ≡ Some (the.joint_of o p n) → Operator s k o a p n
   operator_stands k e = subst (JointStands k) e (joint_stands k)
 
   -- a closing parenthesis
@@ -89,19 +89,19 @@ module _ (s : List ℕ) (a : ℕ) where
     pub q : ℕ
     pub mark : OneByte s ")" a q n
 
-  abbrev ClosingStands : Found → Type 0
-  ClosingStands M.No = Unit {0}
-  ClosingStands (M.At n) = Closing n
+  abbrev ClosingStands : Option ℕ → Type 0
+  ClosingStands None = Unit {0}
+  ClosingStands (Some n) = Closing n
 
-  pub closing_stands : {n : ℕ} → the.closing_at s a ≡ M.At n → Closing n
+  pub closing_stands : {n : ℕ} → the.closing_at s a ≡ Some n → Closing n
   unfolding the.mark_at
   closing_stands e = subst ClosingStands e (picked ClosingStands (eqb (get_or s (skipped s a) 0) (code ")")) _ _
       (λ f. record { q = skipped s a; mark = mark_stands s a ")" f refl }) (λ f. tt))
 
-  abbrev TimesStand : Multiplier → Type 0
-  TimesStand T.No = Unit {0}
-  TimesStand T.Bad = Unit {0}
-  TimesStand (T.At b v p n) = Times s b v a p n
+  abbrev TimesStand : the.Multiplied → Type 0
+  TimesStand (Ok None) = Unit {0}
+  TimesStand (Err x) = Unit {0}
+  TimesStand (Ok (Some m)) = Times s m.negative m.number a m.at m.end
 
   module _ (e : eqb (get_or s (skipped s a) 0) (code "*") ≡ true) where
     abbrev w : ℕ
@@ -113,21 +113,24 @@ module _ (s : List ℕ) (a : ℕ) where
     times_by : {b : Bool} {v p n : ℕ} → Whole s v b (skipped s a + 1) p n → Times s b v a p n
     times_by x = record { q = skipped s a; c = skipped s a + 1; star = mark_stands s a "*" e refl; whole = x }
 
-    whole_stands : TimesStand (the.whole_from s w)
+    abbrev WholeStands : Result Multiplier NoNumber → Type 0
+    WholeStands r = TimesStand (the.after_star r)
+
+    whole_stands : WholeStands (the.whole_from s w)
     unfolding the.whole_from the.whole_of
     whole_stands =
         let k : skipped s a < length s = star_within in
-        picked TimesStand (eqb (get_or s w 0) (code "-")) _ _
-        (λ f. picked TimesStand (leb 1 (numeral_at s (w + 1)).count) _ _
-        (λ g. picked TimesStand (leb (numeral_at s (w + 1)).count 6) _ _
+        picked WholeStands (eqb (get_or s w 0) (code "-")) _ _
+        (λ f. picked WholeStands (leb 1 (numeral_at s (w + 1)).count) _ _
+        (λ g. picked WholeStands (leb (numeral_at s (w + 1)).count 6) _ _
         (λ h. times_by (signed (mark_stands s (skipped s a + 1) "-" f refl) (numeral_stands s (w + 1))
         (omega (arith, leb-true 1 (numeral_at s (w + 1)).count g)) (omega (arith, leb-true (numeral_at s (w + 1)).count 6 h)))) (λ h. tt)) (λ g. tt))
-        (λ f. picked TimesStand (leb 1 (numeral_at s w).count) _ _
-        (λ g. picked TimesStand (leb (numeral_at s w).count 6) _ _
+        (λ f. picked WholeStands (leb 1 (numeral_at s w).count) _ _
+        (λ g. picked WholeStands (leb (numeral_at s w).count 6) _ _
         (λ h. times_by (unsigned (spaces_stand s (skipped s a + 1) (omega arith)) (numeral_stands s w)
         (omega (arith, leb-true 1 (numeral_at s w).count g)) (omega (arith, leb-true (numeral_at s w).count 6 h)))) (λ h. tt)) (λ g. tt))
 
-  pub times_stand : {b : Bool} {v p n : ℕ} → the.multiplier_at s a ≡ T.At b v p n → Times s b v a p n
+  pub times_stand : {b : Bool} {v p n : ℕ} → the.multiplier_at s a ≡ Ok (Some (the.multiplier_of b v p n)) → Times s b v a p n
   unfolding the.multiplier_at
   times_stand e = subst TimesStand e (picked TimesStand (eqb (get_or s (skipped s a) 0) (code "*")) _ _ (λ f. whole_stands f) (λ f. tt))
 
@@ -136,17 +139,17 @@ module _ (s : List ℕ) (a : ℕ) where
     pub q : ℕ
     pub mark : OneByte s "(" a q n
 
-  abbrev StartStands : Start → Type 0
-  StartStands S.No = Unit {0}
-  StartStands (S.Open n) = Opening n
-  StartStands (S.Make k p n) = Naming s k a p n
+  abbrev StartStands : Option Start → Type 0
+  StartStands None = Unit {0}
+  StartStands (Some (S.Open n)) = Opening n
+  StartStands (Some (S.Make k p n)) = Naming s k a p n
 
   made_stands : (k : Kind) (p m : ℕ) → Word s (name_of k) a p m → StartStands (the.kind_start k p (the.opening_at s m))
   unfolding the.mark_at
   made_stands k p m w = picked (λ x. StartStands (the.kind_start k p x)) (eqb (get_or s (skipped s m) 0) (code "(")) _ _
       (λ e. record { m = m; q = skipped s m; name = w; opening = mark_stands s m "(" e refl }) (λ e. tt)
 
-  abbrev MakesStand : Named → Type 0
+  abbrev MakesStand : Option Kind → Type 0
   MakesStand n = StartStands (the.makes s (skipped s a) n)
 
   named_stands : MakesStand (the.named word)
@@ -163,17 +166,17 @@ module _ (s : List ℕ) (a : ℕ) where
   unfolding the.start_at
   start_stands = picked StartStands (eqb (get_or s (skipped s a) 0) (code "(")) _ _ (λ e. record { q = skipped s a; mark = mark_stands s a "(" e refl }) (λ e. named_stands)
 
-  pub opening_stands : {n : ℕ} → the.start_at s a ≡ S.Open n → Opening n
+  pub opening_stands : {n : ℕ} → the.start_at s a ≡ Some (S.Open n) → Opening n
   opening_stands e = subst StartStands e start_stands
 
-  pub naming_stands : {k : Kind} {p n : ℕ} → the.start_at s a ≡ S.Make k p n → Naming s k a p n
+  pub naming_stands : {k : Kind} {p n : ℕ} → the.start_at s a ≡ Some (S.Make k p n) → Naming s k a p n
   naming_stands e = subst StartStands e start_stands
 
-  abbrev HeldStands : Held → Type 0
-  HeldStands (H.Text from to n) = Quoted s from to a n
-  HeldStands (H.Field i p n) = Field s i a p n
-  HeldStands H.Bad = Unit {0}
-  HeldStands H.Sum = Unit {0}
+  abbrev HeldStands : Option Held → Type 0
+  HeldStands (Some (H.Text from to n)) = Quoted s from to a n
+  HeldStands (Some (H.Field i p n)) = Field s i a p n
+  HeldStands None = Unit {0}
+  HeldStands (Some H.Sum) = Unit {0}
 
   -- the stretch of bytes that are no quotes ends at a quote
   quote_ends : (from : ℕ) (m : OneByte s "\"" a (skipped s a) from) → from ≤ length s → stretch_end C.Unquoted s from < length s →
@@ -204,8 +207,8 @@ module _ (s : List ℕ) (a : ℕ) where
   held_stands = picked HeldStands (eqb (get_or s (skipped s a) 0) (code "\"")) _ _ (λ e. text_stands e)
       (λ e. picked HeldStands (eqb (get_or s (skipped s a) 0) (code "$")) _ _ (λ f. numeral_field f) (λ f. tt))
 
-  pub quoted_stands : {from to n : ℕ} → the.held_at s a ≡ H.Text from to n → Quoted s from to a n
+  pub quoted_stands : {from to n : ℕ} → the.held_at s a ≡ Some (H.Text from to n) → Quoted s from to a n
   quoted_stands e = subst HeldStands e held_stands
 
-  pub field_stands : {i p n : ℕ} → the.held_at s a ≡ H.Field i p n → Field s i a p n
+  pub field_stands : {i p n : ℕ} → the.held_at s a ≡ Some (H.Field i p n) → Field s i a p n
   field_stands e = subst HeldStands e held_stands

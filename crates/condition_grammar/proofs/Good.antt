@@ -7,21 +7,17 @@ use Prim.Native.Nat.{ℕ, zero, suc, ◌-◌, ◌<◌, ◌≤◌}
 use native.Mathlib.Omega.{arith}
 use native.Mathlib.Nat.{le_refl}
 use lib.ListN.{length}
+use Rattle.std.specs.Prelude.{Option, Some, None, Ok, Err}
 use Rattle.value.specs.declared.Kind.{Kind}
 use Rattle.condition_words.specs.Words.{skipped}
-use Rattle.condition_symbols.specs.Symbols.{or_at, and_at, comparison_at, sign_at, start_at, held_at, multiplier_at, closing_at}
+use Rattle.condition_symbols.specs.Symbols.{or_at, and_at, comparison_at, sign_at, start_at, held_at, multiplier_at, closing_at, Multiplied, without_number}
 use Rattle.condition_grammar.proofs.Ends.{Past, PastMark, PastJoint, PastStart, PastHeld, PastMultiplier, closing_past, star_at_end, or_past, and_past, comparison_past, sign_past, start_past, held_past, multiplier_past}
 use Rattle.condition_symbols.specs.declared.Op.{Op}
 use Rattle.condition_symbols.specs.declared.Joint.{Joint}
-use Rattle.condition_symbols.specs.declared.Joint.TheVariants as J
-use Rattle.condition_symbols.specs.declared.Mark.{Mark}
-use Rattle.condition_symbols.specs.declared.Mark.TheVariants as M
 use Rattle.condition_symbols.specs.declared.Start.{Start}
 use Rattle.condition_symbols.specs.declared.Start.TheVariants as S
 use Rattle.condition_symbols.specs.declared.Held.{Held}
 use Rattle.condition_symbols.specs.declared.Held.TheVariants as H
-use Rattle.condition_symbols.specs.declared.Multiplier.{Multiplier}
-use Rattle.condition_symbols.specs.declared.Multiplier.TheVariants as T
 use Rattle.condition_grammar.specs.Grammar.{Parsed, none, got, then, past_mark, operated, scaled, started, holding, closed_at, many, repeated, Parts, Inside, inner, condition_in, condition_more_in, clause_in, clause_more_in, test_in, sum_in, sum_more_in, term_in, term_more_in, factor_in, held_in}
 
 -- what was read ends past where it began
@@ -45,19 +41,19 @@ unfolding Good Kept
 then_kept L at none k g h = tt
 then_kept L at (got x n) k g h = h x n g
 
-operated_good : {X : Type 0} (L m at : ℕ) (x : Joint) (a : Parsed X) (k : Op → ℕ → ℕ → Parsed X) → PastJoint L m x → Good L at a → ((o : Op) (p n : ℕ) → Past L m n → Good L at (k o p n)) → Good L at (operated x a k)
-operated_good L m at J.No a k g q h = q
-operated_good L m at (J.At o p n) a k g q h = h o p n g
+operated_good : {X : Type 0} (L m at : ℕ) (x : Option Joint) (a : Parsed X) (k : Op → ℕ → ℕ → Parsed X) → PastJoint L m x → Good L at a → ((o : Op) (p n : ℕ) → Past L m n → Good L at (k o p n)) → Good L at (operated x a k)
+operated_good L m at None a k g q h = q
+operated_good L m at (Some j) a k g q h = h j.op j.at j.end g
 
-operated_kept : {X : Type 0} (L m at : ℕ) (x : Joint) (a : Parsed X) (k : Op → ℕ → ℕ → Parsed X) → PastJoint L m x → Kept L at a → ((o : Op) (p n : ℕ) → Past L m n → Kept L at (k o p n)) → Kept L at (operated x a k)
-operated_kept L m at J.No a k g q h = q
-operated_kept L m at (J.At o p n) a k g q h = h o p n g
+operated_kept : {X : Type 0} (L m at : ℕ) (x : Option Joint) (a : Parsed X) (k : Op → ℕ → ℕ → Parsed X) → PastJoint L m x → Kept L at a → ((o : Op) (p n : ℕ) → Past L m n → Kept L at (k o p n)) → Kept L at (operated x a k)
+operated_kept L m at None a k g q h = q
+operated_kept L m at (Some j) a k g q h = h j.op j.at j.end g
 
-scaled_kept : {X : Type 0} (L at : ℕ) (x : Multiplier) (a : Parsed X) (k : Bool → ℕ → ℕ → ℕ → Parsed X) → PastMultiplier L at x → Kept L at a → ((b : Bool) (v p n : ℕ) → Past L at n → Kept L at (k b v p n)) → Kept L at (scaled x a k)
+scaled_kept : {X : Type 0} (L at : ℕ) (x : Multiplied) (a : Parsed X) (k : Bool → ℕ → ℕ → ℕ → Parsed X) → PastMultiplier L at x → Kept L at a → ((b : Bool) (v p n : ℕ) → Past L at n → Kept L at (k b v p n)) → Kept L at (scaled x a k)
 unfolding Kept
-scaled_kept L at T.No a k g q h = q
-scaled_kept L at T.Bad a k g q h = tt
-scaled_kept L at (T.At b v p n) a k g q h = h b v p n g
+scaled_kept L at (Ok None) a k g q h = q
+scaled_kept L at (Err x) a k g q h = tt
+scaled_kept L at (Ok (Some m)) a k g q h = h m.negative m.number m.at m.end g
 
 -- what was good from a later offset is good from an earlier one
 good_from : {X : Type 0} (L at m : ℕ) (p : Parsed X) → at ≤ m → Good L m p → Good L at p
@@ -87,29 +83,29 @@ none_good : (X : Type 0) (L at : ℕ) → Good {X = X} L at none
 unfolding Good
 none_good X L at = tt
 
-marked_good : {X : Type 0} (L at : ℕ) (m : Mark) (x : X) → PastMark L at m → Good L at (past_mark m (λ n. got x n))
+marked_good : {X : Type 0} (L at : ℕ) (m : Option ℕ) (x : X) → PastMark L at m → Good L at (past_mark m (λ n. got x n))
 unfolding Good
-marked_good L at M.No x g = tt
-marked_good L at (M.At n) x g = g
+marked_good L at None x g = tt
+marked_good L at (Some n) x g = g
 
 pub closed_good : {X : Type 0} (s : List ℕ) (at : ℕ) (x : X) → Good (length s) at (closed_at s at x)
 unfolding closed_at
 closed_good s at x = marked_good (length s) at (closing_at s at) x (closing_past s at)
 
-started_good : {X : Type 0} (L at : ℕ) (x : Start) (o : ℕ → Parsed X) (m : Kind → ℕ → ℕ → Parsed X) → PastStart L at x →
+started_good : {X : Type 0} (L at : ℕ) (x : Option Start) (o : ℕ → Parsed X) (m : Kind → ℕ → ℕ → Parsed X) → PastStart L at x →
     ((n : ℕ) → Past L at n → Good L at (o n)) → ((k : Kind) (p n : ℕ) → Past L at n → Good L at (m k p n)) → Good L at (started x o m)
 unfolding Good
-started_good L at S.No o m g p q = tt
-started_good L at (S.Open n) o m g p q = p n g
-started_good L at (S.Make k w n) o m g p q = q k w n g
+started_good L at None o m g p q = tt
+started_good L at (Some (S.Open n)) o m g p q = p n g
+started_good L at (Some (S.Make k w n)) o m g p q = q k w n g
 
-holding_good : {X : Type 0} (L at : ℕ) (x : Held) (t f : ℕ → ℕ → ℕ → Parsed X) (e : Parsed X) → PastHeld L at x →
+holding_good : {X : Type 0} (L at : ℕ) (x : Option Held) (t f : ℕ → ℕ → ℕ → Parsed X) (e : Parsed X) → PastHeld L at x →
     ((a b n : ℕ) → Past L at n → Good L at (t a b n)) → ((i p n : ℕ) → Past L at n → Good L at (f i p n)) → Good L at e → Good L at (holding x t f e)
 unfolding Good
-holding_good L at (H.Text a b n) t f e g p q u = p a b n g
-holding_good L at (H.Field i w n) t f e g p q u = q i w n g
-holding_good L at H.Bad t f e g p q u = tt
-holding_good L at H.Sum t f e g p q u = u
+holding_good L at (Some (H.Text a b n)) t f e g p q u = p a b n g
+holding_good L at (Some (H.Field i w n)) t f e g p q u = q i w n g
+holding_good L at None t f e g p q u = tt
+holding_good L at (Some H.Sum) t f e g p q u = u
 
 -- the same of what goes on only past an offset
 then_same : {X Y : Type 0} (L n : ℕ) (p : Parsed X) (f g : X → ℕ → Parsed Y) → Good L n p → ((x : X) (m : ℕ) → n < m → m ≤ L → f x m ≡ g x m) → then p f ≡ then p g
@@ -117,22 +113,22 @@ unfolding Good
 then_same L n none f g d h = refl
 then_same L n (got x m) f g d h = h x m d.0 d.1
 
-operated_same : {X : Type 0} (L at : ℕ) (x : Joint) (a : Parsed X) (f g : Op → ℕ → ℕ → Parsed X) → PastJoint L at x → ((o : Op) (p n : ℕ) → at < n → n ≤ L → f o p n ≡ g o p n) → operated x a f ≡ operated x a g
-operated_same L at J.No a f g d h = refl
-operated_same L at (J.At o p n) a f g d h = h o p n d.0 d.1
+operated_same : {X : Type 0} (L at : ℕ) (x : Option Joint) (a : Parsed X) (f g : Op → ℕ → ℕ → Parsed X) → PastJoint L at x → ((o : Op) (p n : ℕ) → at < n → n ≤ L → f o p n ≡ g o p n) → operated x a f ≡ operated x a g
+operated_same L at None a f g d h = refl
+operated_same L at (Some j) a f g d h = h j.op j.at j.end d.0 d.1
 
-scaled_same : {X : Type 0} (L at : ℕ) (x : Multiplier) (a : Parsed X) (f g : Bool → ℕ → ℕ → ℕ → Parsed X) → PastMultiplier L at x → ((b : Bool) (v p n : ℕ) → at < n → n ≤ L → f b v p n ≡ g b v p n) → scaled x a f ≡ scaled x a g
-scaled_same L at T.No a f g d h = refl
-scaled_same L at T.Bad a f g d h = refl
-scaled_same L at (T.At b v p n) a f g d h = h b v p n d.0 d.1
+scaled_same : {X : Type 0} (L at : ℕ) (x : Multiplied) (a : Parsed X) (f g : Bool → ℕ → ℕ → ℕ → Parsed X) → PastMultiplier L at x → ((b : Bool) (v p n : ℕ) → at < n → n ≤ L → f b v p n ≡ g b v p n) → scaled x a f ≡ scaled x a g
+scaled_same L at (Ok None) a f g d h = refl
+scaled_same L at (Err x) a f g d h = refl
+scaled_same L at (Ok (Some m)) a f g d h = h m.negative m.number m.at m.end d.0 d.1
 
 -- at the end of the text no operator stands, and a `*` neither
-operated_end : {X : Type 0} (L at : ℕ) (x : Joint) (a : Parsed X) (f : Op → ℕ → ℕ → Parsed X) → L ≤ at → PastJoint L at x → a ≡ operated x a f
-operated_end L at J.No a f h d = refl
-operated_end L at (J.At o p n) a f h d = absurd (omega arith)
+operated_end : {X : Type 0} (L at : ℕ) (x : Option Joint) (a : Parsed X) (f : Op → ℕ → ℕ → Parsed X) → L ≤ at → PastJoint L at x → a ≡ operated x a f
+operated_end L at None a f h d = refl
+operated_end L at (Some j) a f h d = absurd (omega arith)
 
 -- { operator part }, of a text of L bytes: an operator ends past where it is looked for, and a part past where it begins
-module _ {X : Type 0} (L : ℕ) (sign : ℕ → Joint) (part : Op → X → ℕ → Parsed X) (join : Op → ℕ → X → X → X)
+module _ {X : Type 0} (L : ℕ) (sign : ℕ → Option Joint) (part : Op → X → ℕ → Parsed X) (join : Op → ℕ → X → X → X)
     (gs : (at : ℕ) → PastJoint L at (sign at)) (gp : (o : Op) (l : X) (n : ℕ) → Good L n (part o l n)) where
   many_kept : (k at : ℕ) (left : X) → at ≤ L → Kept L at (many sign part join k at left)
   unfolding many
@@ -161,13 +157,13 @@ module _ {X : Type 0} (L : ℕ) (sign : ℕ → Joint) (part : Op → X → ℕ 
   many_unfolds at left = many_same (L - at) (suc (L - at)) at left (omega arith) (omega arith) ∙ many_opens at left
 
 -- { "*" whole number }
-scaled_end : {X : Type 0} (L at : ℕ) (x : Multiplier) (a : Parsed X) (f : Bool → ℕ → ℕ → ℕ → Parsed X) → L ≤ at → PastMultiplier L at x → (x ≡ T.Bad → ⊥) → a ≡ scaled x a f
-scaled_end L at T.No a f h d n = refl
-scaled_end L at T.Bad a f h d n = absurd (n refl)
-scaled_end L at (T.At b v p m) a f h d n = absurd (omega arith)
+scaled_end : {X : Type 0} (L at : ℕ) (x : Multiplied) (a : Parsed X) (f : Bool → ℕ → ℕ → ℕ → Parsed X) → L ≤ at → PastMultiplier L at x → (x ≡ Err without_number → ⊥) → a ≡ scaled x a f
+scaled_end L at (Ok None) a f h d n = refl
+scaled_end L at (Err x) a f h d n = absurd (n refl)
+scaled_end L at (Ok (Some m)) a f h d n = absurd (omega arith)
 
-module _ {X : Type 0} (L : ℕ) (star : ℕ → Multiplier) (scale : Bool → ℕ → ℕ → X → X) (gs : (at : ℕ) → PastMultiplier L at (star at))
-    (ge : (at : ℕ) → L ≤ at → star at ≡ T.Bad → ⊥) where
+module _ {X : Type 0} (L : ℕ) (star : ℕ → Multiplied) (scale : Bool → ℕ → ℕ → X → X) (gs : (at : ℕ) → PastMultiplier L at (star at))
+    (ge : (at : ℕ) → L ≤ at → star at ≡ Err without_number → ⊥) where
   repeated_kept : (k at : ℕ) (left : X) → at ≤ L → Kept L at (repeated star scale k at left)
   unfolding repeated
   repeated_kept zero at left h = got_kept L at left h

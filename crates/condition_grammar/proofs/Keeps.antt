@@ -5,23 +5,19 @@ use mathlib.Core.List.{List}
 use Prim.Native.Nat.{ℕ, zero, suc, ◌-◌, ◌<◌}
 use lib.ListN.{length}
 use lib.Dec.{leb}
+use Rattle.std.specs.Prelude.{Option, Some, None, Ok, Err}
 use Rattle.basis.specs.Choice.{pick}
 use Rattle.value.specs.declared.Kind.{Kind}
 use Rattle.condition_words.specs.Words.{skipped}
 use Rattle.condition_depth.specs.Depth.{max_depth}
-use Rattle.condition_symbols.specs.Symbols.{or_at, and_at, comparison_at, sign_at, start_at, held_at, multiplier_at, closing_at}
+use Rattle.condition_symbols.specs.Symbols.{or_at, and_at, comparison_at, sign_at, start_at, held_at, multiplier_at, closing_at, Multiplied}
 use Rattle.condition_grammar.proofs.Ends.{Small, multiplier_small}
 use Rattle.condition_symbols.specs.declared.Op.{Op}
 use Rattle.condition_symbols.specs.declared.Joint.{Joint}
-use Rattle.condition_symbols.specs.declared.Joint.TheVariants as J
-use Rattle.condition_symbols.specs.declared.Mark.{Mark}
-use Rattle.condition_symbols.specs.declared.Mark.TheVariants as M
 use Rattle.condition_symbols.specs.declared.Start.{Start}
 use Rattle.condition_symbols.specs.declared.Start.TheVariants as S
 use Rattle.condition_symbols.specs.declared.Held.{Held}
 use Rattle.condition_symbols.specs.declared.Held.TheVariants as H
-use Rattle.condition_symbols.specs.declared.Multiplier.{Multiplier}
-use Rattle.condition_symbols.specs.declared.Multiplier.TheVariants as T
 use Rattle.condition_grammar.specs.Grammar.{Parsed, none, got, then, past_mark, operated, scaled, started, holding, closed_at, many, repeated, Parts, Inside, inner, condition, condition_in, condition_more_in, clause_in, clause_more_in, test_in, sum_in, sum_more_in, term_in, term_more_in, factor_in, held_in}
 use Rattle.condition_grammar.specs.Trees.{Tree, leaf, one, two, cast, times, trees, parse}
 
@@ -47,46 +43,46 @@ module _ {X : Type 0} (Q : X → Type 0) where
   unfolding All
   got_all x n g = g
 
-  operated_all : (x : Joint) (a : Parsed X) (k : Op → ℕ → ℕ → Parsed X) → All Q a → ((o : Op) (p n : ℕ) → All Q (k o p n)) → All Q (operated x a k)
-  operated_all J.No a k g h = g
-  operated_all (J.At o p n) a k g h = h o p n
+  operated_all : (x : Option Joint) (a : Parsed X) (k : Op → ℕ → ℕ → Parsed X) → All Q a → ((o : Op) (p n : ℕ) → All Q (k o p n)) → All Q (operated x a k)
+  operated_all None a k g h = g
+  operated_all (Some j) a k g h = h j.op j.at j.end
 
-  scaled_all : (x : Multiplier) (a : Parsed X) (k : Bool → ℕ → ℕ → ℕ → Parsed X) → Small x → All Q a → ((b : Bool) (v p n : ℕ) → v < 1000000 → All Q (k b v p n)) → All Q (scaled x a k)
+  scaled_all : (x : Multiplied) (a : Parsed X) (k : Bool → ℕ → ℕ → ℕ → Parsed X) → Small x → All Q a → ((b : Bool) (v p n : ℕ) → v < 1000000 → All Q (k b v p n)) → All Q (scaled x a k)
   unfolding All
-  scaled_all T.No a k l g h = g
-  scaled_all T.Bad a k l g h = tt
-  scaled_all (T.At b v p n) a k l g h = h b v p n l
+  scaled_all (Ok None) a k l g h = g
+  scaled_all (Err x) a k l g h = tt
+  scaled_all (Ok (Some m)) a k l g h = h m.negative m.number m.at m.end l
 
-  marked_all : (m : Mark) (x : X) → Q x → All Q (past_mark m (λ n. got x n))
+  marked_all : (m : Option ℕ) (x : X) → Q x → All Q (past_mark m (λ n. got x n))
   unfolding All
-  marked_all M.No x g = tt
-  marked_all (M.At n) x g = g
+  marked_all None x g = tt
+  marked_all (Some n) x g = g
 
   closed_all : (s : List ℕ) (at : ℕ) (x : X) → Q x → All Q (closed_at s at x)
   unfolding closed_at
   closed_all s at x g = marked_all (closing_at s at) x g
 
-  started_all : (x : Start) (o : ℕ → Parsed X) (m : Kind → ℕ → ℕ → Parsed X) → ((n : ℕ) → All Q (o n)) → ((k : Kind) (p n : ℕ) → All Q (m k p n)) → All Q (started x o m)
+  started_all : (x : Option Start) (o : ℕ → Parsed X) (m : Kind → ℕ → ℕ → Parsed X) → ((n : ℕ) → All Q (o n)) → ((k : Kind) (p n : ℕ) → All Q (m k p n)) → All Q (started x o m)
   unfolding All
-  started_all S.No o m p q = tt
-  started_all (S.Open n) o m p q = p n
-  started_all (S.Make k w n) o m p q = q k w n
+  started_all None o m p q = tt
+  started_all (Some (S.Open n)) o m p q = p n
+  started_all (Some (S.Make k w n)) o m p q = q k w n
 
-  holding_all : (x : Held) (t f : ℕ → ℕ → ℕ → Parsed X) (e : Parsed X) → ((a b n : ℕ) → All Q (t a b n)) → ((i p n : ℕ) → All Q (f i p n)) → All Q e → All Q (holding x t f e)
+  holding_all : (x : Option Held) (t f : ℕ → ℕ → ℕ → Parsed X) (e : Parsed X) → ((a b n : ℕ) → All Q (t a b n)) → ((i p n : ℕ) → All Q (f i p n)) → All Q e → All Q (holding x t f e)
   unfolding All
-  holding_all (H.Text a b n) t f e p q r = p a b n
-  holding_all (H.Field i w n) t f e p q r = q i w n
-  holding_all H.Bad t f e p q r = tt
-  holding_all H.Sum t f e p q r = r
+  holding_all (Some (H.Text a b n)) t f e p q r = p a b n
+  holding_all (Some (H.Field i w n)) t f e p q r = q i w n
+  holding_all None t f e p q r = tt
+  holding_all (Some H.Sum) t f e p q r = r
 
-  many_all : (sign : ℕ → Joint) (part : Op → X → ℕ → Parsed X) (join : Op → ℕ → X → X → X) → ((o : Op) (l : X) (n : ℕ) → All Q (part o l n)) →
+  many_all : (sign : ℕ → Option Joint) (part : Op → X → ℕ → Parsed X) (join : Op → ℕ → X → X → X) → ((o : Op) (l : X) (n : ℕ) → All Q (part o l n)) →
       ((o : Op) (p : ℕ) (x y : X) → Q x → Q y → Q (join o p x y)) → (k at : ℕ) (left : X) → Q left → All Q (many sign part join k at left)
   unfolding many
   many_all sign part join gp gj zero at left g = got_all left at g
   many_all sign part join gp gj (suc k) at left g = operated_all (sign at) _ _ (got_all left at g)
       (λ o p n. then_all (part o left n) _ (gp o left n) (λ x m h. many_all sign part join gp gj k m (join o p left x) (gj o p left x g h)))
 
-  repeated_all : (star : ℕ → Multiplier) (scale : Bool → ℕ → ℕ → X → X) → ((at : ℕ) → Small (star at)) →
+  repeated_all : (star : ℕ → Multiplied) (scale : Bool → ℕ → ℕ → X → X) → ((at : ℕ) → Small (star at)) →
       ((b : Bool) (v p : ℕ) (x : X) → v < 1000000 → Q x → Q (scale b v p x)) → (k at : ℕ) (left : X) → Q left → All Q (repeated star scale k at left)
   unfolding repeated
   repeated_all star scale gs gq zero at left g = got_all left at g

@@ -10,10 +10,12 @@ use lib.Dec.{leb, ltb, eqb}
 use lib.ListN.{length, get_or, drop}
 use lib.Seq.{drop-drop}
 use borrow.Author.Tests.{eqb-true, ltb-true, ltb-false, ne_eqb, not-false}
+use Rattle.std.specs.Prelude.{Option, Some, None, Result, Ok, Err}
 use Rattle.basis.specs.Choice.{pick, both}
 use Rattle.basis.specs.Letters.{bytes}
 use Rattle.numerals.specs.Reading.{Number, is_digit, number, numeral_at}
 use Rattle.numerals.proofs.Stretches.{a_digit}
+use Rattle.value.specs.declared.Kind.{Kind}
 use Rattle.condition_words.specs.Words.{letter, belongs, stretch_end_in, stretch_end, skipped, word_at, same}
 use Rattle.condition_depth.specs.Depth.{deep, deep_from, max_depth}
 use Rattle.condition_symbols.specs.Symbols as the
@@ -23,17 +25,12 @@ use Rattle.condition_words.specs.declared.Class.{Class}
 use Rattle.condition_words.specs.declared.Class.TheVariants.{Letter, Unquoted, Space}
 use Rattle.condition_symbols.specs.declared.Op.{Op}
 use Rattle.condition_symbols.specs.declared.Joint.{Joint}
-use Rattle.condition_symbols.specs.declared.Joint.TheVariants as J
-use Rattle.condition_symbols.specs.declared.Mark.{Mark}
-use Rattle.condition_symbols.specs.declared.Mark.TheVariants as M
-use Rattle.condition_symbols.specs.declared.Named.{Named}
-use Rattle.condition_symbols.specs.declared.Named.TheVariants as N
 use Rattle.condition_symbols.specs.declared.Start.{Start}
 use Rattle.condition_symbols.specs.declared.Start.TheVariants as S
+use Rattle.condition_symbols.specs.declared.Multiplier.{Multiplier}
+use Rattle.condition_symbols.specs.declared.NoNumber.{NoNumber}
 use Rattle.condition_symbols.specs.declared.Held.{Held}
 use Rattle.condition_symbols.specs.declared.Held.TheVariants as H
-use Rattle.condition_symbols.specs.declared.Multiplier.{Multiplier}
-use Rattle.condition_symbols.specs.declared.Multiplier.TheVariants as T
 
 -- so many parentheses are open at an offset: from there the depth of the text is counted on, outside quotes or inside
 pub record Level (s : List ℕ) (quoted : Bool) (k at : ℕ) : Type 0 where
@@ -194,33 +191,33 @@ module _ (s : List ℕ) where
 
 -- the symbols
 module _ (s : List ℕ) (k : ℕ) where
-  abbrev pub LevelMark : Mark → Type 0
-  LevelMark M.No = Unit {0}
-  LevelMark (M.At n) = Level s false k n
+  abbrev pub LevelMark : Option ℕ → Type 0
+  LevelMark None = Unit {0}
+  LevelMark (Some n) = Level s false k n
 
-  abbrev pub LevelJoint : Joint → Type 0
-  LevelJoint J.No = Unit {0}
-  LevelJoint (J.At o p n) = Level s false k n
+  abbrev pub LevelJoint : Option Joint → Type 0
+  LevelJoint None = Unit {0}
+  LevelJoint (Some j) = Level s false k j.end
 
-  abbrev pub LevelMultiplier : Multiplier → Type 0
-  LevelMultiplier T.No = Unit {0}
-  LevelMultiplier T.Bad = Unit {0}
-  LevelMultiplier (T.At b v p n) = Level s false k n
+  abbrev pub LevelMultiplier : the.Multiplied → Type 0
+  LevelMultiplier (Ok None) = Unit {0}
+  LevelMultiplier (Err x) = Unit {0}
+  LevelMultiplier (Ok (Some m)) = Level s false k m.end
 
-  abbrev pub LevelHeld : Held → Type 0
-  LevelHeld (H.Text a b n) = Level s false k n
-  LevelHeld (H.Field i p n) = Level s false k n
-  LevelHeld H.Bad = Unit {0}
-  LevelHeld H.Sum = Unit {0}
+  abbrev pub LevelHeld : Option Held → Type 0
+  LevelHeld (Some (H.Text a b n)) = Level s false k n
+  LevelHeld (Some (H.Field i p n)) = Level s false k n
+  LevelHeld None = Unit {0}
+  LevelHeld (Some H.Sum) = Unit {0}
 
   -- after an opening parenthesis one more is open, which is within the bound
   abbrev Opened : ℕ → Type 0
   Opened n = (k + 1 ≤ max_depth) × Level s false (k + 1) n
 
-  abbrev pub LevelStart : Start → Type 0
-  LevelStart S.No = Unit {0}
-  LevelStart (S.Open n) = Opened n
-  LevelStart (S.Make j p n) = Opened n
+  abbrev pub LevelStart : Option Start → Type 0
+  LevelStart None = Unit {0}
+  LevelStart (Some (S.Open n)) = Opened n
+  LevelStart (Some (S.Make j p n)) = Opened n
 
   pub closing_level : (at : ℕ) → Level s false (k + 1) at → LevelMark (the.closing_at s at)
   unfolding the.mark_at
@@ -241,15 +238,18 @@ module _ (s : List ℕ) (k : ℕ) where
     pub and_level : LevelJoint (the.and_at s at)
     and_level = operator_level _ _
 
+    abbrev LevelWord : Option Op → Type 0
+    LevelWord o = LevelJoint (the.word_joint o (skipped s at) (stretch_end Letter s (skipped s at)))
+
     pub comparison_level : LevelJoint (the.comparison_at s at)
     unfolding the.comparison_at the.comparing
     comparison_level =
-        picked LevelJoint (same (word_at s (skipped s at)) (bytes "eq")) _ _ (λ e. word_level) (λ f.
-        picked LevelJoint (same (word_at s (skipped s at)) (bytes "ne")) _ _ (λ e. word_level) (λ f.
-        picked LevelJoint (same (word_at s (skipped s at)) (bytes "lt")) _ _ (λ e. word_level) (λ f.
-        picked LevelJoint (same (word_at s (skipped s at)) (bytes "le")) _ _ (λ e. word_level) (λ f.
-        picked LevelJoint (same (word_at s (skipped s at)) (bytes "gt")) _ _ (λ e. word_level) (λ f.
-        picked LevelJoint (same (word_at s (skipped s at)) (bytes "ge")) _ _ (λ e. word_level) (λ f. tt))))))
+        picked LevelWord (same (word_at s (skipped s at)) (bytes "eq")) _ _ (λ e. word_level) (λ f.
+        picked LevelWord (same (word_at s (skipped s at)) (bytes "ne")) _ _ (λ e. word_level) (λ f.
+        picked LevelWord (same (word_at s (skipped s at)) (bytes "lt")) _ _ (λ e. word_level) (λ f.
+        picked LevelWord (same (word_at s (skipped s at)) (bytes "le")) _ _ (λ e. word_level) (λ f.
+        picked LevelWord (same (word_at s (skipped s at)) (bytes "gt")) _ _ (λ e. word_level) (λ f.
+        picked LevelWord (same (word_at s (skipped s at)) (bytes "ge")) _ _ (λ e. word_level) (λ f. tt))))))
 
     pub sign_level : LevelJoint (the.sign_at s at)
     unfolding the.sign_at
@@ -258,14 +258,17 @@ module _ (s : List ℕ) (k : ℕ) where
         (λ f. picked LevelJoint (eqb (get_or s (skipped s at) 0) (code "-")) _ _
         (λ e. byte_level s k (skipped s at) (code "-") e refl (λ q. omega arith, λ q. omega arith, λ q. omega arith) (skip_level s k at l)) (λ e. tt))
 
-    whole_level : (b : Bool) (p d : ℕ) → Level s false k d → LevelMultiplier (the.whole_of b p d (numeral_at s d))
-    unfolding the.whole_of
-    whole_level b p d m = picked LevelMultiplier (leb 1 (numeral_at s d).count) _ _
-        (λ e. picked LevelMultiplier (leb (numeral_at s d).count 6) _ _ (λ f. digits_level s k d m) (λ f. tt)) (λ e. tt)
+    abbrev LevelWhole : Result Multiplier NoNumber → Type 0
+    LevelWhole r = LevelMultiplier (the.after_star r)
 
-    from_level : (p : ℕ) → Level s false k p → LevelMultiplier (the.whole_from s p)
+    whole_level : (b : Bool) (p d : ℕ) → Level s false k d → LevelWhole (the.whole_of b p d (numeral_at s d))
+    unfolding the.whole_of
+    whole_level b p d m = picked LevelWhole (leb 1 (numeral_at s d).count) _ _
+        (λ e. picked LevelWhole (leb (numeral_at s d).count 6) _ _ (λ f. digits_level s k d m) (λ f. tt)) (λ e. tt)
+
+    from_level : (p : ℕ) → Level s false k p → LevelWhole (the.whole_from s p)
     unfolding the.whole_from
-    from_level p m = picked LevelMultiplier (eqb (get_or s p 0) (code "-")) _ _
+    from_level p m = picked LevelWhole (eqb (get_or s p 0) (code "-")) _ _
         (λ e. whole_level true p (p + 1) (byte_level s k p (code "-") e refl (λ q. omega arith, λ q. omega arith, λ q. omega arith) m)) (λ e. whole_level false p p m)
 
     pub multiplier_level : LevelMultiplier (the.multiplier_at s at)
@@ -295,12 +298,12 @@ module _ (s : List ℕ) (k : ℕ) where
       opens : (p : ℕ) → Level s false k p → eqb (get_or s p 0) (code "(") ≡ true → Opened (p + 1)
       opens p m e = past_opening s k p (stands_at s p (code "(") e refl) d (eqb-true _ _ e) m
 
-      makes_level : (p : ℕ) → Level s false k p → (n : Named) → LevelStart (the.makes s p n)
+      makes_level : (p : ℕ) → Level s false k p → (n : Option Kind) → LevelStart (the.makes s p n)
       unfolding the.mark_at
-      makes_level p m N.No = tt
-      makes_level p m (N.Is j) = by (eqb (get_or s (skipped s (stretch_end Letter s p)) 0) (code "(")) refl
+      makes_level p m None = tt
+      makes_level p m (Some j) = by (eqb (get_or s (skipped s (stretch_end Letter s p)) 0) (code "(")) refl
         where
-          by : (b : Bool) → eqb (get_or s (skipped s (stretch_end Letter s p)) 0) (code "(") ≡ b → LevelStart (the.kind_start j p (pick b (M.At (skipped s (stretch_end Letter s p) + 1)) M.No))
+          by : (b : Bool) → eqb (get_or s (skipped s (stretch_end Letter s p)) 0) (code "(") ≡ b → LevelStart (the.kind_start j p (pick b (Some (skipped s (stretch_end Letter s p) + 1)) None))
           by true e = opens (skipped s (stretch_end Letter s p)) (skip_level s k (stretch_end Letter s p) (stretch_level s k Letter letter_plain p m)) e
           by false e = tt
 

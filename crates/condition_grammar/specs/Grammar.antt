@@ -4,21 +4,16 @@
 -- what is known where a part begins (in the code: whether it is evaluated).
 -- "So a factor may hold a whole condition again": each rule is over the readers of what stands in parentheses, and the depth
 -- is how many parentheses may still be opened. A loop runs at most as often as there are bytes left, which is as often as it can.
-use Rattle.std.specs.Prelude.{ℕ, zero, suc, ◌-◌, Bool, List, length}
+use Rattle.std.specs.Prelude.{ℕ, zero, suc, ◌-◌, Bool, List, length, Option, Some, None, Ok, Err}
 use Rattle.value.specs.declared.Kind.{Kind}
 use Rattle.condition_words.specs.Words.{skipped}
-use Rattle.condition_symbols.specs.Symbols.{or_at, and_at, comparison_at, sign_at, start_at, held_at, multiplier_at, closing_at}
+use Rattle.condition_symbols.specs.Symbols.{or_at, and_at, comparison_at, sign_at, start_at, held_at, multiplier_at, closing_at, Multiplied}
 use Rattle.condition_symbols.specs.declared.Op.{Op}
 use Rattle.condition_symbols.specs.declared.Joint.{Joint}
-use Rattle.condition_symbols.specs.declared.Joint.TheVariants as J
-use Rattle.condition_symbols.specs.declared.Mark.{Mark}
-use Rattle.condition_symbols.specs.declared.Mark.TheVariants as M
 use Rattle.condition_symbols.specs.declared.Start.{Start}
 use Rattle.condition_symbols.specs.declared.Start.TheVariants as S
 use Rattle.condition_symbols.specs.declared.Held.{Held}
 use Rattle.condition_symbols.specs.declared.Held.TheVariants as H
-use Rattle.condition_symbols.specs.declared.Multiplier.{Multiplier}
-use Rattle.condition_symbols.specs.declared.Multiplier.TheVariants as T
 
 -- nothing, or what was read and where its text ends
 pub data Parsed (X : Type 0) : Type 0 where
@@ -30,42 +25,42 @@ then none k = none
 then (got x n) k = k x n
 
 -- by the symbol that stands there
-abbrev pub past_mark : {X : Type 0} → Mark → (ℕ → Parsed X) → Parsed X
-past_mark M.No k = none
-past_mark (M.At n) k = k n
+abbrev pub past_mark : {X : Type 0} → Option ℕ → (ℕ → Parsed X) → Parsed X
+past_mark None k = none
+past_mark (Some n) k = k n
 
-abbrev pub operated : {X : Type 0} → Joint → Parsed X → (Op → ℕ → ℕ → Parsed X) → Parsed X
-operated J.No a k = a
-operated (J.At o p n) a k = k o p n
+abbrev pub operated : {X : Type 0} → Option Joint → Parsed X → (Op → ℕ → ℕ → Parsed X) → Parsed X
+operated None a k = a
+operated (Some j) a k = k j.op j.at j.end
 
-abbrev pub scaled : {X : Type 0} → Multiplier → Parsed X → (Bool → ℕ → ℕ → ℕ → Parsed X) → Parsed X
-scaled T.No a k = a
-scaled T.Bad a k = none
-scaled (T.At negative v p n) a k = k negative v p n
+abbrev pub scaled : {X : Type 0} → Multiplied → Parsed X → (Bool → ℕ → ℕ → ℕ → Parsed X) → Parsed X
+scaled (Ok None) a k = a
+scaled (Err x) a k = none
+scaled (Ok (Some m)) a k = k m.negative m.number m.at m.end
 
-abbrev pub started : {X : Type 0} → Start → (ℕ → Parsed X) → (Kind → ℕ → ℕ → Parsed X) → Parsed X
-started S.No o m = none
-started (S.Open n) o m = o n
-started (S.Make k p n) o m = m k p n
+abbrev pub started : {X : Type 0} → Option Start → (ℕ → Parsed X) → (Kind → ℕ → ℕ → Parsed X) → Parsed X
+started None o m = none
+started (Some (S.Open n)) o m = o n
+started (Some (S.Make k p n)) o m = m k p n
 
-abbrev pub holding : {X : Type 0} → Held → (ℕ → ℕ → ℕ → Parsed X) → (ℕ → ℕ → ℕ → Parsed X) → Parsed X → Parsed X
-holding (H.Text from to n) t f e = t from to n
-holding (H.Field i p n) t f e = f i p n
-holding H.Bad t f e = none
-holding H.Sum t f e = e
+abbrev pub holding : {X : Type 0} → Option Held → (ℕ → ℕ → ℕ → Parsed X) → (ℕ → ℕ → ℕ → Parsed X) → Parsed X → Parsed X
+holding (Some (H.Text from to n)) t f e = t from to n
+holding (Some (H.Field i p n)) t f e = f i p n
+holding None t f e = none
+holding (Some H.Sum) t f e = e
 
 -- what was read, where a closing parenthesis follows it
 unfoldable pub closed_at : {X : Type 0} → List ℕ → ℕ → X → Parsed X
 closed_at s at x = past_mark (closing_at s at) (λ n. got x n)
 
 -- { operator part }: where an operator stands, the part after it, joined to what is left of it; at most k times
-unfoldable pub many : {X : Type 0} → (ℕ → Joint) → (Op → X → ℕ → Parsed X) → (Op → ℕ → X → X → X) → ℕ → ℕ → X → Parsed X
+unfoldable pub many : {X : Type 0} → (ℕ → Option Joint) → (Op → X → ℕ → Parsed X) → (Op → ℕ → X → X → X) → ℕ → ℕ → X → Parsed X
 many sign part join zero at left = got left at
 many sign part join (suc k) at left =
     operated (sign at) (got left at) (λ o p n. then (part o left n) (λ x m. many sign part join k m (join o p left x)))
 
 -- { "*" whole number }, at most k times
-unfoldable pub repeated : {X : Type 0} → (ℕ → Multiplier) → (Bool → ℕ → ℕ → X → X) → ℕ → ℕ → X → Parsed X
+unfoldable pub repeated : {X : Type 0} → (ℕ → Multiplied) → (Bool → ℕ → ℕ → X → X) → ℕ → ℕ → X → Parsed X
 repeated star scale zero at left = got left at
 repeated star scale (suc k) at left = scaled (star at) (got left at) (λ b v p n. repeated star scale k n (scale b v p left))
 

@@ -6,8 +6,8 @@ ghost use Rattle.condition_operators.specs.Roles as the;
 
 use condition_symbols::Op;
 
-// What an operator does. Joins: it joins two truth values, and this one on the left settles it. Compares: whether it holds of a left
-// value that is less than the right one, of one that is equal, and of one that is greater.
+// What an operator does. Joins: it joins two truth values, and this one on the left settles it. Compares: whether it
+// holds of a left value that is less than the right one, of one that is equal, and of one that is greater.
 #[derive(Clone, Copy)]
 pub enum Role {
     Joins(bool),
@@ -37,12 +37,7 @@ pub fn role_of(op: Op) -> Role
 pub fn joins(role: Role) -> bool
     ensures { result ≡ the.joins role }
 {
-    match role {
-        Role::Joins(_) => true,
-        Role::Compares(_, _, _) => false,
-        Role::Adds => false,
-        Role::Subtracts => false,
-    }
+    matches!(role, Role::Joins(_))
 }
 
 // Whether a truth value left of an operator settles it.
@@ -50,14 +45,7 @@ pub fn settles(role: Role, left: bool) -> bool
     ensures { result ≡ the.settles role left }
 {
     match role {
-        Role::Joins(by) => {
-            if by {
-                return left;
-            }
-            !left
-        }
-        Role::Compares(_, _, _) => false,
-        Role::Adds => false,
-        Role::Subtracts => false,
+        Role::Joins(by) => left == by,
+        _ => false,
     }
 }

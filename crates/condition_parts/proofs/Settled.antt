@@ -1,5 +1,6 @@
 -- Where the kinds fit, each operation on valid values, in a zone within its bounds, gives a valid value of the settled kind, or 4; a
 -- comparison gives a truth value. So no 9 and no 16 can come of parts whose sorts fit. Where they clash, it is refused with 9.
+use Rattle.std.specs.Prelude.{None, Option, Some}
 use mathlib.Core.Path.{◌≡◌, refl, sym, subst}
 use mathlib.Core.Bool.{Bool, true, false}
 use Prim.Native.Nat.{ℕ, ◌+◌, ◌-◌, ◌/◌, ◌≤◌}
@@ -21,8 +22,6 @@ use Rattle.value.specs.declared.Kind.{Kind}
 use Rattle.value.specs.declared.Kind.TheVariants as K
 use Rattle.value.specs.declared.Value.{Value}
 use Rattle.value.specs.declared.Value.TheVariants as V'
-use Rattle.value_instants.specs.declared.Placed.{Placed}
-use Rattle.value_instants.specs.declared.Placed.TheVariants as P
 use Rattle.value.proofs.KindParts.{moment_good}
 use Rattle.value.proofs.RowLaws.{moment_apart, apart_moment}
 use Rattle.operation_quantities.specs.Results.{in_ticks, in_months, of_placed, at_ticks}
@@ -71,9 +70,9 @@ year_month_none = refl
 
 -- a moment and a duration: of the moment's kind where that takes the duration, 9 where it does not
 module _ (k : Kind) where
-  placed_fit : (p : Placed) → Fits k (of_placed k p)
-  placed_fit (P.At d) = refl
-  placed_fit P.Beyond = refl
+  placed_fit : (p : Option DateTime) → Fits k (of_placed k p)
+  placed_fit (Some d) = refl
+  placed_fit None = refl
 
   shifted_fits : (d : DateTime) (p q : ℕ) → FitsSort (pick (takes k K.DayTimeDuration) (S.Of k) S.Clash) (shifted k d p q)
   unfolding takes shifted at_ticks

@@ -1,4 +1,4 @@
+pub mod Carried
 pub mod Steps
 pub mod Falls
-pub mod Carried
 pub mod Wholes

@@ -1,13 +1,10 @@
 -- Carried: what the readers hand one another, the grammar at the parts that the code carries. No promise to a caller rests on
 -- it, but on the tree that a text states (Productions.antt of crate `condition_grammar`): `read_of` says what the reader of a whole text
 -- gives of that tree.
-use Rattle.std.specs.Prelude.{ℕ, List, []}
-use Rattle.value.specs.declared.Kind.{Kind}
+use Rattle.std.specs.Prelude.{ℕ, List, Option, Some, None}
 use Rattle.value.specs.declared.Offset.{Offset}
-use Rattle.timetable.specs.Rows.{Row}
-use Rattle.value_instants.specs.Ticks.{utc}
+use Rattle.timetable.specs.Rows.{Row, row_with}
 use Rattle.condition_symbols.specs.Symbols.{or_at, and_at, sign_at, held_at}
-use Rattle.condition_symbols.specs.declared.Op.{Op}
 use Rattle.condition_symbols.specs.declared.Joint.{Joint}
 use Rattle.condition_symbols.specs.declared.Start.{Start}
 use Rattle.condition_symbols.specs.declared.Start.TheVariants as S
@@ -18,11 +15,11 @@ use Rattle.condition_givens.specs.declared.Given.TheVariants as G
 use Rattle.condition_parts.specs.declared.Part.{Part}
 use Rattle.condition_givens.specs.declared.Mode.{Mode}
 use Rattle.condition_givens.specs.declared.Mode.TheVariants as M
-use Rattle.condition_grammar.specs.Grammar.{Parsed, none, got, then, holding, Parts, Inside, closed_at, inner, condition_in, condition_more_in, clause_in, clause_more_in, test_in, sum_in, sum_more_in, term_in, term_more_in, factor_in}
+use Rattle.condition_grammar.specs.Grammar.{Parsed, none, got, then, holding, Parts, Inside, inner, condition_in, condition_more_in, clause_in, clause_more_in, test_in, sum_in, sum_more_in, term_in, term_more_in, factor_in}
 use Rattle.condition_grammar.specs.Trees.{Tree}
 use Rattle.condition_readers.specs.Meaning.{sort_of, first_bad, eval}
 use Rattle.condition_readers.specs.declared.Read.{Read}
-use Rattle.condition_readers.specs.declared.Read.TheVariants.{Bad, Got}
+use Rattle.condition_readers.specs.declared.Reader.{Reader}
 use Rattle.condition_readers.specs.declared.Rule.{Rule}
 use Rattle.condition_readers.specs.declared.Rule.TheVariants.{Condition, Clause, Sum}
 
@@ -37,73 +34,77 @@ parts zone s row =
       after = after_part;
     }
 
-abbrev pub told : Parsed Part → Read
-told none = Bad
-told (got a n) = Got a n
+abbrev pub read : Part → ℕ → Read
+read a n = record { part = a; end = n }
+
+abbrev pub told : Parsed Part → Option Read
+told none = None
+told (got a n) = Some (read a n)
 
 abbrev pub inside : Offset → ℕ → List ℕ → Row → Inside Part Mode
 inside zone d s row = inner Part Mode (parts zone s row) s d
 
 -- the operator of a rule
-unfoldable pub joint_at : Rule → List ℕ → ℕ → Joint
+unfoldable pub joint_at : Rule → List ℕ → ℕ → Option Joint
 joint_at Condition s at = or_at s at
 joint_at Clause s at = and_at s at
 joint_at Sum s at = sign_at s at
 
--- what is made of what was read
-unfoldable pub joined_read : Offset → Op → Part → Read → Read
-joined_read zone o left Bad = Bad
-joined_read zone o left (Got a n) = Got (two_part zone o left a) n
-
-unfoldable pub cast_read : Kind → Read → Read
-cast_read k Bad = Bad
-cast_read k (Got a n) = Got (cast_part k a) n
-
-unfoldable pub closed_read : List ℕ → Read → Read
-closed_read s Bad = Bad
-closed_read s (Got a at) = told (closed_at s at a)
-
-unfoldable pub term_more_read : List ℕ → ℕ → Part → Read
-term_more_read s at left = told (term_more_in Part Mode (parts utc s []) s (inside utc 0 s []) at left)
-
-unfoldable pub term_read : List ℕ → Read → Read
-term_read s Bad = Bad
-term_read s (Got a n) = term_more_read s n a
-
+-- a rule, and what follows its first operand
 module _ (zone : Offset) (d : ℕ) (s : List ℕ) (row : Row) where
-  unfoldable pub chain_read : Rule → ℕ → Mode → Read
-  chain_read Condition at m = told (condition_in Part Mode (parts zone s row) s (inside zone d s row) at m)
-  chain_read Clause at m = told (clause_in Part Mode (parts zone s row) s (inside zone d s row) at m)
-  chain_read Sum at m = told (sum_in Part Mode (parts zone s row) s (inside zone d s row) at m)
+  unfoldable pub chain_in : Rule → ℕ → Mode → Parsed Part
+  chain_in Condition at m = condition_in Part Mode (parts zone s row) s (inside zone d s row) at m
+  chain_in Clause at m = clause_in Part Mode (parts zone s row) s (inside zone d s row) at m
+  chain_in Sum at m = sum_in Part Mode (parts zone s row) s (inside zone d s row) at m
 
-  unfoldable pub more_in : Rule → ℕ → Mode → Part → Parsed Part
-  more_in Condition at m left = condition_more_in Part Mode (parts zone s row) s (inside zone d s row) 0 at m left
-  more_in Clause at m left = clause_more_in Part Mode (parts zone s row) s (inside zone d s row) 0 at m left
-  more_in Sum at m left = sum_more_in Part Mode (parts zone s row) s (inside zone d s row) 0 at m left
+  unfoldable pub more_in : Rule → Mode → Part → ℕ → Parsed Part
+  more_in Condition m left at = condition_more_in Part Mode (parts zone s row) s (inside zone d s row) 0 at m left
+  more_in Clause m left at = clause_more_in Part Mode (parts zone s row) s (inside zone d s row) 0 at m left
+  more_in Sum m left at = sum_more_in Part Mode (parts zone s row) s (inside zone d s row) 0 at m left
 
-  unfoldable pub more_read : Rule → Mode → Read → Read
-  more_read r m Bad = Bad
-  more_read r m (Got left at) = told (more_in r at m left)
-
-  unfoldable pub operand_read : Rule → ℕ → Mode → Read
-  operand_read Condition at m = told (clause_in Part Mode (parts zone s row) s (inside zone d s row) at m)
-  operand_read Clause at m = told (test_in Part Mode (parts zone s row) s (inside zone d s row) at m)
-  operand_read Sum at m = told (term_in Part Mode (parts zone s row) s (inside zone d s row) at m)
-
-  unfoldable pub test_read : ℕ → Mode → Read
-  test_read at m = told (test_in Part Mode (parts zone s row) s (inside zone d s row) at m)
-
-  unfoldable pub factor_read : ℕ → Mode → Read
-  factor_read at m = told (factor_in Part Mode (parts zone s row) s (inside zone d s row) at m)
+  unfoldable pub operand_in : Rule → ℕ → Mode → Parsed Part
+  operand_in Condition at m = clause_in Part Mode (parts zone s row) s (inside zone d s row) at m
+  operand_in Clause at m = test_in Part Mode (parts zone s row) s (inside zone d s row) at m
+  operand_in Sum at m = term_in Part Mode (parts zone s row) s (inside zone d s row) at m
 
   -- what stands in the parentheses with which a factor starts, up to the closing one
-  unfoldable pub inner_read : Start → Mode → Read
-  inner_read S.No m = Bad
-  inner_read (S.Open at) m = told (condition_in Part Mode (parts zone s row) s (inside zone d s row) at m)
-  inner_read (S.Make k w at) m = told (holding (held_at s at)
+  unfoldable pub inner_in : Start → Mode → Parsed Part
+  inner_in (S.Open at) m = condition_in Part Mode (parts zone s row) s (inside zone d s row) at m
+  inner_in (S.Make k w at) m = holding (held_at s at)
       (λ from to n. got (literal_part m k s from to) n)
       (λ i p n. got (field_part m k row i) n)
-      (then (sum_in Part Mode (parts zone s row) s (inside zone d s row) at m) (λ x n. got (cast_part k x) n)))
+      (then (sum_in Part Mode (parts zone s row) s (inside zone d s row) at m) (λ x n. got (cast_part k x) n))
+
+-- what each reader gives, of its text, for its row and in its zone
+abbrev pub reader_row : Reader → Row
+reader_row r = row_with r.row.line.now r.row.made.now
+
+abbrev pub reader_parts : Reader → Parts Part Mode
+reader_parts r = parts r.zone r.text.now (reader_row r)
+
+abbrev pub reader_inside : Reader → ℕ → Inside Part Mode
+reader_inside r d = inside r.zone d r.text.now (reader_row r)
+
+abbrev pub chain_read : Reader → ℕ → Rule → ℕ → Mode → Option Read
+chain_read r d x at m = told (chain_in r.zone d r.text.now (reader_row r) x at m)
+
+abbrev pub more_read : Reader → ℕ → Rule → Mode → Read → Option Read
+more_read r d x m y = told (more_in r.zone d r.text.now (reader_row r) x m y.part y.end)
+
+abbrev pub operand_read : Reader → ℕ → Rule → ℕ → Mode → Option Read
+operand_read r d x at m = told (operand_in r.zone d r.text.now (reader_row r) x at m)
+
+abbrev pub multiplied_read : Reader → Read → Option Read
+multiplied_read r y = told (term_more_in Part Mode (reader_parts r) r.text.now (reader_inside r 0) y.end y.part)
+
+abbrev pub test_read : Reader → ℕ → ℕ → Mode → Option Read
+test_read r d at m = told (test_in Part Mode (reader_parts r) r.text.now (reader_inside r d) at m)
+
+abbrev pub factor_read : Reader → ℕ → ℕ → Mode → Option Read
+factor_read r d at m = told (factor_in Part Mode (reader_parts r) r.text.now (reader_inside r d) at m)
+
+abbrev pub inner_read : Reader → ℕ → Start → Mode → Option Read
+inner_read r d x m = told (inner_in r.zone d r.text.now (reader_row r) x m)
 
 -- what the code carries of a tree, in each mode
 unfoldable pub given_in : Offset → List ℕ → Row → Mode → Tree → Given
@@ -114,6 +115,6 @@ given_in zone s row M.Dead t = G.Nothing
 abbrev pub part_of : Offset → List ℕ → Row → Mode → Tree → Part
 part_of zone s row m t = record { sort = sort_of t; given = given_in zone s row m t }
 
-unfoldable pub read_of : Offset → List ℕ → Row → Mode → Parsed Tree → Read
-read_of zone s row m none = Bad
-read_of zone s row m (got t n) = Got (part_of zone s row m t) n
+unfoldable pub read_of : Offset → List ℕ → Row → Mode → Parsed Tree → Option Read
+read_of zone s row m none = None
+read_of zone s row m (got t n) = Some (read (part_of zone s row m t) n)

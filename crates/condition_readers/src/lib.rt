@@ -1,7 +1,6 @@
-// The readers of a condition, straight on its text: each reads its part from an offset on and gives what it carries and where
-// it ends. A factor may hold a whole condition again, so they call one another in a cycle; at each turn of it text has been
-// read or fewer parentheses may be opened (document 01, "Conditions"). Every arm of a `match` on what was read returns: a `match` that has
-// a value has a place for it, and the proof writes out the type of every place at every step.
+// The readers of a condition, straight on its text: each reads its part from an offset on and gives what it carries and
+// where it ends. A factor may hold a whole condition again, so they call one another in a cycle; at each turn of it text
+// has been read or fewer parentheses may be opened (document 01, "Conditions").
 #![tactic(auto)]
 
 ghost use Rattle.std.specs.Prelude.{◌≡◌};
@@ -10,300 +9,171 @@ ghost use Rattle.condition_readers.specs.Lengths.{parse_within};
 ghost use Rattle.condition_readers.specs.Carried as the;
 
 use condition_depth::MAX_DEPTH;
-use condition_givens::Mode;
+use condition_givens::{Mode, RowTexts};
 use condition_parts::Part;
-use condition_parts::parts::{after, cast, field, literal, times, two};
-use condition_symbols::{Held, Joint, Mark, Multiplier, Op, Start};
+use condition_symbols::{Held, Joint, Start};
 use condition_words::skip;
-use value::{Kind, Offset};
+use value::Offset;
 
 // The greatest length of a condition's text.
 pub const MAX_LENGTH: usize = 240;
 
 // What was read, and where its text ends.
 #[derive(Clone, Copy)]
-pub enum Read {
-    Bad,
-    Got(Part, usize),
+pub struct Read {
+    pub part: Part,
+    pub end: usize,
 }
 
-// The rules that are operands with operators between: a condition is clauses with `or`, a clause is tests with `and`, a sum is
-// terms with `+` or `-`.
+// The rules that are operands with operators between: a condition is clauses with `or`, a clause is tests with `and`, a
+// sum is terms with `+` or `-`. They are named by values, so that the loop over operands stands once.
 #[derive(Clone, Copy)]
-pub enum Rule {
+enum Rule {
     Condition,
     Clause,
     Sum,
 }
 
-// The operator of a rule.
-fn joint(rule: Rule, s: &[u8], at: usize) -> Joint
-    ensures { result ≡ the.joint_at rule s.now at }
-{
-    match rule {
-        Rule::Condition => condition_symbols::or(s, at),
-        Rule::Clause => condition_symbols::and(s, at),
-        Rule::Sum => condition_symbols::sign(s, at),
-    }
-}
-
-// What was read after an operator, joined to what is left of it.
-fn joined(op: Op, left: Part, read: Read, zone: Offset) -> Read
-    ensures { result ≡ the.joined_read zone op left read }
-{
-    match read {
-        Read::Bad => return Read::Bad,
-        Read::Got(right, n) => return Read::Got(two(op, left, right, zone), n),
-    }
-}
-
-// What was read, cast to a kind.
-fn cast_to(kind: Kind, read: Read) -> Read
-    ensures { result ≡ the.cast_read kind read }
-{
-    match read {
-        Read::Bad => return Read::Bad,
-        Read::Got(part, n) => return Read::Got(cast(kind, part), n),
-    }
-}
-
-// What was read, where a closing parenthesis follows it.
-fn closed(s: &[u8], read: Read) -> Read
-    ensures { result ≡ the.closed_read s.now read }
-{
-    match read {
-        Read::Bad => return Read::Bad,
-        Read::Got(part, at) => match condition_symbols::closing(s, at) {
-            Mark::No => return Read::Bad,
-            Mark::At(n) => return Read::Got(part, n),
-        },
-    }
-}
-
-// A factor that was read, with the whole numbers that follow it after `*`.
-fn term(s: &[u8], read: Read) -> Read
-    ensures { result ≡ the.term_read s.now read }
-{
-    match read {
-        Read::Bad => return Read::Bad,
-        Read::Got(part, at) => match condition_symbols::star(s, at) {
-            Multiplier::No => return read,
-            Multiplier::Bad => return Read::Bad,
-            Multiplier::At(negative, number, _, n) => return term_more(
-                s,
-                n,
-                times(negative, number, part),
-            ),
-        },
-    }
-}
-
-fn term_more(s: &[u8], at: usize, left: Part) -> Read
-    ensures { result ≡ the.term_more_read s.now at left }
-{
-    match condition_symbols::star(s, at) {
-        Multiplier::No => return Read::Got(left, at),
-        Multiplier::Bad => return Read::Bad,
-        Multiplier::At(negative, number, _, n) => return term_more(
-            s,
-            n,
-            times(negative, number, left),
-        ),
-    }
-}
-
-// Operands with operators between, taken from the left.
-#[cycle(chain_factor_inner_more_operand_test)]
-fn chain(
-    rule: Rule,
-    s: &[u8],
-    line: &[u8],
-    at: usize,
-    depth: usize,
-    mode: Mode,
-    made: &[u8],
+// What the readers read: a condition's text, for a row and in a zone.
+#[derive(Clone, Copy)]
+struct Reader<'a> {
+    text: &'a [u8],
+    row: RowTexts<'a>,
     zone: Offset,
-) -> Read
-    ensures { result ≡ the.chain_read zone depth s.now (row_with line.now made.now) rule at mode }
-{
-    more(
-        rule,
-        s,
-        line,
-        depth,
-        mode,
-        operand(rule, s, line, at, depth, mode, made, zone),
-        made,
-        zone,
-    )
 }
 
-// What was read, with the operators and operands that follow it.
-#[cycle(chain_factor_inner_more_operand_test)]
-fn more(
-    rule: Rule,
-    s: &[u8],
-    line: &[u8],
-    depth: usize,
-    mode: Mode,
-    read: Read,
-    made: &[u8],
-    zone: Offset,
-) -> Read
-    ensures { result ≡ the.more_read zone depth s.now (row_with line.now made.now) rule mode read }
-{
-    match read {
-        Read::Bad => return Read::Bad,
-        Read::Got(left, at) => match joint(rule, s, at) {
-            Joint::No => return read,
-            Joint::At(op, _, n) => {
-                let right = operand(rule, s, line, n, depth, after(op, mode, left), made, zone);
-                return more(
-                    rule,
-                    s,
-                    line,
-                    depth,
-                    mode,
-                    joined(op, left, right, zone),
-                    made,
-                    zone,
-                );
-            }
-        },
-    }
-}
-
-// A clause, a test or a term.
-#[cycle(chain_factor_inner_more_operand_test)]
-fn operand(
-    rule: Rule,
-    s: &[u8],
-    line: &[u8],
-    at: usize,
-    depth: usize,
-    mode: Mode,
-    made: &[u8],
-    zone: Offset,
-) -> Read
-    ensures { result ≡ the.operand_read zone depth s.now (row_with line.now made.now) rule at mode }
-{
-    match rule {
-        Rule::Condition => return chain(Rule::Clause, s, line, at, depth, mode, made, zone),
-        Rule::Clause => return test(s, line, at, depth, mode, made, zone),
-        Rule::Sum => return term(s, factor(s, line, at, depth, mode, made, zone)),
-    }
-}
-
-// One sum, or two with a comparison between.
-#[cycle(chain_factor_inner_more_operand_test)]
-fn test(
-    s: &[u8],
-    line: &[u8],
-    at: usize,
-    depth: usize,
-    mode: Mode,
-    made: &[u8],
-    zone: Offset,
-) -> Read
-    ensures { result ≡ the.test_read zone depth s.now (row_with line.now made.now) at mode }
-{
-    let read = chain(Rule::Sum, s, line, at, depth, mode, made, zone);
-    match read {
-        Read::Bad => return Read::Bad,
-        Read::Got(left, n) => match condition_symbols::comparison(s, n) {
-            Joint::No => return read,
-            Joint::At(op, _, m) => {
-                let right = chain(
-                    Rule::Sum,
-                    s,
-                    line,
-                    m,
-                    depth,
-                    after(op, mode, left),
-                    made,
-                    zone,
-                );
-                return joined(op, left, right, zone);
-            }
-        },
-    }
-}
-
-// A condition in parentheses, or a kind's word with what stands in the parentheses after it.
-#[cycle(chain_factor_inner_more_operand_test)]
-fn factor(
-    s: &[u8],
-    line: &[u8],
-    at: usize,
-    depth: usize,
-    mode: Mode,
-    made: &[u8],
-    zone: Offset,
-) -> Read
-    ensures { result ≡ the.factor_read zone depth s.now (row_with line.now made.now) at mode }
-{
-    if depth == 0 {
-        return Read::Bad;
-    }
-    closed(
-        s,
-        inner(
-            s,
-            line,
-            condition_symbols::factor_start(s, at),
-            depth - 1,
-            mode,
-            made,
-            zone,
-        ),
-    )
-}
-
-// What stands in the parentheses with which a factor starts: a condition; or after a kind's word a text, a field, or a sum to be
-// cast.
-#[cycle(chain_factor_inner_more_operand_test)]
-fn inner(
-    s: &[u8],
-    line: &[u8],
-    start: Start,
-    depth: usize,
-    mode: Mode,
-    made: &[u8],
-    zone: Offset,
-) -> Read
-    ensures { result ≡ the.inner_read zone depth s.now (row_with line.now made.now) start mode }
-{
-    match start {
-        Start::No => return Read::Bad,
-        Start::Open(at) => return chain(Rule::Condition, s, line, at, depth, mode, made, zone),
-        Start::Make(kind, _, at) => match condition_symbols::contents(s, at) {
-            Held::Text(from, to, n) => return Read::Got(literal(mode, kind, s, from, to), n),
-            Held::Field(number, _, n) => return Read::Got(field(mode, kind, line, number, made), n),
-            Held::Bad => return Read::Bad,
-            Held::Sum => return cast_to(
-                kind,
-                chain(Rule::Sum, s, line, at, depth, mode, made, zone),
-            ),
-        },
-    }
-}
-
-// The whole text: only spaces may follow the condition. A text that is longer than a condition is not read, so that the readers
-// call one another no more deeply than a condition's text lets them.
-pub fn whole(s: &[u8], line: &[u8], mode: Mode, made: &[u8], zone: Offset) -> Read
-    ensures { result ≡ the.read_of zone s.now (row_with line.now made.now) mode (parse_within s.now) }
-{
-    if MAX_LENGTH < s.len() {
-        return Read::Bad;
-    }
-    let read = chain(Rule::Condition, s, line, 0, MAX_DEPTH, mode, made, zone);
-    match read {
-        Read::Bad => return Read::Bad,
-        Read::Got(_, n) => {
-            if skip(s, n) < s.len() {
-                return Read::Bad;
-            }
-            return read;
+#[tactic(auto, using(crate::proofs::Steps::steps, crate::proofs::Falls::falls))]
+impl Reader<'_> {
+    // The operator of a rule.
+    #[tactic(auto, unfolding(crate::specs::Carried::joint_at))]
+    fn joint(self, rule: Rule, at: usize) -> Option<Joint>
+        ensures { result ≡ the.joint_at rule self.entry.text.now at }
+    {
+        match rule {
+            Rule::Condition => condition_symbols::or(self.text, at),
+            Rule::Clause => condition_symbols::and(self.text, at),
+            Rule::Sum => condition_symbols::sign(self.text, at),
         }
     }
+
+    // What was read, with the whole numbers that follow it after `*`.
+    fn multiplied(self, mut left: Read) -> Option<Read>
+        ensures { result ≡ the.multiplied_read self.entry left }
+    {
+        while let Some(by) = condition_symbols::star(self.text, left.end).ok()? {
+            left = Read {
+                part: left.part.times(by.negative, by.number),
+                end: by.end,
+            };
+        }
+        Some(left)
+    }
+
+    // Operands with operators between, taken from the left.
+    #[cycle(readers)]
+    fn chain(self, rule: Rule, at: usize, depth: usize, mode: Mode) -> Option<Read>
+        ensures { result ≡ the.chain_read self.entry depth rule at mode }
+    {
+        let mut left = self.operand(rule, at, depth, mode)?;
+        while let Some(joint) = self.joint(rule, left.end) {
+            let after = left.part.after(joint.op, mode);
+            let right = self.operand(rule, joint.end, depth, after)?;
+            left = Read {
+                part: left.part.two(joint.op, right.part, self.zone),
+                end: right.end,
+            };
+        }
+        Some(left)
+    }
+
+    // A clause, a test or a term.
+    #[cycle(readers)]
+    fn operand(self, rule: Rule, at: usize, depth: usize, mode: Mode) -> Option<Read>
+        ensures { result ≡ the.operand_read self.entry depth rule at mode }
+    {
+        match rule {
+            Rule::Condition => self.chain(Rule::Clause, at, depth, mode),
+            Rule::Clause => self.test(at, depth, mode),
+            Rule::Sum => self.multiplied(self.factor(at, depth, mode)?),
+        }
+    }
+
+    // One sum, or two with a comparison between.
+    #[cycle(readers)]
+    fn test(self, at: usize, depth: usize, mode: Mode) -> Option<Read>
+        ensures { result ≡ the.test_read self.entry depth at mode }
+    {
+        let left = self.chain(Rule::Sum, at, depth, mode)?;
+        let Some(joint) = condition_symbols::comparison(self.text, left.end) else {
+            return Some(left);
+        };
+        let after = left.part.after(joint.op, mode);
+        let right = self.chain(Rule::Sum, joint.end, depth, after)?;
+        Some(Read {
+            part: left.part.two(joint.op, right.part, self.zone),
+            end: right.end,
+        })
+    }
+
+    // A condition in parentheses, or a kind's word with what stands in the parentheses after it.
+    #[cycle(readers)]
+    fn factor(self, at: usize, depth: usize, mode: Mode) -> Option<Read>
+        ensures { result ≡ the.factor_read self.entry depth at mode }
+    {
+        if depth == 0 {
+            return None;
+        }
+        let start = condition_symbols::factor_start(self.text, at)?;
+        let held = self.inner(start, depth - 1, mode)?;
+        let end = condition_symbols::closing(self.text, held.end)?;
+        Some(Read {
+            part: held.part,
+            end,
+        })
+    }
+
+    // What stands in the parentheses with which a factor starts: a condition; or after a kind's word a text, a field, or
+    // a sum to be cast.
+    #[cycle(readers)]
+    fn inner(self, start: Start, depth: usize, mode: Mode) -> Option<Read>
+        ensures { result ≡ the.inner_read self.entry depth start mode }
+    {
+        match start {
+            Start::Open { end } => self.chain(Rule::Condition, end, depth, mode),
+            Start::Make { kind, end, .. } => match condition_symbols::contents(self.text, end)? {
+                Held::Text { from, to, end } => Some(Read {
+                    part: Part::literal(mode, kind, self.text, from, to),
+                    end,
+                }),
+                Held::Field { number, end, .. } => Some(Read {
+                    part: Part::field(mode, kind, self.row, number),
+                    end,
+                }),
+                Held::Sum => {
+                    let sum = self.chain(Rule::Sum, end, depth, mode)?;
+                    Some(Read {
+                        part: sum.part.cast(kind),
+                        end: sum.end,
+                    })
+                }
+            },
+        }
+    }
+}
+
+// The whole text: only spaces may follow the condition. A text that is longer than a condition is not read, so that the
+// readers call one another no more deeply than a condition's text lets them.
+#[tactic(auto, using(crate::proofs::Wholes::wholes))]
+pub fn whole(text: &[u8], row: RowTexts, mode: Mode, zone: Offset) -> Option<Read>
+    ensures { result ≡ the.read_of zone text.now (row_with row.entry.line.now row.entry.made.now) mode (parse_within text.now) }
+{
+    if MAX_LENGTH < text.len() {
+        return None;
+    }
+    let reader = Reader { text, row, zone };
+    let read = reader.chain(Rule::Condition, 0, MAX_DEPTH, mode)?;
+    if skip(text, read.end) < text.len() {
+        return None;
+    }
+    Some(read)
 }

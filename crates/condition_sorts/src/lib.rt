@@ -8,7 +8,7 @@ use condition_operators::{Role, joins, role_of};
 use condition_symbols::Op;
 use operation_casting::casts_to;
 use value::Kind;
-use value::kinds::{is_clocked, is_dated, is_moment, same};
+use value::kinds::{is_clocked, is_dated, is_moment};
 
 // What the text alone settles of a part: that kinds do not fit, a truth value, or a value of a kind.
 #[derive(Clone, Copy)]
@@ -19,61 +19,52 @@ pub enum Sort {
 }
 
 // Whether a kind takes a duration of another.
+#[tactic(auto, unfolding(crate::specs::Sorts::takes))]
 fn takes(kind: Kind, by: Kind) -> bool
     ensures { result ≡ the.takes kind by }
 {
-    if same(by, Kind::DayTimeDuration) {
-        if is_dated(kind) {
-            return true;
-        }
-        return is_clocked(kind);
+    match by {
+        Kind::DayTimeDuration => is_dated(kind) || is_clocked(kind),
+        Kind::YearMonthDuration => is_dated(kind),
+        _ => false,
     }
-    if same(by, Kind::YearMonthDuration) {
-        return is_dated(kind);
-    }
-    false
 }
 
+#[tactic(auto, using(value::proofs::RowLaws::kinds_same), unfolding(crate::specs::Sorts::compared_kinds))]
 fn compared(a: Kind, b: Kind) -> Sort
     ensures { result ≡ the.compared_kinds a b }
 {
-    if same(a, b) {
-        return Sort::Truth;
-    }
-    Sort::Clash
+    if a == b { Sort::Truth } else { Sort::Clash }
 }
 
+#[tactic(auto, using(value::proofs::RowLaws::kinds_same), unfolding(crate::specs::Sorts::added_kinds))]
 fn added(a: Kind, b: Kind) -> Sort
     ensures { result ≡ the.added_kinds a b }
 {
     if takes(a, b) {
-        return Sort::Of(a);
+        Sort::Of(a)
+    } else if takes(b, a) {
+        Sort::Of(b)
+    } else if !is_moment(a) && a == b {
+        Sort::Of(a)
+    } else {
+        Sort::Clash
     }
-    if takes(b, a) {
-        return Sort::Of(b);
-    }
-    if is_moment(a) {
-        return Sort::Clash;
-    }
-    if same(a, b) {
-        return Sort::Of(a);
-    }
-    Sort::Clash
 }
 
+#[tactic(auto, using(value::proofs::RowLaws::kinds_same), unfolding(crate::specs::Sorts::less_kinds))]
 fn less(a: Kind, b: Kind) -> Sort
     ensures { result ≡ the.less_kinds a b }
 {
     if takes(a, b) {
-        return Sort::Of(a);
+        Sort::Of(a)
+    } else if a != b {
+        Sort::Clash
+    } else if is_moment(a) {
+        Sort::Of(Kind::DayTimeDuration)
+    } else {
+        Sort::Of(a)
     }
-    if same(a, b) {
-        if is_moment(a) {
-            return Sort::Of(Kind::DayTimeDuration);
-        }
-        return Sort::Of(a);
-    }
-    Sort::Clash
 }
 
 fn kinds(role: Role, a: Kind, b: Kind) -> Sort
@@ -92,23 +83,10 @@ pub fn two(op: Op, a: Sort, b: Sort) -> Sort
     ensures { result ≡ the.sort_two op a b }
 {
     let role = role_of(op);
-    match a {
-        Sort::Clash => Sort::Clash,
-        Sort::Truth => match b {
-            Sort::Clash => Sort::Clash,
-            Sort::Truth => {
-                if joins(role) {
-                    return Sort::Truth;
-                }
-                Sort::Clash
-            }
-            Sort::Of(_) => Sort::Clash,
-        },
-        Sort::Of(j) => match b {
-            Sort::Clash => Sort::Clash,
-            Sort::Truth => Sort::Clash,
-            Sort::Of(k) => kinds(role, j, k),
-        },
+    match (a, b) {
+        (Sort::Truth, Sort::Truth) if joins(role) => Sort::Truth,
+        (Sort::Of(j), Sort::Of(k)) => kinds(role, j, k),
+        _ => Sort::Clash,
     }
 }
 
@@ -117,14 +95,8 @@ pub fn cast(kind: Kind, a: Sort) -> Sort
     ensures { result ≡ the.sort_cast kind a }
 {
     match a {
-        Sort::Clash => Sort::Clash,
-        Sort::Truth => Sort::Clash,
-        Sort::Of(j) => {
-            if casts_to(j, kind) {
-                return Sort::Of(kind);
-            }
-            Sort::Clash
-        }
+        Sort::Of(j) if casts_to(j, kind) => Sort::Of(kind),
+        _ => Sort::Clash,
     }
 }
 
@@ -133,13 +105,7 @@ pub fn times(a: Sort) -> Sort
     ensures { result ≡ the.sort_times a }
 {
     match a {
-        Sort::Clash => Sort::Clash,
-        Sort::Truth => Sort::Clash,
-        Sort::Of(k) => {
-            if is_moment(k) {
-                return Sort::Clash;
-            }
-            Sort::Of(k)
-        }
+        Sort::Of(k) if !is_moment(k) => Sort::Of(k),
+        _ => Sort::Clash,
     }
 }

@@ -1,12 +1,12 @@
 // The symbols of a condition's text: which one stands at an offset, after any spaces (document 01, "Conditions").
 #![tactic(auto)]
 
-ghost use Rattle.std.specs.Prelude.{◌≡◌, ◌+◌, ◌≤◌, true, leb, length};
+ghost use Rattle.std.specs.Prelude.{◌≡◌, ◌+◌, ◌≤◌, true, leb, length, IfSome};
 ghost use Rattle.condition_symbols.specs.Symbols as the;
 ghost use Rattle.numerals.specs.Reading.{numeral_at};
 
-use condition_words::{Class, same, skip, stretch_end, word};
-use numerals::{byte, digits, raised};
+use condition_words::{Class, skip, stretch_end, word};
+use numerals::{byte, digits};
 use value::Kind;
 
 // An operator between two parts.
@@ -24,54 +24,52 @@ pub enum Op {
     Minus,
 }
 
-// The operator that stands there, the offset of its first byte and the offset after it.
+// An operator that stands in a text, the offset of its first byte and the offset after it.
 #[derive(Clone, Copy)]
-pub enum Joint {
-    No,
-    At(Op, usize, usize),
+pub struct Joint {
+    pub op: Op,
+    pub at: usize,
+    pub end: usize,
 }
 
-// The offset after a byte that was looked for.
-#[derive(Clone, Copy)]
-pub enum Mark {
-    No,
-    At(usize),
-}
-
-// The kind that a word names.
-#[derive(Clone, Copy)]
-pub enum Named {
-    No,
-    Is(Kind),
-}
-
-// How a factor begins: a parenthesis, or a kind's name, at an offset, and a parenthesis. The last number is the offset after it.
+// How a factor begins: with a parenthesis, or with a kind's name, at an offset, and a parenthesis. `end` is the offset
+// after it.
 #[derive(Clone, Copy)]
 pub enum Start {
-    No,
-    Open(usize),
-    Make(Kind, usize, usize),
+    Open { end: usize },
+    Make { kind: Kind, at: usize, end: usize },
 }
 
-// What stands in a constructor's parentheses. Text: a text in quotes, by the offsets between which its bytes stand. Field: a
-// field, by its number and the offset of its `$`. Bad: a quote or a `$` with which no such text or field begins. Sum: anything
-// else, which is then read as a sum. The last number is the offset after it.
+// What stands in a constructor's parentheses. Text: a text in quotes, by the offsets between which its bytes stand.
+// Field: a field, by its number and the offset of its `$`. Sum: anything else, which is then read as a sum. `end` is the
+// offset after it.
 #[derive(Clone, Copy)]
 pub enum Held {
-    Text(usize, usize, usize),
-    Field(usize, usize, usize),
-    Bad,
+    Text {
+        from: usize,
+        to: usize,
+        end: usize,
+    },
+    Field {
+        number: usize,
+        at: usize,
+        end: usize,
+    },
     Sum,
 }
 
-// A `*` and the whole number after it: whether that is negative, what its digits say, its offset and the offset after it. Bad is a
-// `*` without a whole number.
+// A whole number after a `*`: whether it is negative, what its digits say, its offset and the offset after it.
 #[derive(Clone, Copy)]
-pub enum Multiplier {
-    No,
-    Bad,
-    At(bool, u32, usize, usize),
+pub struct Multiplier {
+    pub negative: bool,
+    pub number: u32,
+    pub at: usize,
+    pub end: usize,
 }
+
+// A `*` without a whole number.
+#[derive(Clone, Copy)]
+pub struct NoNumber;
 
 // The last field that a condition may name.
 const MAX_FIELD: u64 = 16;
@@ -80,218 +78,214 @@ const MAX_FIELD: u64 = 16;
 const MAX_DIGITS: usize = 6;
 
 // The offset after one byte other than 0.
-fn after_byte(s: &[u8], at: usize, b: u8) -> Mark
+#[tactic(auto, unfolding(crate::specs::Symbols::mark_at))]
+fn after_byte(s: &[u8], at: usize, b: u8) -> Option<usize>
     requires { leb 1 b ≡ true }
-    ensures { result ≡ the.mark_at s.now at b }
+    ensures found { result ≡ the.mark_at s.now at b }
+    ensures within { IfSome result (λ n. n ≤ length s.now) }
 {
-    let p = skip(s, at);
-    if byte(s, p) == b {
-        return Mark::At(p + 1);
-    }
-    Mark::No
+    let at = skip(s, at);
+    if byte(s, at) == b { Some(at + 1) } else { None }
 }
 
-pub fn opening(s: &[u8], at: usize) -> Mark
+pub fn opening(s: &[u8], at: usize) -> Option<usize>
     ensures { result ≡ the.opening_at s.now at }
 {
     after_byte(s, at, b'(')
 }
 
-pub fn closing(s: &[u8], at: usize) -> Mark
+pub fn closing(s: &[u8], at: usize) -> Option<usize>
     ensures { result ≡ the.closing_at s.now at }
 {
     after_byte(s, at, b')')
 }
 
 // One word that is an operator.
-fn operator(s: &[u8], at: usize, name: &[u8], op: Op) -> Joint
+#[tactic(auto, using(condition_words::proofs::Stretching::word_end, condition_words::proofs::Sameness::by_parts), unfolding(crate::specs::Symbols::operator_at))]
+fn operator(s: &[u8], at: usize, name: &[u8], op: Op) -> Option<Joint>
     ensures { result ≡ the.operator_at s.now at name.now op }
 {
-    let p = skip(s, at);
-    let w = word(s, p);
-    if same(w, name) {
-        return Joint::At(op, p, p + w.len());
+    let at = skip(s, at);
+    let w = word(s, at);
+    if w == name {
+        Some(Joint {
+            op,
+            at,
+            end: at + w.len(),
+        })
+    } else {
+        None
     }
-    Joint::No
 }
 
-pub fn or(s: &[u8], at: usize) -> Joint
+pub fn or(s: &[u8], at: usize) -> Option<Joint>
     ensures { result ≡ the.or_at s.now at }
 {
     operator(s, at, b"or", Op::Or)
 }
 
-pub fn and(s: &[u8], at: usize) -> Joint
+pub fn and(s: &[u8], at: usize) -> Option<Joint>
     ensures { result ≡ the.and_at s.now at }
 {
     operator(s, at, b"and", Op::And)
 }
 
 // The comparison that a word is.
-fn comparing(w: &[u8], from: usize, to: usize) -> Joint
-    ensures { result ≡ the.comparing w.now from to }
+#[tactic(auto, using(condition_words::proofs::Literals::literals), unfolding(crate::specs::Symbols::comparing, condition_words::specs::Words::same, basis::specs::Choice::both))]
+fn comparing(w: &[u8]) -> Option<Op>
+    ensures { result ≡ the.comparing w.now }
 {
-    if same(w, b"eq") {
-        return Joint::At(Op::Eq, from, to);
+    match w {
+        b"eq" => Some(Op::Eq),
+        b"ne" => Some(Op::Ne),
+        b"lt" => Some(Op::Lt),
+        b"le" => Some(Op::Le),
+        b"gt" => Some(Op::Gt),
+        b"ge" => Some(Op::Ge),
+        _ => None,
     }
-    if same(w, b"ne") {
-        return Joint::At(Op::Ne, from, to);
-    }
-    ordering(w, from, to)
 }
 
-// The comparison by order that a word is.
-fn ordering(w: &[u8], from: usize, to: usize) -> Joint
-    ensures { result ≡ the.ordering w.now from to }
-{
-    if same(w, b"lt") {
-        return Joint::At(Op::Lt, from, to);
-    }
-    if same(w, b"le") {
-        return Joint::At(Op::Le, from, to);
-    }
-    if same(w, b"gt") {
-        return Joint::At(Op::Gt, from, to);
-    }
-    if same(w, b"ge") {
-        return Joint::At(Op::Ge, from, to);
-    }
-    Joint::No
-}
-
-pub fn comparison(s: &[u8], at: usize) -> Joint
+#[tactic(auto, using(condition_words::proofs::Stretching::word_end), unfolding(crate::specs::Symbols::comparison_at))]
+pub fn comparison(s: &[u8], at: usize) -> Option<Joint>
     ensures { result ≡ the.comparison_at s.now at }
 {
-    let p = skip(s, at);
-    let w = word(s, p);
-    comparing(w, p, p + w.len())
+    let at = skip(s, at);
+    let w = word(s, at);
+    let op = comparing(w)?;
+    Some(Joint {
+        op,
+        at,
+        end: at + w.len(),
+    })
 }
 
-pub fn sign(s: &[u8], at: usize) -> Joint
+#[tactic(auto, unfolding(crate::specs::Symbols::sign_at))]
+pub fn sign(s: &[u8], at: usize) -> Option<Joint>
     ensures { result ≡ the.sign_at s.now at }
 {
-    let p = skip(s, at);
-    let b = byte(s, p);
-    if b == b'+' {
-        return Joint::At(Op::Plus, p, p + 1);
-    }
-    if b == b'-' {
-        return Joint::At(Op::Minus, p, p + 1);
-    }
-    Joint::No
+    let at = skip(s, at);
+    let op = match byte(s, at) {
+        b'+' => Op::Plus,
+        b'-' => Op::Minus,
+        _ => return None,
+    };
+    Some(Joint {
+        op,
+        at,
+        end: at + 1,
+    })
 }
 
 // The kind that a word names.
-pub fn kind_named(w: &[u8]) -> Named
+#[tactic(auto, using(condition_words::proofs::Literals::literals), unfolding(crate::specs::Symbols::named, condition_words::specs::Words::same, basis::specs::Choice::both))]
+pub fn kind_named(w: &[u8]) -> Option<Kind>
     ensures { result ≡ the.named w.now }
 {
-    if same(w, b"xs:date") {
-        return Named::Is(Kind::Date);
+    match w {
+        b"xs:date" => Some(Kind::Date),
+        b"xs:time" => Some(Kind::Time),
+        b"xs:dateTime" => Some(Kind::DateTime),
+        b"xs:dayTimeDuration" => Some(Kind::DayTimeDuration),
+        b"xs:yearMonthDuration" => Some(Kind::YearMonthDuration),
+        _ => None,
     }
-    if same(w, b"xs:time") {
-        return Named::Is(Kind::Time);
-    }
-    if same(w, b"xs:dateTime") {
-        return Named::Is(Kind::DateTime);
-    }
-    if same(w, b"xs:dayTimeDuration") {
-        return Named::Is(Kind::DayTimeDuration);
-    }
-    if same(w, b"xs:yearMonthDuration") {
-        return Named::Is(Kind::YearMonthDuration);
-    }
-    Named::No
 }
 
 // How a factor begins.
-pub fn factor_start(s: &[u8], at: usize) -> Start
+#[tactic(auto, using(condition_words::proofs::Stretching::word_end), unfolding(crate::specs::Symbols::start_at))]
+pub fn factor_start(s: &[u8], at: usize) -> Option<Start>
     ensures { result ≡ the.start_at s.now at }
 {
-    let p = skip(s, at);
-    if byte(s, p) == b'(' {
-        return Start::Open(p + 1);
+    let at = skip(s, at);
+    if byte(s, at) == b'(' {
+        return Some(Start::Open { end: at + 1 });
     }
-    let w = word(s, p);
-    match kind_named(w) {
-        Named::No => Start::No,
-        Named::Is(kind) => match opening(s, p + w.len()) {
-            Mark::No => Start::No,
-            Mark::At(n) => Start::Make(kind, p, n),
-        },
-    }
+    let w = word(s, at);
+    let kind = kind_named(w)?;
+    let end = opening(s, at + w.len())?;
+    Some(Start::Make { kind, at, end })
 }
 
-// The text in quotes whose first byte stands at an offset.
-fn quoted(s: &[u8], from: usize) -> Held
+// The text in quotes whose first byte stands at an offset; None where no quote ends it.
+#[tactic(auto, unfolding(crate::specs::Symbols::text_from))]
+fn quoted(s: &[u8], from: usize) -> Option<Held>
     ensures { result ≡ the.text_from s.now from }
 {
     let to = stretch_end(Class::Unquoted, s, from);
     if to < s.len() {
-        return Held::Text(from, to, to + 1);
+        Some(Held::Text {
+            from,
+            to,
+            end: to + 1,
+        })
+    } else {
+        None
     }
-    Held::Bad
 }
 
-// The field whose `$` stands at an offset.
-fn field(s: &[u8], from: usize) -> Held
-    requires { from + 1 ≤ length s.now }
-    ensures { result ≡ the.field_from s.now from }
+// The field whose `$` stands at an offset; None where no field's number follows it.
+#[tactic(auto, unfolding(crate::specs::Symbols::field_from, crate::specs::Symbols::field_of))]
+fn field(s: &[u8], at: usize) -> Option<Held>
+    requires { at + 1 ≤ length s.now }
+    ensures { result ≡ the.field_from s.now at }
 {
-    let n = digits(s, from + 1, MAX_FIELD + 1);
-    if byte(s, from + 1) == b'0' {
-        return Held::Bad;
+    let n = digits(s, at + 1, MAX_FIELD + 1);
+    if byte(s, at + 1) == b'0' || n.value < 1 || MAX_FIELD < n.value {
+        return None;
     }
-    if n.value < 1 {
-        return Held::Bad;
-    }
-    if MAX_FIELD < n.value {
-        return Held::Bad;
-    }
-    Held::Field(n.value as usize, from, n.end)
+    Some(Held::Field {
+        number: n.value as usize,
+        at,
+        end: n.end,
+    })
 }
 
-// What stands in a constructor's parentheses.
-pub fn contents(s: &[u8], at: usize) -> Held
+// What stands in a constructor's parentheses; None where a quote or a `$` begins no text and no field.
+#[tactic(auto, unfolding(crate::specs::Symbols::held_at))]
+pub fn contents(s: &[u8], at: usize) -> Option<Held>
     ensures { result ≡ the.held_at s.now at }
 {
-    let p = skip(s, at);
-    let b = byte(s, p);
-    if b == b'"' {
-        return quoted(s, p + 1);
+    let at = skip(s, at);
+    match byte(s, at) {
+        b'"' => quoted(s, at + 1),
+        b'$' => field(s, at),
+        _ => Some(Held::Sum),
     }
-    if b == b'$' {
-        return field(s, p);
-    }
-    Held::Sum
 }
 
-// A whole number at an offset, whose digits begin at another.
-fn whole(s: &[u8], negative: bool, from: usize, at: usize) -> Multiplier
-    requires { at ≤ length s.now }
-    ensures { result ≡ the.whole_of negative from at (numeral_at s.now at) }
+// The whole number at an offset, whose digits begin at another.
+#[tactic(auto, unfolding(crate::specs::Symbols::whole_of))]
+fn whole(s: &[u8], negative: bool, at: usize, from: usize) -> Result<Multiplier, NoNumber>
+    requires { from ≤ length s.now }
+    ensures { result ≡ the.whole_of negative at from (numeral_at s.now from) }
 {
-    let n = digits(s, at, raised(1, MAX_DIGITS));
-    let end = n.end;
-    if end - at < 1 {
-        return Multiplier::Bad;
+    let n = digits(s, from, 10u64.pow(MAX_DIGITS as u32));
+    let count = n.end - from;
+    if count < 1 || MAX_DIGITS < count {
+        return Err(NoNumber);
     }
-    if MAX_DIGITS < end - at {
-        return Multiplier::Bad;
-    }
-    Multiplier::At(negative, n.value as u32, from, end)
+    Ok(Multiplier {
+        negative,
+        number: n.value as u32,
+        at,
+        end: n.end,
+    })
 }
 
-// A `*` and the whole number after it.
-pub fn star(s: &[u8], at: usize) -> Multiplier
+// The whole number after a `*`; None where no `*` stands.
+#[tactic(auto, using(condition_words::proofs::Stretching::stretch_within), unfolding(crate::specs::Symbols::multiplier_at, crate::specs::Symbols::whole_from, crate::specs::Symbols::mark_at))]
+pub fn star(s: &[u8], at: usize) -> Result<Option<Multiplier>, NoNumber>
     ensures { result ≡ the.multiplier_at s.now at }
 {
-    let star = skip(s, at);
-    if byte(s, star) != b'*' {
-        return Multiplier::No;
-    }
-    let p = skip(s, star + 1);
-    if byte(s, p) == b'-' {
-        return whole(s, true, p, p + 1);
-    }
-    whole(s, false, p, p)
+    let Some(n) = after_byte(s, at, b'*') else {
+        return Ok(None);
+    };
+    let at = skip(s, n);
+    let by = if byte(s, at) == b'-' {
+        whole(s, true, at, at + 1)?
+    } else {
+        whole(s, false, at, at)?
+    };
+    Ok(Some(by))
 }

@@ -1,3 +1,4 @@
 pub mod Letters
 pub mod Stretching
 pub mod Sameness
+pub mod Literals

@@ -1,32 +1,35 @@
 -- A stretch goes on at a byte of its class and stops at any other; it ends at or past its beginning, and within the text if it
 -- begins there. So a word is as long as its stretch.
-use mathlib.Core.Path.{◌≡◌, refl, sym, ◌∙◌}
+use mathlib.Core.Path.{◌≡◌, refl}
 use mathlib.Core.Bool.{Bool, true, false}
-use mathlib.Core.List.{List, []}
+use mathlib.Core.List.{List}
 use Prim.Native.Nat.{ℕ, zero, suc, ◌+◌, ◌-◌, ◌<◌, ◌≤◌, min}
 use native.Mathlib.Omega.{arith}
-use native.Mathlib.Nat.{le_refl, sub_self}
+use native.Mathlib.Nat.{le_refl}
 use lib.Dec.{leb}
 use borrow.Author.Tests.{leb-true, leb-false}
-use lib.ListN.{length, get_or, take, drop, length-take, length-drop}
+use lib.ListN.{length, get_or, drop, length-take, length-drop}
 use Rattle.basis.specs.Choice.{pick}
-use lib.Seq.{take_all}
-use Rattle.condition_words.specs.Words.{belongs, stretch_end_in, stretch_end, word_at, between}
+use Rattle.std.specs.List.{prefix_len}
+use Rattle.std.proofs.lemmas.List.Sums.{prefix_len-drop_yes, prefix_len-drop_no, prefix_len-drop_all}
+use Rattle.condition_words.specs.Words.{belongs, stretch_end_in, stretch_end, word_at}
 use Rattle.condition_words.specs.declared.Class.{Class}
 use Rattle.condition_words.specs.declared.Class.TheVariants.{Letter}
 
-module _ (c : Class) (s : List ℕ) (at p : ℕ) (inv : stretch_end c s at ≡ stretch_end_in (length s - p) c s p) where
-  pub stretch_on : p < length s → belongs c (get_or s p 0) ≡ true → stretch_end c s at ≡ stretch_end_in (length s - (p + 1)) c s (p + 1)
-  unfolding stretch_end_in
-  stretch_on h e = let k : length s - p ≡ suc (length s - (p + 1)) = omega arith in inv ∙ rw (k, stretch_end_in, e)
+counted_in : (n : ℕ) (c : Class) (s : List ℕ) (at : ℕ) → length s - at ≡ n → at + prefix_len (belongs c) (drop at s) ≡ stretch_end_in n c s at
+unfolding stretch_end_in
+counted_in zero c s at h = omega (arith, prefix_len-drop_all (belongs c) s at (omega arith))
+counted_in (suc n) c s at h = by (belongs c (get_or s at 0)) refl (counted_in n c s (at + 1) (omega arith))
+  where
+    by : (b : Bool) → belongs c (get_or s at 0) ≡ b → at + 1 + prefix_len (belongs c) (drop (at + 1) s) ≡ stretch_end_in n c s (at + 1)
+        → at + prefix_len (belongs c) (drop at s) ≡ pick b (stretch_end_in n c s (at + 1)) at
+    by true e k = omega (arith, prefix_len-drop_yes (belongs c) s at 0 (omega arith) e)
+    by false e k = omega (arith, prefix_len-drop_no (belongs c) s at 0 (omega arith) e)
 
-  pub stretch_stops : p < length s → belongs c (get_or s p 0) ≡ false → p ≡ stretch_end c s at
-  unfolding stretch_end_in
-  stretch_stops h e = let k : length s - p ≡ suc (length s - (p + 1)) = omega arith in sym (inv ∙ rw (k, e))
-
-  pub stretch_ends : length s ≤ p → p ≡ stretch_end c s at
-  unfolding stretch_end_in
-  stretch_ends h = let k : length s - p ≡ 0 = omega arith in sym (inv ∙ rw k)
+-- as many bytes as the rest of the text begins with of the class
+pub counted : (c : Class) (s : List ℕ) (at : ℕ) → at + prefix_len (belongs c) (drop at s) ≡ stretch_end c s at
+unfolding stretch_end
+counted c s at = counted_in (length s - at) c s at refl
 
 of_from : (n : ℕ) (c : Class) (s : List ℕ) (p : ℕ) → p ≤ stretch_end_in n c s p
 unfolding stretch_end_in
@@ -65,28 +68,3 @@ word_end s p = simp (length-take, length-drop) (by (leb (length s) p) refl)
     by : (b : Bool) → leb (length s) p ≡ b → p + min (stretch_end Letter s p - p) (length s - p) ≡ stretch_end Letter s p
     by true e = omega (arith, stretch_past Letter s p (leb-true _ _ e))
     by false e = let h : p < length s = leb-false _ _ e in omega (arith, stretch_from Letter s p, stretch_within Letter s p (omega arith))
-
--- what a word's code cuts out
-module _ (s : List ℕ) (at : ℕ) where
-  pub no_word : length s ≤ at → [] ≡ word_at s at
-  no_word h = rw (stretch_past Letter s at h, sub_self at)
-
-  module _ (e : ℕ) (q : e ≡ stretch_end Letter s at) where
-    pub word_from : at ≤ e
-    word_from = omega (arith, stretch_from Letter s at)
-
-    pub word_within : at < length s → e ≤ length s
-    word_within h = omega (arith, stretch_within Letter s at (omega arith))
-
-    pub word_cut : take (e - at) (drop at s) ≡ word_at s at
-    word_cut = rw q
-
--- bytes between two offsets, as far as the text goes
-pub cut_none : (s : List ℕ) (from to : ℕ) → to ≤ from → [] ≡ between s from to
-cut_none s from to h = let e : to - from ≡ 0 = omega arith in rw e
-
-pub cut_long : (s r : List ℕ) (from to : ℕ) → r ≡ between s from (length s) → length s < to → r ≡ between s from to
-cut_long s r from to e h =
-    let k : length (drop from s) ≤ length s - from = omega (arith, length-drop from s) in
-    let j : length (drop from s) ≤ to - from = omega (arith, length-drop from s) in
-    e ∙ take_all (length s - from) (drop from s) k ∙ sym (take_all (to - from) (drop from s) j)

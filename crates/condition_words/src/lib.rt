@@ -16,13 +16,7 @@ pub enum Class {
 fn letter(b: u8) -> bool
     ensures { result ≡ the.letter b }
 {
-    if b'a' <= b {
-        return b <= b'z';
-    }
-    if b'A' <= b {
-        return b <= b'Z';
-    }
-    b == b':'
+    b.is_ascii_alphabetic() || b == b':'
 }
 
 // Whether a byte is of a class.
@@ -40,14 +34,10 @@ fn belongs(class: Class, b: u8) -> bool
 pub fn stretch_end(class: Class, s: &[u8], at: usize) -> usize
     ensures { result ≡ the.stretch_end class s.now at }
 {
-    let mut p = at;
-    while p < s.len() {
-        if !belongs(class, s[p]) {
-            return p;
-        }
-        p += 1;
-    }
-    p
+    let Some(rest) = s.get(at..) else {
+        return at;
+    };
+    at + rest.iter().take_while(|b| belongs(class, **b)).count()
 }
 
 // The first offset from `at` on that holds no space.
@@ -61,46 +51,19 @@ pub fn skip(s: &[u8], at: usize) -> usize
 pub fn cut(s: &[u8], from: usize, to: usize) -> &[u8]
     ensures { result.now ≡ the.between s.now from to }
 {
-    if s.len() < to {
-        return cut_within(s, from, s.len());
-    }
-    cut_within(s, from, to)
-}
-
-fn cut_within(s: &[u8], from: usize, to: usize) -> &[u8]
-    requires { to ≤ length s.now }
-    ensures { result.now ≡ the.between s.now from to }
-{
-    if to <= from {
-        return &s[0..0];
-    }
-    &s[from..to]
+    s.get(from..to.min(s.len())).unwrap_or(b"")
 }
 
 // The word at an offset: empty where no letter stands there.
 pub fn word(s: &[u8], at: usize) -> &[u8]
     ensures { result.now ≡ the.word_at s.now at }
 {
-    if s.len() <= at {
-        return &s[0..0];
-    }
-    let end = stretch_end(Class::Letter, s, at);
-    &s[at..end]
+    cut(s, at, stretch_end(Class::Letter, s, at))
 }
 
 // Whether two words are the same.
 pub fn same(a: &[u8], b: &[u8]) -> bool
     ensures { result ≡ the.same a.now b.now }
 {
-    if a.len() != b.len() {
-        return false;
-    }
-    let mut i = 0;
-    while i < a.len() {
-        if a[i] != b[i] {
-            return false;
-        }
-        i += 1;
-    }
-    true
+    a == b
 }

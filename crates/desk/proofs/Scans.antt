@@ -1,10 +1,9 @@
--- `first_passing` and `all` along a loop that counts up, and what they tell: what is found passes the test, nothing before it does.
+-- What `first_passing` and `all` tell: what is found passes the test, nothing before it does.
 use mathlib.Core.Path.{◌≡◌, refl, sym, ap, ◌∙◌, subst}
 use mathlib.Core.Bool.{Bool, true, false, true≢false, beq}
 use mathlib.Core.Logic.{⊎_elim}
-use Prim.Native.Nat.{ℕ, zero, suc, ◌+◌, ◌-◌, ◌≤◌, ◌<◌}
+use Prim.Native.Nat.{ℕ, zero, suc, ◌+◌, ◌≤◌, ◌<◌}
 use native.Mathlib.Nat.{not-suc-le-zero, eq-or-lt_of_le, le_of_suc-le-suc}
-use native.Mathlib.Numerals.{add-one}
 use native.Mathlib.Omega.{arith}
 use Rattle.basis.specs.Choice.{pick}
 use Rattle.basis.proofs.Tests.{both_left, both_right, both_true}
@@ -25,25 +24,6 @@ beq_other false h = sym h
 pub beq_neither : (b : Bool) → beq b true ≡ false → b ≡ false
 beq_neither true h = h
 beq_neither false h = refl
-
--- ---- first, along a loop that counts j up to e
-hit_at_lem : (p : ℕ → Bool) (i n k : ℕ) → n ≡ suc k → p i ≡ true → first_passing p i n ≡ i
-unfolding first_passing
-hit_at_lem p i n k e h = rw (e, h)
-
-miss_at_lem : (p : ℕ → Bool) (i n k : ℕ) → n ≡ suc k → p i ≡ false → first_passing p i n ≡ first_passing p (suc i) k
-unfolding first_passing
-miss_at_lem p i n k e h = rw (e, h)
-
-pub first_hit : (p : ℕ → Bool) (j e : ℕ) → j < e → p j ≡ true → first_passing p j (e - j) ≡ j
-first_hit p j e l h = hit_at_lem p j (e - j) (e - (j + 1)) (omega arith) h
-
-pub first_miss : (p : ℕ → Bool) (j e : ℕ) → j < e → p j ≡ false → first_passing p j (e - j) ≡ first_passing p (j + 1) (e - (j + 1))
-first_miss p j e l h = rw add-one (miss_at_lem p j (e - j) (e - suc j) (omega arith) h)
-
-pub first_end : (p : ℕ → Bool) (j e : ℕ) → e ≤ j → first_passing p j (e - j) ≡ j
-unfolding first_passing
-first_end p j e l = let z : e - j ≡ 0 = omega arith in rw z
 
 -- ---- what is found passes, and is the least that does
 pub first_found : (p : ℕ → Bool) (i n : ℕ) → first_passing p i n < i + n → p (first_passing p i n) ≡ true
@@ -102,9 +82,6 @@ first_none p i (suc n) b =
     rw (b i (omega arith) (omega arith)) q
 
 -- ---- all
-pub all_more : (p : ℕ → Bool) (i : ℕ) → all p i ≡ true → p i ≡ true → all p (i + 1) ≡ true
-unfolding all
-all_more p i h e = rw add-one (both_true (all p i) (p i) h e)
 
 pub all_at : (p : ℕ → Bool) (n i : ℕ) → i < n → all p n ≡ true → p i ≡ true
 unfolding all
@@ -124,3 +101,13 @@ pub all_make : (p : ℕ → Bool) (n : ℕ) → ((i : ℕ) → i < n → p i ≡
 unfolding all
 all_make p zero h = refl
 all_make p (suc n) h = both_true (all p n) (p n) (all_make p n (λ i l. h i (omega arith))) (h n (omega arith))
+
+-- it is not past the last number
+pub first_within : (p : ℕ → Bool) (i n : ℕ) → first_passing p i n ≤ i + n
+unfolding first_passing
+first_within p i zero = omega arith
+first_within p i (suc n) = go (p i) (first_within p (suc i) n)
+  where
+    go : (b : Bool) → first_passing p (suc i) n ≤ suc i + n → pick b i (first_passing p (suc i) n) ≤ i + suc n
+    go true k = omega arith
+    go false k = omega arith

@@ -5,3 +5,4 @@ pub mod Answers
 pub mod Seats
 pub mod Soundness
 pub mod Desk
+pub mod Carried

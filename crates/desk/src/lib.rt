@@ -1,18 +1,19 @@
 // The desk: sixteen seats, open, close and turn (document 01, "Timetable, seats and turns"). Every call takes the desk by
-// value and hands the next one back beside its answer; a refused call hands back the desk it got. One seat by itself is the
-// crate `desk_seat`.
+// value and hands the next one back beside its answer; a refused call hands back the desk it got. Inside, the desk stands in
+// one variable, and its seats are looked at and served where they stand. One seat by itself is the crate `desk_seat`.
 #![tactic(auto)]
 
-ghost use Rattle.std.specs.Prelude.{◌≡◌, true, false, ◌+◌, ◌≤◌, ◌<◌};
+ghost use Rattle.std.specs.Prelude.{◌≡◌, true, ◌≤◌, ◌<◌};
+ghost use Rattle.desk_seat.specs.Bounds.{max_timetable};
 ghost use Rattle.desk_seat.specs.Files.{over};
 ghost use Rattle.desk_seat.specs.Request.{asking};
+ghost use Rattle.desk_seat.specs.Answers.{turn_meaning};
 ghost use Rattle.desk.specs.Bounds.{seat_count};
-ghost use Rattle.desk.specs.Seats.{first_from, seat_of};
-ghost use Rattle.desk.specs.Soundness.{sound_of};
+ghost use Rattle.desk.specs.Soundness.{sound_at, sound_of};
 ghost use Rattle.desk.specs.Desk.{fresh_of, open_of, close_of, have_lengths, turn_of, next_of};
-ghost use Rattle.desk.specs.Answers.{after_fresh, after_open, after_close, after_turn};
+ghost use Rattle.desk.specs.Answers.{open_meaning, close_meaning, after_fresh, after_open, after_close, after_turn};
+ghost use Rattle.desk.specs.Carried.{free_found, ticket_found, held_found};
 
-use condition::Checked;
 use desk_seat::{Seat, TurnAnswer};
 use value::Refusal;
 
@@ -26,40 +27,22 @@ pub struct Desk {
     pub issued: u32,
 }
 
-#[derive(Clone, Copy)]
-pub enum FreshAnswer {
-    Made,
-    Refused(Refusal),
-}
-
-#[derive(Clone, Copy)]
-pub enum OpenAnswer {
-    Ticket(u32),
-    Refused(Refusal),
-}
-
-#[derive(Clone, Copy)]
-pub enum CloseAnswer {
-    Freed,
-    Refused(Refusal),
-}
-
 #[derive(Drop)]
 pub struct AfterFresh {
     pub desk: Desk,
-    pub answer: FreshAnswer,
+    pub answer: Result<(), Refusal>,
 }
 
 #[derive(Drop)]
 pub struct AfterOpen {
     pub desk: Desk,
-    pub answer: OpenAnswer,
+    pub answer: Result<u32, Refusal>,
 }
 
 #[derive(Drop)]
 pub struct AfterClose {
     pub desk: Desk,
-    pub answer: CloseAnswer,
+    pub answer: Result<(), Refusal>,
 }
 
 #[derive(Drop)]
@@ -72,26 +55,26 @@ pub struct AfterTurn {
 pub fn fresh(timetable_length: usize) -> AfterFresh
     ensures { after_fresh result ≡ fresh_of timetable_length }
 {
-    let seat = desk_seat::free();
+    let seats = [Seat::free(); Desk::SEATS];
     if Desk::MAX_TIMETABLE < timetable_length {
         return AfterFresh {
             desk: Desk {
-                seats: [seat; Desk::SEATS],
+                seats,
                 last_served: Desk::SEATS,
                 timetable_length: 0,
                 issued: 0,
             },
-            answer: FreshAnswer::Refused(Refusal::numbered(Refusal::WRONG_TIMETABLE)),
+            answer: Err(Refusal::numbered(Refusal::WRONG_TIMETABLE)),
         };
     }
     AfterFresh {
         desk: Desk {
-            seats: [seat; Desk::SEATS],
+            seats,
             last_served: Desk::SEATS - 1,
             timetable_length,
             issued: 0,
         },
-        answer: FreshAnswer::Made,
+        answer: Ok(()),
     }
 }
 
@@ -102,174 +85,130 @@ impl Desk {
 
     pub const LAST_TICKET: u32 = 4_294_967_295;
 
-    // The number of the first seat from `start` round that is held, or free, as `want` says; 16 further where there is none.
-    fn find(self, want: bool, start: usize) -> usize
-        requires { start ≤ seat_count }
-        ensures { (result ≡ first_from self want start) × (result ≤ start + seat_count) }
+    // The number of the lowest free seat.
+    fn lowest_free(&self) -> Option<usize>
+        ensures { result ≡ free_found self.now }
     {
-        let end = start + Desk::SEATS;
-        let mut j = start;
-        while j < end {
-            let held = self.seats[j % Desk::SEATS].held;
-            if held == want {
-                return j;
-            }
-            j += 1;
-        }
-        j
+        self.seats.iter().position(|seat| !seat.held)
     }
 
-    // The number of the held seat with the ticket, or 16.
-    fn seat_of(self, ticket: u32) -> usize
-        ensures { (result ≡ seat_of self ticket) × (result ≤ seat_count) }
+    // The number of the held seat with the ticket.
+    fn seat_of(&self, ticket: u32) -> Option<usize>
+        ensures { result ≡ ticket_found self.now ticket }
     {
-        let mut i = 0;
-        while i < Desk::SEATS {
-            let held = self.seats[i].held;
-            if held {
-                let k = self.seats[i].ticket;
-                if k == ticket {
-                    return i;
-                }
-            }
-            i += 1;
-        }
-        i
+        self.seats
+            .iter()
+            .position(|seat| seat.held && seat.ticket == ticket)
     }
 
-    // Of each held seat, whether one before it has its ticket, and whether it is sound by itself. The seats are looked at
-    // where they stand.
-    pub fn sound(self) -> bool
-        ensures { result ≡ sound_of self }
+    // The number of the first held seat after the last served, going round.
+    pub fn next_held(&self) -> Option<usize>
+        requires { self.now.last_served < seat_count }
+        ensures { result ≡ held_found self.now }
     {
-        if Desk::SEATS <= self.last_served {
-            return false;
-        }
-        if Desk::MAX_TIMETABLE < self.timetable_length {
-            return false;
-        }
-        let mut i = 0;
-        while i < Desk::SEATS {
-            let s = self.seats[i];
-            if s.held {
-                let mut k = 0;
-                while k < i {
-                    if self.seats[k].held {
-                        if self.seats[k].ticket == s.ticket {
-                            return false;
-                        }
-                    }
-                    k += 1;
-                }
-                if !desk_seat::sound(s, self.issued, self.timetable_length) {
-                    return false;
-                }
-            }
-            i += 1;
-        }
-        true
+        let start = self.last_served + 1;
+        (start..start + Desk::SEATS)
+            .find(|j| self.seats[*j % Desk::SEATS].held)
+            .map(|j| j % Desk::SEATS)
+    }
+
+    // Whether the seat of a number is free, or the first with its ticket and sound by itself.
+    fn sound_at(&self, i: usize) -> bool
+        requires { (i < seat_count) × (self.now.timetable_length ≤ max_timetable) }
+        ensures { result ≡ sound_at self.now i }
+    {
+        let seat = &self.seats[i];
+        !seat.held
+            || self.seat_of(seat.ticket) == Some(i)
+                && seat.sound(self.issued, self.timetable_length)
+    }
+
+    pub fn sound(&self) -> bool
+        ensures { result ≡ sound_of self.now }
+    {
+        self.last_served < Desk::SEATS
+            && self.timetable_length <= Desk::MAX_TIMETABLE
+            && (0..Desk::SEATS).all(|i| self.sound_at(i))
     }
 
     // Takes the lowest free seat and the next ticket. Last served stays.
-    pub fn open(self, text: &[u8]) -> AfterOpen
+    pub fn open(mut self, text: &[u8]) -> AfterOpen
         ensures { after_open result ≡ open_of (asking text.now) self }
     {
-        if !self.sound() {
-            return self.not_opened(Refusal::numbered(Refusal::NOT_SOUND));
-        }
-        let checked = condition::check(text);
-        if let Checked::Refused(refusal) = checked {
-            return self.not_opened(refusal);
-        }
-        let i = self.find(false, 0);
-        if Desk::SEATS <= i {
-            return self.not_opened(Refusal::numbered(Refusal::NO_SEAT));
-        }
-        if Desk::LAST_TICKET <= self.issued {
-            return self.not_opened(Refusal::numbered(Refusal::NO_MORE_TICKETS));
-        }
-        let ticket = self.issued + 1;
-        let mut next = self;
-        next.seats[i] = desk_seat::taken(ticket, text);
-        next.issued = ticket;
-        AfterOpen {
-            desk: next,
-            answer: OpenAnswer::Ticket(ticket),
-        }
+        let answer = self.open_in(text);
+        AfterOpen { desk: self, answer }
     }
 
-    fn not_opened(self, refusal: Refusal) -> AfterOpen
-        ensures { (result.desk ≡ self) × (result.answer ≡ OpenAnswer.Refused refusal) }
+    fn open_in(&mut self, text: &[u8]) -> Result<u32, Refusal>
+        ensures { open_of (asking text.now) self.old ≡ record { desk = self.new; answer = open_meaning result } }
     {
-        AfterOpen {
-            desk: self,
-            answer: OpenAnswer::Refused(refusal),
+        if !self.sound() {
+            return Err(Refusal::numbered(Refusal::NOT_SOUND));
         }
+        condition::check(text)?;
+        let Some(i) = self.lowest_free() else {
+            return Err(Refusal::numbered(Refusal::NO_SEAT));
+        };
+        if Desk::LAST_TICKET <= self.issued {
+            return Err(Refusal::numbered(Refusal::NO_MORE_TICKETS));
+        }
+        let ticket = self.issued + 1;
+        self.seats[i] = Seat::taken(ticket, text);
+        self.issued = ticket;
+        Ok(ticket)
     }
 
     // Frees the ticket's seat. Last served stays.
-    pub fn close(self, ticket: u32) -> AfterClose
+    pub fn close(mut self, ticket: u32) -> AfterClose
         ensures { after_close result ≡ close_of ticket self }
     {
+        let answer = self.close_in(ticket);
+        AfterClose { desk: self, answer }
+    }
+
+    fn close_in(&mut self, ticket: u32) -> Result<(), Refusal>
+        ensures { close_of ticket self.old ≡ record { desk = self.new; answer = close_meaning result } }
+    {
         if !self.sound() {
-            return AfterClose {
-                desk: self,
-                answer: CloseAnswer::Refused(Refusal::numbered(Refusal::NOT_SOUND)),
-            };
+            return Err(Refusal::numbered(Refusal::NOT_SOUND));
         }
-        let i = self.seat_of(ticket);
-        if Desk::SEATS <= i {
-            return AfterClose {
-                desk: self,
-                answer: CloseAnswer::Refused(Refusal::numbered(Refusal::NO_TICKET)),
-            };
-        }
-        let mut next = self;
-        next.seats[i] = desk_seat::free();
-        AfterClose {
-            desk: next,
-            answer: CloseAnswer::Freed,
-        }
+        let Some(i) = self.seat_of(ticket) else {
+            return Err(Refusal::numbered(Refusal::NO_TICKET));
+        };
+        self.seats[i] = Seat::free();
+        Ok(())
     }
 
     // Serves the first held seat after the last served, going round.
-    pub fn turn(self, t: &[u8]) -> AfterTurn
+    pub fn turn(mut self, t: &[u8]) -> AfterTurn
         ensures { after_turn result ≡ turn_of (over t.now) self }
     {
+        let answer = self.turn_in(t);
+        AfterTurn { desk: self, answer }
+    }
+
+    fn turn_in(&mut self, t: &[u8]) -> TurnAnswer
+        ensures { turn_of (over t.now) self.old ≡ record { desk = self.new; answer = turn_meaning result } }
+    {
         if !self.sound() {
-            return AfterTurn {
-                desk: self,
-                answer: TurnAnswer::Refused(Refusal::numbered(Refusal::NOT_SOUND)),
-            };
+            return TurnAnswer::Refused(Refusal::numbered(Refusal::NOT_SOUND));
         }
         if t.len() != self.timetable_length {
-            return AfterTurn {
-                desk: self,
-                answer: TurnAnswer::Refused(Refusal::numbered(Refusal::WRONG_TIMETABLE)),
-            };
+            return TurnAnswer::Refused(Refusal::numbered(Refusal::WRONG_TIMETABLE));
         }
         self.next(t)
     }
 
     // A turn of a desk that is known to be sound, over a timetable of its length.
-    fn next(self, t: &[u8]) -> AfterTurn
-        requires { (sound_of self ≡ true) × (have_lengths (over t.now) self ≡ true) }
-        ensures { after_turn result ≡ next_of (over t.now) self }
+    fn next(&mut self, t: &[u8]) -> TurnAnswer
+        requires { (sound_of self.old ≡ true) × (have_lengths (over t.now) self.old ≡ true) }
+        ensures { next_of (over t.now) self.old ≡ record { desk = self.new; answer = turn_meaning result } }
     {
-        let j = self.find(true, self.last_served + 1);
-        if self.last_served + Desk::SEATS < j {
-            return AfterTurn {
-                desk: self,
-                answer: TurnAnswer::Idle,
-            };
-        }
-        let i = j % Desk::SEATS;
-        let served = desk_seat::served(self.seats[i], t);
-        let seat = served.seat;
-        let answer = served.answer;
-        let mut next = self;
-        next.seats[i] = seat;
-        next.last_served = i;
-        AfterTurn { desk: next, answer }
+        let Some(i) = self.next_held() else {
+            return TurnAnswer::Idle;
+        };
+        let answer = self.seats[i].serve(t);
+        self.last_served = i;
+        answer
     }
 }

@@ -1,4 +1,3 @@
-pub mod Due
 pub mod Opening
 pub mod Turning
 pub mod Serving

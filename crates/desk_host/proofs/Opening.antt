@@ -2,11 +2,9 @@
 -- lines after it.
 use native.Mathlib.Omega.{arith}
 use mathlib.Core.Path.{◌≡◌, refl, sym, ap, ◌∙◌}
-use mathlib.Core.Bool.{true, not, true≢false}
 use mathlib.Core.List.{List}
 use Prim.Native.Nat.{ℕ, ◌+◌, ◌-◌, ◌^◌, ◌≤◌, ◌<◌}
 use lib.ListN.{length}
-use Rattle.basis.specs.Choice.{both}
 use Rattle.timetable.specs.Lines.{Line, line_at, line_end, next_line, lines_from, offset_lines}
 use Rattle.timetable.proofs.Offsets.{line_cut, lines_end, lines_next, next_further}
 use Rattle.condition_words.specs.Words.{between}
@@ -14,9 +12,6 @@ use Rattle.desk_seat.specs.Request.{asking}
 use Rattle.desk.specs.declared.Desk.{Desk}
 use Rattle.output_pieces.specs.Pieces.{Piece, open_piece, opened_all}
 use Rattle.output_pieces.specs.Carried.{opened_told}
-use Rattle.desk_host.specs.declared.Sent.{Sent}
-use borrow.Author.Tests.{not-true}
-use Rattle.desk_host.proofs.Due.{second_fails}
 
 -- what was told, and what is still to be told from an offset on
 abbrev pub to_tell : List ℕ → ℕ → Desk → ℕ → ℕ
@@ -63,10 +58,6 @@ from_start t d = refl
 pub told_from_start : (t : List ℕ) (d : Desk) (k : ℕ) → to_tell t 0 d k ≡ k + opened_told (offset_lines t) d
 unfolding offset_lines
 told_from_start t d k = refl
-
--- where more is not due after a condition, its write failed
-pub open_failed : (z : Sent) → z.more ≡ both z.through true → not z.more ≡ true → {A : Type 0} → z.through ≡ true → A
-open_failed z e off p = absurd (true≢false (second_fails z.through true z.more e (not-true _ off) p))
 
 pub nearer : (t : List ℕ) (i j : ℕ) → i < length t → j ≡ next_line t i → length t - j < length t - i
 nearer t i j l q = omega (arith, next_further t i l)

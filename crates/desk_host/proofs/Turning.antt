@@ -4,7 +4,7 @@ use mathlib.Core.Path.{◌≡◌, refl, sym, ap, ◌∙◌}
 use mathlib.Core.Bool.{Bool, true, false, not}
 use Prim.Native.Nat.{ℕ, suc, ◌+◌, ◌-◌, ◌<◌, ◌≤◌, ◌^◌}
 use lib.ListN.{length}
-use Rattle.basis.specs.Choice.{pick, both}
+use Rattle.basis.specs.Choice.{pick}
 use Rattle.desk_seat.specs.Files.{Files}
 use Rattle.desk.specs.declared.Desk.{Desk}
 use Rattle.output_pieces.specs.Bounds.{room_size}
@@ -12,17 +12,10 @@ use Rattle.output_pieces.specs.Pieces.{turns_piece, until_idle, most_turns}
 use Rattle.output_pieces.specs.Carried.{until_idle_told}
 use Rattle.desk_host.specs.declared.Sent.{Sent}
 use borrow.Author.Tests.{not-true, not-false}
-use Rattle.desk_host.proofs.Due.{second_holds, second_fails}
 
 -- ---- the loop, which takes at most so many pieces
 abbrev pub N : ℕ
 N = most_turns
-
-pub small : (i : ℕ) → i < N → i + 1 < 2 ^ 64
-small i h = omega arith
-
-pub less : (i : ℕ) → i < N → N - (i + 1) < N - i
-less i h = omega arith
 
 left_is : (i : ℕ) → i < N → N - i ≡ suc (N - (i + 1))
 left_is i h = omega arith
@@ -54,19 +47,19 @@ one_told f d i k m l v w =
     omega (arith, ap (λ (n : ℕ). until_idle_told f n d) (left_is i l), (one f d (turns_piece f d room_size).desk (turns_piece f d room_size).more (N - (i + 1)) refl refl).1)
 
 module _ (f : Files) (d h : Desk) (z : Sent) (i k : ℕ) (x : Desk) (m : ℕ) (l : i < N) (v : until_idle f (N - i) d ≡ x) (v' : to_tell f d i k ≡ m)
-    (e : (h ≡ (turns_piece f d room_size).desk) × (z.more ≡ both z.through (turns_piece f d room_size).more) × (z.told ≡ k + length (turns_piece f d room_size).text)) where
+    (e : h ≡ (turns_piece f d room_size).desk) (y : (z.told ≡ k + length (turns_piece f d room_size).text) × (z.more ≡ (turns_piece f d room_size).more)) where
   step : (b : Bool) → (turns_piece f d room_size).more ≡ b
       → (pick b (until_idle f (N - (i + 1)) h) h ≡ x) × (z.told + pick b (until_idle_told f (N - (i + 1)) h) 0 ≡ m)
   step b p =
-      let w = one f d h b (N - (i + 1)) e.0 p in
-      (sym w.0 ∙ ap (λ (n : ℕ). until_idle f n d) (sym (left_is i l)) ∙ v, omega (arith, w.1, ap (λ (n : ℕ). until_idle_told f n d) (left_is i l), e.2, v'))
+      let w = one f d h b (N - (i + 1)) e p in
+      (sym w.0 ∙ ap (λ (n : ℕ). until_idle f n d) (sym (left_is i l)) ∙ v, omega (arith, w.1, ap (λ (n : ℕ). until_idle_told f n d) (left_is i l), y.0, v'))
 
   -- more turns are due
   pub more_due : not z.more ≡ false → (until_idle f (N - (i + 1)) h ≡ x) × (to_tell f h (i + 1) z.told ≡ m)
-  more_due on = step true (second_holds z.through _ z.more e.1 (not-false _ on))
+  more_due on = step true (sym y.1 ∙ not-false _ on)
 
   -- none are due
-  pub none_due : not z.more ≡ true → z.through ≡ true → (h ≡ x) × (z.told ≡ m)
-  none_due off p =
-      let w = step false (second_fails z.through _ z.more e.1 (not-true _ off) p) in
+  pub none_due : not z.more ≡ true → (h ≡ x) × (z.told ≡ m)
+  none_due off =
+      let w = step false (sym y.1 ∙ not-true _ off) in
       (w.0, omega (arith, w.1))

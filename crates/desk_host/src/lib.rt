@@ -1,26 +1,27 @@
 // The desk program (document 01, "The desk program"): it reads the timetable and the conditions, opens the conditions in order,
-// and takes turns until Idle. It keeps one desk for its whole life, in one variable of `live`, and has it updated where
+// and takes turns until Idle. It keeps one desk for its whole life, in one variable of `play`, and has it updated where
 // it stands: its loops go through `desk_in_place::open_in` and `output_turns::turns_in`. What it writes are the pieces of crate
 // `output_pieces`, each as it was left, and their bytes are counted; after a write that failed it writes nothing more.
 #![tactic(auto)]
 
-ghost use Rattle.std.specs.Prelude.{◌≡◌, true, ◌+◌, ◌^◌, ◌≤◌, ◌<◌, length};
+ghost use Rattle.std.specs.Prelude.{◌≡◌, ◌+◌, ◌^◌, ◌≤◌, ◌<◌, length};
+ghost use Rattle.std.specs.Result.{IfOk};
 ghost use Rattle.files.specs.Counts.{IsPrefixLen};
-ghost use Rattle.basis.specs.Choice.{both};
 ghost use Rattle.timetable.specs.Lines.{offset_lines};
 ghost use Rattle.condition_words.specs.Words.{between};
 ghost use Rattle.desk_seat.specs.Bounds.{max_timetable};
 ghost use Rattle.desk_seat.specs.Files.{over};
 ghost use Rattle.desk_seat.specs.Request.{asking};
 ghost use Rattle.output_pieces.specs.Bounds.{max_input, room_size};
-ghost use Rattle.output_pieces.specs.Pieces.{start_piece, open_piece, turns_piece, opened_all, until_idle, most_turns, served_all, desk_at_end};
+ghost use Rattle.output_pieces.specs.Pieces.{open_piece, turns_piece, opened_all, until_idle, most_turns, served_all, desk_at_end};
 ghost use Rattle.output_pieces.specs.Carried.{opened_told, until_idle_told, served_told};
 ghost use Rattle.output.specs.Output.{output_of};
 
 use condition_words::cut;
 use desk::Desk;
-use output_lines::LineText;
-use output_pieces::PieceEnd;
+use output_lines::LINE_ROOM;
+use output_pieces::{Begun, PieceEnd};
+use std::io;
 use std::io::Read;
 use std::rt::Files;
 use timetable_reader::{moved, next};
@@ -31,56 +32,33 @@ const ROOM: usize = 4_096;
 // Each piece takes a turn or more, and no desk takes more than 16 x (1,440 x 65,536 + 1) of them before it is Idle.
 const CALLS: usize = Desk::SEATS * (run_times::MOST as usize * Desk::MAX_TIMETABLE + 1) + 1;
 
-// What became of the pieces so far: whether every write went through, whether more is due, and how many bytes were handed to
-// the writes.
+// What was written so far: how many bytes were handed to the writes, and whether more is due.
 #[derive(Drop)]
 struct Sent {
-    through: bool,
-    more: bool,
     told: usize,
+    more: bool,
 }
 
-// How far the program has come: the desk, and what became of the pieces.
+// How far the program has come: the desk, and how many bytes were handed to the writes.
 #[derive(Drop)]
 struct Progress {
     desk: Desk,
-    sent: Sent,
+    told: usize,
 }
 
-// Writes a piece as it stands in the room, after so many bytes before it. Nothing more is due after a write that failed.
-fn send(rt: &impl Print, part: PieceEnd, room: &[u8], before: usize) -> Sent
+// Writes a piece as it stands in the room, after so many bytes before it.
+fn send(rt: &impl Print, part: PieceEnd, room: &[u8], before: usize) -> io::Result<Sent>
     requires { (part.count ≤ length room.now) × (before + part.count < 2 ^ 64) }
-    ensures { (result.more ≡ both result.through part.more) × (result.told ≡ before + part.count) }
+    ensures { IfOk result (λ s. (s.told ≡ before + part.count) × (s.more ≡ part.more)) }
 {
-    let count = part.count;
-    let told = before + count;
-    if rt.write_all(&room[..count]).is_err() {
-        return Sent {
-            through: false,
-            more: false,
-            told,
-        };
-    }
-    Sent {
-        through: true,
+    rt.write_all(&room[..part.count])?;
+    Ok(Sent {
+        told: before + part.count,
         more: part.more,
-        told,
-    }
+    })
 }
 
-// The first piece.
-fn start(rt: &impl Print, timetable_length: usize, input_length: usize) -> Progress
-    ensures { (result.desk ≡ (start_piece timetable_length input_length).desk) × (result.sent.more ≡ both result.sent.through (start_piece timetable_length input_length).more) × (result.sent.told ≡ length (start_piece timetable_length input_length).text) }
-{
-    let mut room = [0; LineText::ROOM];
-    let begun = output_pieces::begin(timetable_length, input_length, &mut room);
-    let desk = begun.desk;
-    let part = begun.part;
-    let sent = send(rt, part, &room, 0);
-    Progress { desk, sent }
-}
-
-// The piece of the condition between two offsets of the input.
+// The piece of the condition between two offsets of the input: how many bytes were handed to the writes after it.
 fn open_at_in(
     rt: &impl Print,
     desk: &mut Desk,
@@ -88,104 +66,87 @@ fn open_at_in(
     at: usize,
     end: usize,
     told: usize,
-) -> Sent
+) -> io::Result<usize>
     requires { told + length (open_piece (asking (between input.now at end)) desk.old).text < 2 ^ 64 }
-    ensures { (desk.new ≡ (open_piece (asking (between input.now at end)) desk.old).desk) × (result.more ≡ both result.through true) × (result.told ≡ told + length (open_piece (asking (between input.now at end)) desk.old).text) }
+    ensures { (desk.new ≡ (open_piece (asking (between input.now at end)) desk.old).desk) × IfOk result (λ n. n ≡ told + length (open_piece (asking (between input.now at end)) desk.old).text) }
 {
     let condition = cut(input, at, end);
-    let mut room = [0; LineText::ROOM];
+    let mut room = [0; LINE_ROOM];
     let part = output_pieces::open_piece_in(desk, condition, &mut room);
-    send(rt, part, &room, told)
+    let sent = send(rt, part, &room, told)?;
+    Ok(sent.told)
 }
 
 // The piece of as many turns as have their lines in the room.
-fn take_some_in(rt: &impl Print, desk: &mut Desk, t: &[u8], told: usize) -> Sent
+fn take_some_in(rt: &impl Print, desk: &mut Desk, t: &[u8], told: usize) -> io::Result<Sent>
     requires { told + length (turns_piece (over t.now) desk.old room_size).text < 2 ^ 64 }
-    ensures { (desk.new ≡ (turns_piece (over t.now) desk.old room_size).desk) × (result.more ≡ both result.through (turns_piece (over t.now) desk.old room_size).more) × (result.told ≡ told + length (turns_piece (over t.now) desk.old room_size).text) }
+    ensures { (desk.new ≡ (turns_piece (over t.now) desk.old room_size).desk) × IfOk result (λ s. (s.told ≡ told + length (turns_piece (over t.now) desk.old room_size).text) × (s.more ≡ (turns_piece (over t.now) desk.old room_size).more)) }
 {
     let mut room = [0; ROOM];
     let part = output_pieces::turns_piece_in(desk, t, &mut room);
     send(rt, part, &room, told)
 }
 
-// Opens the conditions in order, until a write fails.
-fn open_all(rt: &impl Print, desk: &mut Desk, input: &[u8], before: usize) -> Sent
+// Opens the conditions in order.
+fn open_all(rt: &impl Print, desk: &mut Desk, input: &[u8], before: usize) -> io::Result<usize>
     requires { before + opened_told (offset_lines input.now) desk.old < 2 ^ 64 }
-    ensures { result.through ≡ true → (desk.new ≡ opened_all (offset_lines input.now) desk.old) × (result.told ≡ before + opened_told (offset_lines input.now) desk.old) }
+    ensures { IfOk result (λ n. (desk.new ≡ opened_all (offset_lines input.now) desk.old) × (n ≡ before + opened_told (offset_lines input.now) desk.old)) }
 {
     let mut told = before;
     let mut reader = timetable_reader::new(input, 0);
     while reader.at < input.len() {
         let line = next(reader);
-        let sent = open_at_in(rt, desk, input, reader.at, line.end, told);
-        if !sent.more {
-            return sent;
-        }
-        told = sent.told;
+        told = open_at_in(rt, desk, input, reader.at, line.end, told)?;
         reader = moved(reader);
     }
-    Sent {
-        through: true,
-        more: true,
-        told,
-    }
+    Ok(told)
 }
 
-// Takes turns until Idle, or until a write fails.
-fn turns_all(rt: &impl Print, desk: &mut Desk, t: &[u8], before: usize) -> Sent
+// Takes turns until Idle.
+fn turns_all(rt: &impl Print, desk: &mut Desk, t: &[u8], before: usize) -> io::Result<usize>
     requires { before + until_idle_told (over t.now) most_turns desk.old < 2 ^ 64 }
-    ensures { result.through ≡ true → (desk.new ≡ until_idle (over t.now) most_turns desk.old) × (result.told ≡ before + until_idle_told (over t.now) most_turns desk.old) }
+    ensures { IfOk result (λ n. (desk.new ≡ until_idle (over t.now) most_turns desk.old) × (n ≡ before + until_idle_told (over t.now) most_turns desk.old)) }
 {
     let mut told = before;
-    let mut n: usize = 0;
-    while n < CALLS {
-        let sent = take_some_in(rt, desk, t, told);
-        if !sent.more {
-            return sent;
-        }
+    for _ in 0..CALLS {
+        let sent = take_some_in(rt, desk, t, told)?;
         told = sent.told;
-        n += 1;
+        if !sent.more {
+            break;
+        }
     }
-    Sent {
-        through: true,
-        more: true,
-        told,
-    }
+    Ok(told)
 }
 
 // Opens the conditions, then takes the turns.
-fn serve_in(rt: &impl Print, desk: &mut Desk, t: &[u8], input: &[u8], told: usize) -> Sent
+fn serve_in(
+    rt: &impl Print,
+    desk: &mut Desk,
+    t: &[u8],
+    input: &[u8],
+    told: usize,
+) -> io::Result<usize>
     requires { told + served_told (over t.now) input.now desk.old < 2 ^ 64 }
-    ensures { result.through ≡ true → (desk.new ≡ served_all (over t.now) input.now desk.old) × (result.told ≡ told + served_told (over t.now) input.now desk.old) }
+    ensures { IfOk result (λ n. (desk.new ≡ served_all (over t.now) input.now desk.old) × (n ≡ told + served_told (over t.now) input.now desk.old)) }
 {
-    let opened = open_all(rt, desk, input, told);
-    if !opened.through {
-        return opened;
-    }
-    turns_all(rt, desk, t, opened.told)
+    let opened = open_all(rt, desk, input, told)?;
+    turns_all(rt, desk, t, opened)
 }
 
-// One desk for the program's whole life, in one variable.
-fn live(rt: &impl Print, mut desk: Desk, t: &[u8], input: &[u8], told: usize) -> Progress
-    requires { told + served_told (over t.now) input.now desk < 2 ^ 64 }
-    ensures { result.sent.through ≡ true → (result.desk ≡ served_all (over t.now) input.now desk) × (result.sent.told ≡ told + served_told (over t.now) input.now desk) }
-{
-    let sent = serve_in(rt, &mut desk, t, input, told);
-    Progress { desk, sent }
-}
-
-// The program over what was read: where every write went through, the writes were handed as many bytes as its output has.
-fn play(rt: &impl Print, t: &[u8], input: &[u8]) -> Progress
+// The program over what was read: where every write went through, the writes were handed as many bytes as its output has. One
+// desk serves for the program's whole life, in one variable.
+fn play(rt: &impl Print, t: &[u8], input: &[u8]) -> io::Result<Progress>
     requires { (length t.now ≤ max_timetable + 1) × (length input.now ≤ max_input + 1) }
-    ensures { result.sent.through ≡ true → (result.desk ≡ desk_at_end (over t.now) input.now) × (result.sent.told ≡ length (output_of (over t.now) input.now)) }
+    ensures { IfOk result (λ p. (p.desk ≡ desk_at_end (over t.now) input.now) × (p.told ≡ length (output_of (over t.now) input.now))) }
 {
-    let started = start(rt, t.len(), input.len());
-    let desk = started.desk;
-    let sent = started.sent;
-    if !sent.more {
-        return Progress { desk, sent };
+    let mut room = [0; LINE_ROOM];
+    let Begun { mut desk, part } = output_pieces::begin(t.len(), input.len(), &mut room);
+    let sent = send(rt, part, &room, 0)?;
+    let mut told = sent.told;
+    if sent.more {
+        told = serve_in(rt, &mut desk, t, input, told)?;
     }
-    live(rt, desk, t, input, sent.told)
+    Ok(Progress { desk, told })
 }
 
 // The bytes of a file, as far as they can be read, at the start of a timetable's buffer; none where it cannot be opened.
@@ -210,7 +171,8 @@ pub fn run_over<R: Files + Print, C: Read>(rt: &R, name: &[u8], conditions: &mut
     let long = read_file(rt, name, &mut timetable);
     let mut input = output_pieces::input_buffer();
     let given = read_input(conditions, &mut input);
-    play(rt, &timetable[..long], &input[..given]);
+    // a write that failed ends the program
+    let _ = play(rt, &timetable[..long], &input[..given]);
 }
 
 // The whole program.

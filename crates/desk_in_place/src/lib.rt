@@ -9,11 +9,12 @@ ghost use Rattle.desk_seat.specs.Answers.{turn_meaning};
 ghost use Rattle.desk.specs.Answers.{open_meaning, close_meaning};
 ghost use Rattle.desk.specs.Desk.{open_of, close_of, turn_of};
 
-use desk::{CloseAnswer, Desk, OpenAnswer};
+use desk::Desk;
 use desk_seat::TurnAnswer;
+use value::Refusal;
 
 // Opens a condition.
-pub fn open_in(desk: &mut Desk, text: &[u8]) -> OpenAnswer
+pub fn open_in(desk: &mut Desk, text: &[u8]) -> Result<u32, Refusal>
     ensures { (desk.new ≡ (open_of (asking text.now) desk.old).desk) × (open_meaning result ≡ (open_of (asking text.now) desk.old).answer) }
 {
     let after = desk.open(text);
@@ -22,7 +23,7 @@ pub fn open_in(desk: &mut Desk, text: &[u8]) -> OpenAnswer
 }
 
 // Closes a ticket.
-pub fn close_in(desk: &mut Desk, ticket: u32) -> CloseAnswer
+pub fn close_in(desk: &mut Desk, ticket: u32) -> Result<(), Refusal>
     ensures { (desk.new ≡ (close_of ticket desk.old).desk) × (close_meaning result ≡ (close_of ticket desk.old).answer) }
 {
     let after = desk.close(ticket);

@@ -1,55 +1,51 @@
 -- Answers of equal meaning are equal, so that the contracts, which go through the meaning, determine the answer and the desk.
+use Rattle.std.specs.Prelude.{Err, Ok, Result, ℕ}
 use mathlib.Core.Path.{◌≡◌, refl, ap}
 use Prim.Native.Nat.{ℕ}
 use Rattle.basis.specs.Answer.{Answer, gives, refuses_for}
 use Rattle.value.specs.Reasons.{refusal_of}
 use Rattle.desk_seat.specs.Answers.{Turned, idle, hit_at, miss_at, unreadable_at, done_with, turn_meaning}
 use Rattle.desk.specs.Answers.{After, fresh_meaning, open_meaning, close_meaning, after_fresh, after_open, after_close, after_turn}
-use Rattle.desk.specs.declared.FreshAnswer.{FreshAnswer}
-use Rattle.desk.specs.declared.FreshAnswer.TheVariants as FV
-use Rattle.desk.specs.declared.OpenAnswer.{OpenAnswer}
-use Rattle.desk.specs.declared.OpenAnswer.TheVariants as OV
-use Rattle.desk.specs.declared.CloseAnswer.{CloseAnswer}
-use Rattle.desk.specs.declared.CloseAnswer.TheVariants as CV
 use Rattle.desk_seat.specs.declared.TurnAnswer.{TurnAnswer}
 use Rattle.desk_seat.specs.declared.TurnAnswer.TheVariants as TV
 use Rattle.desk.specs.declared.AfterFresh.{AfterFresh}
 use Rattle.desk.specs.declared.AfterOpen.{AfterOpen}
 use Rattle.desk.specs.declared.AfterClose.{AfterClose}
 use Rattle.desk.specs.declared.AfterTurn.{AfterTurn}
+use Rattle.value.specs.declared.Refusal.{Refusal}
 
 -- the answer with a meaning
-abbrev fresh_from : Answer (Unit {0}) → FreshAnswer
-fresh_from (gives u) = FV.Made
-fresh_from (refuses_for r) = FV.Refused (refusal_of r)
+abbrev fresh_from : Answer (Unit {0}) → Result Unit Refusal
+fresh_from (gives u) = Ok tt
+fresh_from (refuses_for r) = Err (refusal_of r)
 
-fresh_back : (a : FreshAnswer) → fresh_from (fresh_meaning a) ≡ a
-fresh_back FV.Made = refl
-fresh_back (FV.Refused r) = refl
+fresh_back : (a : Result Unit Refusal) → fresh_from (fresh_meaning a) ≡ a
+fresh_back (Ok tt) = refl
+fresh_back (Err r) = refl
 
-pub fresh_determined : (a b : FreshAnswer) → fresh_meaning a ≡ fresh_meaning b → a ≡ b
+pub fresh_determined : (a b : Result Unit Refusal) → fresh_meaning a ≡ fresh_meaning b → a ≡ b
 fresh_determined a b e = cc (ap fresh_from e, fresh_back a, fresh_back b)
 
-abbrev open_from : Answer ℕ → OpenAnswer
-open_from (gives k) = OV.Ticket k
-open_from (refuses_for r) = OV.Refused (refusal_of r)
+abbrev open_from : Answer ℕ → Result ℕ Refusal
+open_from (gives k) = Ok k
+open_from (refuses_for r) = Err (refusal_of r)
 
-open_back : (a : OpenAnswer) → open_from (open_meaning a) ≡ a
-open_back (OV.Ticket k) = refl
-open_back (OV.Refused r) = refl
+open_back : (a : Result ℕ Refusal) → open_from (open_meaning a) ≡ a
+open_back (Ok k) = refl
+open_back (Err r) = refl
 
-pub open_determined : (a b : OpenAnswer) → open_meaning a ≡ open_meaning b → a ≡ b
+pub open_determined : (a b : Result ℕ Refusal) → open_meaning a ≡ open_meaning b → a ≡ b
 open_determined a b e = cc (ap open_from e, open_back a, open_back b)
 
-abbrev close_from : Answer (Unit {0}) → CloseAnswer
-close_from (gives u) = CV.Freed
-close_from (refuses_for r) = CV.Refused (refusal_of r)
+abbrev close_from : Answer (Unit {0}) → Result Unit Refusal
+close_from (gives u) = Ok tt
+close_from (refuses_for r) = Err (refusal_of r)
 
-close_back : (a : CloseAnswer) → close_from (close_meaning a) ≡ a
-close_back CV.Freed = refl
-close_back (CV.Refused r) = refl
+close_back : (a : Result Unit Refusal) → close_from (close_meaning a) ≡ a
+close_back (Ok tt) = refl
+close_back (Err r) = refl
 
-pub close_determined : (a b : CloseAnswer) → close_meaning a ≡ close_meaning b → a ≡ b
+pub close_determined : (a b : Result Unit Refusal) → close_meaning a ≡ close_meaning b → a ≡ b
 close_determined a b e = cc (ap close_from e, close_back a, close_back b)
 
 abbrev turn_from : Answer Turned → TurnAnswer

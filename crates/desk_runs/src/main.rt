@@ -2,11 +2,10 @@
 // each pair (docs/LINES.md, "Desk runs"). It only reads and writes; the answers are those of crate `desk_host`.
 #![tactic(auto)]
 
-use condition_words::cut;
 use std::io;
 use std::rt::Files;
 use timetable::fields::field;
-use timetable_reader::read_line;
+use timetable_reader::LineReader;
 
 // The most bytes of cases that are read.
 const MAX_INPUT: usize = 4_096;
@@ -25,11 +24,8 @@ fn run_case<R: Files + Print>(rt: &R, line: &[u8]) {
 
 // Runs the cases in order.
 fn run_all<R: Files + Print>(rt: &R, cases: &[u8]) {
-    let mut at = 0;
-    while at < cases.len() {
-        let line = read_line(cases, at);
-        run_case(rt, cut(cases, at, line.end));
-        at = line.next;
+    for line in LineReader::new(cases, 0) {
+        run_case(rt, line.text);
     }
 }
 

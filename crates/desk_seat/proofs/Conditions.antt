@@ -1,5 +1,6 @@
 -- What the crate of conditions proves of accepted conditions, as a seat and the desk use it: such a text passes Open's
 -- checks, it fits a seat, and a judgement of it is never refused.
+use Rattle.std.specs.Prelude.{Err, Ok, Result}
 use mathlib.Core.Path.{◌≡◌, refl, sym, ◌∙◌}
 use mathlib.Core.Bool.{Bool, true, false}
 use mathlib.Core.List.{List}
@@ -11,12 +12,8 @@ use Rattle.value.specs.Reasons.{reason_of}
 use Rattle.value.specs.declared.Refusal.{Refusal}
 use Rattle.condition.specs.Condition.{checked}
 use Rattle.condition.proofs.Accepted.{accepted_gives, not_accepted_refuses, accepted_length}
-use Rattle.condition.specs.declared.Checked.{Checked}
-use Rattle.condition.specs.declared.Checked.TheVariants as CV
-use Rattle.condition.specs.declared.Judged.{Judged}
-use Rattle.condition.specs.declared.Judged.TheVariants as JV
 use Rattle.desk_seat.specs.Bounds.{condition_room}
-use Rattle.desk_seat.specs.Conditions.{accepted, check_of, Result, hit, miss, unreadable, judged}
+use Rattle.desk_seat.specs.Conditions.{accepted, check_of}
 
 pub accepted_checked : (c : List ℕ) → accepted c ≡ true → check_of c ≡ gives tt
 accepted_checked = accepted_gives
@@ -47,30 +44,8 @@ refused_not_accepted c r e = go (accepted c) refl
         absurd (omega arith)
 
 -- what a call of the checks answered
-pub said_accepted : {r : Checked} (c : List ℕ) → checked r ≡ check_of c → r ≡ CV.Accepted → accepted c ≡ true
+pub said_accepted : {r : (Result Unit Refusal)} (c : List ℕ) → checked r ≡ check_of c → r ≡ (Ok tt) → accepted c ≡ true
 said_accepted c e h = checked_accepted c tt (sym e ∙ rw h)
 
-pub said_refused : {r : Checked} {x : Refusal} (c : List ℕ) → checked r ≡ check_of c → r ≡ CV.Refused x → accepted c ≡ false
+pub said_refused : {r : (Result Unit Refusal)} {x : Refusal} (c : List ℕ) → checked r ≡ check_of c → r ≡ Err x → accepted c ≡ false
 said_refused {r} {x} c e h = refused_not_accepted c (reason_of x) (sym e ∙ rw h)
-
--- what a judgement with a result says
-pub said_hit : {v : Judged} {x : Result} → judged v ≡ gives x → v ≡ JV.Hit → hit ≡ x
-said_hit {v} {x} e h =
-    let f : gives hit ≡ gives x = rw h at e in
-    cc
-
-pub said_miss : {v : Judged} {x : Result} → judged v ≡ gives x → v ≡ JV.Miss → miss ≡ x
-said_miss {v} {x} e h =
-    let f : gives miss ≡ gives x = rw h at e in
-    cc
-
-pub said_unreadable : {v : Judged} {x : Result} {r : Refusal} → judged v ≡ gives x → v ≡ JV.Unreadable r → unreadable (reason_of r) ≡ x
-said_unreadable {v} {x} {r} e h =
-    let f : gives (unreadable (reason_of r)) ≡ gives x = rw h at e in
-    cc
-
-pub never_refused : {v : Judged} {x : Result} {r : Refusal} → judged v ≡ gives x → v ≡ JV.Refused r → ⊥
-never_refused {v} {x} {r} e h =
-    let f : refuses_for (reason_of r) ≡ gives x = rw h at e in
-    let z : ◌≡◌ {A = ℕ} 0 1 = cc in
-    omega arith

@@ -1,16 +1,17 @@
--- The condition in a seat: its bytes are copied one by one over zeros, and zeros stand after it.
-use mathlib.Core.Path.{◌≡◌}
-use mathlib.Core.List.{List, ◌++◌, append_assoc}
-use Prim.Native.Nat.{ℕ, suc, ◌+◌, ◌-◌, ◌≤◌, ◌<◌}
-use native.Mathlib.Numerals.{add-one}
+-- The condition in a seat: its bytes stand at the start of as many zeros as the seat has room for, and zeros stand after it.
+use mathlib.Core.Path.{◌≡◌, ap, ◌∙◌}
+use mathlib.Core.List.{List, ◌++◌}
+use Prim.Native.Nat.{ℕ, zero, suc, ◌-◌}
 use native.Mathlib.Omega.{arith}
-use lib.ListN.{length, take, get_or, set, replicate}
-use lib.Seq.{take-suc, set_at, length-take-le}
+use lib.ListN.{length, drop, replicate}
 use Rattle.desk_seat.specs.Bounds.{condition_room}
 
-pub one_byte_more : (c : List ℕ) (i : ℕ) → i < length c → length c ≤ condition_room
-    → set (take i c ++ replicate (condition_room - i) 0) i (get_or c i 0) ≡ take (i + 1) c ++ replicate (condition_room - (i + 1)) 0
-one_byte_more c i l m =
-    let z : condition_room - i ≡ suc (condition_room - suc i) = omega arith in
-    rw (z, add-one, take-suc c i 0, append_assoc)
-    (set_at (take i c) 0 (replicate (condition_room - suc i) 0) (get_or c i 0) i (length-take-le i c (omega arith)))
+-- what is left of equal elements after some of them
+drop_same : (n m x : ℕ) → drop n (replicate m x) ≡ replicate (m - n) x
+drop_same zero m x = let e : m ≡ m - 0 = omega arith in ap (λ (k : ℕ). replicate k x) e
+drop_same (suc n) zero x = let e : 0 ≡ 0 - suc n = omega arith in ap (λ (k : ℕ). replicate k x) e
+drop_same (suc n) (suc m) x = let e : m - n ≡ suc m - suc n = omega arith in drop_same n m x ∙ ap (λ (k : ℕ). replicate k x) e
+
+pub copied_in : (text : List ℕ) {w : List ℕ} → w ≡ text
+    → w ++ drop (length text) (replicate condition_room 0) ≡ text ++ replicate (condition_room - length text) 0
+copied_in text e = rw (e, drop_same (length text) condition_room 0)

@@ -10,7 +10,6 @@ use lib.Dec.{ltb}
 use lib.ListN.{length}
 use Rattle.basis.specs.Choice.{pick}
 use Rattle.value_instants.specs.Ticks.{utc}
-use Rattle.numerals.specs.Carried.{text_in}
 use Rattle.timetable.specs.Lines.{next_line, line_at}
 use Rattle.run_cases.specs.StandsFor.{stands_for}
 use Rattle.run_cases.specs.Carried.{case_said, Shows}
@@ -66,7 +65,7 @@ module _ (f : Files) (s : Seat) where
       → next_line f.timetable s.offset ≡ next
       → Shows r line (stands_for utc line) s.place
       → to ≡ pick r.more (record { offset = s.offset; place = s.place + 1 }) (record { offset = next; place = 0 })
-      → judged_as (onward_from f s) s (seat_result f s) ≡ judged_as to s (case_result (condition_of s) (case_said line (text_in r.made) r.read))
+      → judged_as (onward_from f s) s (seat_result f s) ≡ judged_as to s (case_result (condition_of s) (case_said line r.made r.read))
   unfolding onward_from
   serve_case line next to r l n x e = rw (e, x.what, x.more, l, n)
 

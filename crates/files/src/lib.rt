@@ -9,9 +9,7 @@ use std::rt::Files;
 
 // The file of a name, opened for reading; none where it cannot be opened.
 pub fn open<R: Files>(rt: &R, name: &[u8]) -> Option<R::File> {
-    let Ok(path) = str::from_utf8(name) else {
-        return None;
-    };
+    let path = str::from_utf8(name).ok()?;
     fs::open(rt, path).ok()
 }
 
@@ -22,9 +20,8 @@ pub fn read_full<R: Read>(reader: &mut R, buffer: &mut [u8]) -> usize
     let mut done = 0;
     while done < buffer.len() {
         match reader.read(&mut buffer[done..]) {
-            Ok(0) => break,
+            Ok(0) | Err(_) => break,
             Ok(n) => done += n,
-            Err(_) => break,
         }
     }
     done

@@ -41,5 +41,4 @@ pub enum ScriptEvent {
     Set(DeskNumber),
     Seat(usize, SeatNumber),
     Condition(usize),
-    NoEvent,
 }

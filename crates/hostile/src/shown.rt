@@ -5,12 +5,5 @@ ghost use Rattle.hostile.specs.Shown as the;
 pub fn kept(s: &[u8]) -> usize
     ensures { the.KeptBytes s.now result }
 {
-    let mut long = s.len();
-    while 0 < long {
-        if s[long - 1] != 0 {
-            return long;
-        }
-        long -= 1;
-    }
-    long
+    s.iter().rposition(|&b| b != 0).map_or(0, |last| last + 1)
 }

@@ -2,11 +2,11 @@
 #![tactic(auto)]
 
 use condition_words::cut;
-use desk::{CloseAnswer, Desk, FreshAnswer};
+use desk::Desk;
 use desk_seat::Seat;
 use hostile::shown::kept;
 use output_lines::{LineText, refused_line, turn_line};
-use output_turns::TurnsAnswer;
+use output_turns::WrittenTurns;
 use value::Refusal;
 
 // The largest room of many turns.
@@ -26,8 +26,7 @@ fn tell_number(rt: &impl Print, n: usize) {
 }
 
 pub fn tell_text(rt: &impl Print, text: LineText) {
-    let bytes = text.bytes;
-    tell(rt, cut(&bytes, 0, text.len));
+    tell(rt, text.as_slice());
 }
 
 pub fn tell_refused(rt: &impl Print, number: u8) {
@@ -42,17 +41,17 @@ pub fn tell_sound(rt: &impl Print, sound: bool) {
     }
 }
 
-pub fn tell_fresh(rt: &impl Print, answer: FreshAnswer) {
+pub fn tell_fresh(rt: &impl Print, answer: Result<(), Refusal>) {
     match answer {
-        FreshAnswer::Made => tell(rt, b"made\n"),
-        FreshAnswer::Refused(refusal) => tell_refused(rt, refusal.number),
+        Ok(()) => tell(rt, b"made\n"),
+        Err(refusal) => tell_refused(rt, refusal.number),
     }
 }
 
-pub fn tell_close(rt: &impl Print, answer: CloseAnswer) {
+pub fn tell_close(rt: &impl Print, answer: Result<(), Refusal>) {
     match answer {
-        CloseAnswer::Freed => tell(rt, b"closed\n"),
-        CloseAnswer::Refused(refusal) => tell_refused(rt, refusal.number),
+        Ok(()) => tell(rt, b"closed\n"),
+        Err(refusal) => tell_refused(rt, refusal.number),
     }
 }
 
@@ -67,20 +66,18 @@ fn tell_wrote(rt: &impl Print, count: usize, idle: bool) {
     }
 }
 
-fn tell_turns(rt: &impl Print, answer: TurnsAnswer) {
+fn tell_turns(rt: &impl Print, answer: Result<WrittenTurns, Refusal>) {
     match answer {
-        TurnsAnswer::Wrote(written) => tell_wrote(rt, written.count, written.idle),
-        TurnsAnswer::Refused(refusal) => tell_refused(rt, refusal.number),
+        Ok(written) => tell_wrote(rt, written.count, written.idle),
+        Err(refusal) => tell_refused(rt, refusal.number),
     }
 }
 
 // A tab, and the bytes in two digits each.
 fn tell_bytes(rt: &impl Print, s: &[u8]) {
     tell(rt, b"\t");
-    let mut i = 0;
-    while i < s.len() {
-        let _ = print!(rt; "{:02x}", s[i]);
-        i += 1;
+    for &b in s {
+        let _ = print!(rt; "{b:02x}");
     }
 }
 
@@ -120,10 +117,8 @@ pub fn show(rt: &impl Print, desk: Desk) {
     tell_number(rt, desk.timetable_length);
     tell_number(rt, desk.issued as usize);
     tell(rt, b"\n");
-    let mut i = 0;
-    while i < Desk::SEATS {
-        show_seat(rt, i, desk.seats[i]);
-        i += 1;
+    for (i, &seat) in desk.seats.iter().enumerate() {
+        show_seat(rt, i, seat);
     }
 }
 

@@ -20,8 +20,9 @@ pub fn set_desk(mut desk: Desk, number: DeskNumber) -> Desk
     desk
 }
 
-fn with_number(mut seat: Seat, number: SeatNumber) -> Seat
-    ensures { result ≡ the.seat_with seat number }
+// A number of the seat.
+fn set_number(seat: &mut Seat, number: SeatNumber)
+    ensures { seat.new ≡ the.seat_with seat.old number }
 {
     match number {
         SeatNumber::Held(held) => seat.held = held,
@@ -32,30 +33,25 @@ fn with_number(mut seat: Seat, number: SeatNumber) -> Seat
         SeatNumber::Place(n) => seat.place = n,
         SeatNumber::ConditionLength(n) => seat.condition_length = n,
     }
-    seat
 }
 
-// A text that a seat has no room for alters nothing.
-fn with_condition(mut seat: Seat, text: &[u8]) -> Seat
-    ensures { result ≡ the.condition_with seat text.now }
+// The condition of the seat. A text that a seat has no room for alters nothing.
+fn set_text(seat: &mut Seat, text: &[u8])
+    ensures { seat.new ≡ the.condition_with seat.old text.now }
 {
-    if Seat::ROOM < text.len() {
-        return seat;
+    if text.len() <= Seat::ROOM {
+        seat.condition = desk_seat::padded(text);
     }
-    let mut condition = [0u8; Seat::ROOM];
-    condition[..text.len()].copy_from_slice(text);
-    seat.condition = condition;
-    seat
 }
 
 // `seat`: a number of the seat with this index. An index past the last alters nothing.
 pub fn set_seat(mut desk: Desk, index: usize, number: SeatNumber) -> Desk
     ensures { result ≡ the.number_set desk index number }
 {
-    if Desk::SEATS <= index {
-        return desk;
+    // by index: of what is written through `get_mut` of an array a proof knows nothing
+    if index < Desk::SEATS {
+        set_number(&mut desk.seats[index], number);
     }
-    desk.seats[index] = with_number(desk.seats[index], number);
     desk
 }
 
@@ -63,9 +59,8 @@ pub fn set_seat(mut desk: Desk, index: usize, number: SeatNumber) -> Desk
 pub fn set_condition(mut desk: Desk, index: usize, text: &[u8]) -> Desk
     ensures { result ≡ the.condition_set desk index text.now }
 {
-    if Desk::SEATS <= index {
-        return desk;
+    if index < Desk::SEATS {
+        set_text(&mut desk.seats[index], text);
     }
-    desk.seats[index] = with_condition(desk.seats[index], text);
     desk
 }

@@ -14,7 +14,7 @@ use hostile_answers::{
 use hostile_changes::{set_condition, set_desk, set_seat};
 use line_fields::fields::after_tab;
 use output_lines::open_line;
-use timetable_reader::read_line;
+use timetable_reader::LineReader;
 
 // The most bytes of a script.
 const MAX_INPUT: usize = line_fields::MAX_INPUT;
@@ -64,7 +64,6 @@ fn desk_after(rt: &impl Print, desk: Desk, t: &[u8], line: &[u8], event: ScriptE
             tell(rt, b"set\n");
             return set_condition(desk, index, condition_text(line));
         }
-        ScriptEvent::NoEvent => tell_refused(rt, NO_EVENT),
     }
     desk
 }
@@ -82,14 +81,13 @@ fn play(rt: &impl Print, file: &[u8], input: &[u8]) {
     let made = desk::fresh(file.len());
     let mut desk = made.desk;
     let mut part = file.len();
-    let mut at = 0;
-    while at < input.len() {
-        let read = read_line(input, at);
-        let line = cut(input, at, read.end);
-        let event = event(line, file.len());
+    for line in LineReader::new(input, 0) {
+        let Some(event) = event(line.text, file.len()) else {
+            tell_refused(rt, NO_EVENT);
+            continue;
+        };
         part = part_after(part, event);
-        desk = desk_after(rt, desk, cut(file, 0, part), line, event);
-        at = read.next;
+        desk = desk_after(rt, desk, cut(file, 0, part), line.text, event);
     }
 }
 

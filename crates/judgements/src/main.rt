@@ -6,7 +6,8 @@ ghost use Rattle.std.specs.Prelude.{ℕ, ◌+◌, ◌-◌, ◌≤◌, ◌<◌, l
 
 use condition::Judged;
 use timetable::fields::field;
-use timetable_reader::read_line;
+use timetable_reader::LineReader;
+use value::Refusal;
 
 // The most bytes of conditions and lines that are read.
 const MAX_INPUT: usize = 65_536;
@@ -17,16 +18,16 @@ fn told(rt: &impl Print, word: &[u8], number: u8) {
     let _ = rt.write_all(b"\n");
 }
 
-fn told_judged(rt: &impl Print, judged: Judged) {
+fn told_judged(rt: &impl Print, judged: Result<Judged, Refusal>) {
     match judged {
-        Judged::Hit => {
+        Ok(Judged::Hit) => {
             let _ = rt.write_all(b"hit\n");
         }
-        Judged::Miss => {
+        Ok(Judged::Miss) => {
             let _ = rt.write_all(b"miss\n");
         }
-        Judged::Unreadable(refusal) => told(rt, b"unreadable\t", refusal.number),
-        Judged::Refused(refusal) => told(rt, b"refused\t", refusal.number),
+        Ok(Judged::Unreadable(refusal)) => told(rt, b"unreadable\t", refusal.number),
+        Err(refusal) => told(rt, b"refused\t", refusal.number),
     }
 }
 
@@ -41,12 +42,8 @@ fn judge_line(rt: &impl Print, line: &[u8]) {
 }
 
 fn judge_all(rt: &impl Print, input: &[u8]) {
-    let mut at = 0;
-    while at < input.len() {
-        let line = read_line(input, at);
-        let end = line.end;
-        judge_line(rt, &input[at..end]);
-        at = line.next;
+    for line in LineReader::new(input, 0) {
+        judge_line(rt, line.text);
     }
 }
 

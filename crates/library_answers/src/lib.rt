@@ -1,27 +1,27 @@
 // The lines that the desk's calls are answered with, a refusal by its number.
 #![tactic(auto)]
 
-use desk::{CloseAnswer, OpenAnswer};
 use desk_seat::{At, AtPlace, Totals, TurnAnswer};
 use library_told::{tell, tell_end, tell_number, tell_refused};
+use value::Refusal;
 
-pub fn tell_open(rt: &impl Print, answer: OpenAnswer) {
+pub fn tell_open(rt: &impl Print, answer: Result<u32, Refusal>) {
     match answer {
-        OpenAnswer::Ticket(ticket) => {
+        Ok(ticket) => {
             tell(rt, b"open");
             tell_number(rt, ticket as u64);
             tell_end(rt);
         }
         // 7, 8, 9, 1, 2, 3: the condition; 10: every seat is held; 14: every ticket was issued
-        OpenAnswer::Refused(refusal) => tell_refused(rt, refusal.number),
+        Err(refusal) => tell_refused(rt, refusal.number),
     }
 }
 
-pub fn tell_close(rt: &impl Print, answer: CloseAnswer) {
+pub fn tell_close(rt: &impl Print, answer: Result<(), Refusal>) {
     match answer {
-        CloseAnswer::Freed => tell(rt, b"closed\n"),
+        Ok(()) => tell(rt, b"closed\n"),
         // 13: no seat is held by that ticket
-        CloseAnswer::Refused(refusal) => tell_refused(rt, refusal.number),
+        Err(refusal) => tell_refused(rt, refusal.number),
     }
 }
 

@@ -2,7 +2,7 @@
 // standard input is a call: values are made, read, written and compared, and one desk is kept and updated where it stands.
 #![tactic(auto)]
 
-use desk::{Desk, FreshAnswer};
+use desk::Desk;
 use library_told::{tell_no_call, tell_refused};
 
 mod seats; // seats.rt: the desk's calls, and which call a line is
@@ -15,7 +15,7 @@ fn serve(rt: &impl Print, t: &[u8], input: &[u8]) {
     let made = desk::fresh(t.len());
     let answer = made.answer;
     // 11: the timetable is too long, and there is no desk
-    if let FreshAnswer::Refused(refusal) = answer {
+    if let Err(refusal) = answer {
         tell_refused(rt, refusal.number);
         return;
     }

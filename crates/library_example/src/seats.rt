@@ -8,37 +8,20 @@ ghost use Rattle.library_example.specs.After.{after_calls};
 use desk::Desk;
 use desk_in_place::{close_in, open_in, turn_in};
 use library_answers::{tell_close, tell_open, tell_turn};
-use library_lines::calls::{CLOSE, OPEN, TURN, call_at, condition_at, line_at, ticket_at};
+use library_lines::calls::{DeskCall, call_at, condition_at, line_at};
 use timetable::lines::next_line;
 
-// The calls that are not about the desk, and a line that is no call.
-fn answer_value(rt: &impl Print, input: &[u8], at: usize) {
-    library_values::answer(rt, line_at(input, at));
-}
-
-// Answers the lines in order.
+// Answers the lines in order. A line that is none of the desk's calls is a call about values, or no call.
 fn answer_all(rt: &impl Print, desk: &mut Desk, t: &[u8], input: &[u8])
     ensures { desk.new ≡ after_calls (over t.now) (offset_lines input.now) desk.old }
 {
-    let mut at: usize = 0;
+    let mut at = 0;
     while at < input.len() {
-        let call = call_at(input, at);
-        match call {
-            TURN => {
-                let turned = turn_in(desk, t);
-                tell_turn(rt, turned);
-            }
-            OPEN => {
-                let condition = condition_at(input, at);
-                let opened = open_in(desk, condition);
-                tell_open(rt, opened);
-            }
-            CLOSE => {
-                let ticket = ticket_at(input, at);
-                let closed = close_in(desk, ticket);
-                tell_close(rt, closed);
-            }
-            _ => answer_value(rt, input, at),
+        match call_at(input, at) {
+            Some(DeskCall::Turn) => tell_turn(rt, turn_in(desk, t)),
+            Some(DeskCall::Open) => tell_open(rt, open_in(desk, condition_at(input, at))),
+            Some(DeskCall::Close(ticket)) => tell_close(rt, close_in(desk, ticket)),
+            None => library_values::answer(rt, line_at(input, at)),
         }
         at = next_line(input, at);
     }

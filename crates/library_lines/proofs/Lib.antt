@@ -1,3 +1,1 @@
-pub mod Fields
-pub mod Events
 pub mod Answers

@@ -6,9 +6,8 @@ use library_lines::given::{
     FOUR_BYTES, day_at, lasting_at, moment_at, signed_number, time_at, zone,
 };
 use library_told::{tell, tell_end, tell_no_call, tell_refused};
-use text::Written;
 use timetable::fields::{field, has_field};
-use value::{DateTime, DayTime, Outcome, Value, YearMonth};
+use value::{DateTime, DayTime, Refusal, Value, YearMonth};
 
 // The longest text of a value has so many bytes.
 const LONGEST: usize = numerals::LONGEST;
@@ -18,81 +17,63 @@ fn tell_value(rt: &impl Print, v: Value) {
     let mut room = [0; LONGEST];
     let written = text::write(v, &mut room);
     match written {
-        Written::Length(n) => {
+        Ok(n) => {
             tell(rt, cut(&room, 0, n));
             tell_end(rt);
         }
-        Written::Refused(refusal) => tell_refused(rt, refusal.number),
+        Err(refusal) => tell_refused(rt, refusal.number),
     }
 }
 
-fn tell_made(rt: &impl Print, made: Outcome) {
+fn tell_made(rt: &impl Print, made: Result<Value, Refusal>) {
     match made {
-        Outcome::Is(v) => tell_value(rt, v),
-        Outcome::Refused(refusal) => tell_refused(rt, refusal.number),
+        Ok(v) => tell_value(rt, v),
+        Err(refusal) => tell_refused(rt, refusal.number),
     }
 }
 
 // `date→Y→M→D→Z`
 pub fn make_date(rt: &impl Print, line: &[u8]) {
-    let d = day_at(line, 2);
-    let z = zone(field(line, 5));
-    let good = d.good & z.good & !has_field(line, 6);
-    if !good {
-        tell_no_call(rt);
-        return;
+    match (day_at(line, 2), zone(field(line, 5)), has_field(line, 6)) {
+        (Some(d), Some(zone), false) => tell_made(rt, DateTime::date(d.year, d.month, d.day, zone)),
+        _ => tell_no_call(rt),
     }
-    let zone = z.zone;
-    tell_made(rt, DateTime::date(d.year, d.month, d.day, zone));
 }
 
 // `time→SECOND→NANO→Z`
 pub fn make_time(rt: &impl Print, line: &[u8]) {
-    let t = time_at(line, 2);
-    let z = zone(field(line, 4));
-    let good = t.good & z.good & !has_field(line, 5);
-    if !good {
-        tell_no_call(rt);
-        return;
+    match (time_at(line, 2), zone(field(line, 4)), has_field(line, 5)) {
+        (Some(t), Some(zone), false) => tell_made(rt, DateTime::time(t.second, t.nanosecond, zone)),
+        _ => tell_no_call(rt),
     }
-    let zone = z.zone;
-    tell_made(rt, DateTime::time(t.second, t.nanosecond, zone));
 }
 
 // `dateTime→Y→M→D→SECOND→NANO→Z`
 pub fn make_date_time(rt: &impl Print, line: &[u8]) {
-    let m = moment_at(line, 2);
-    let good = m.good & !has_field(line, 8);
-    if !good {
-        tell_no_call(rt);
-        return;
+    match (moment_at(line, 2), has_field(line, 8)) {
+        (Some(d), false) => tell_made(
+            rt,
+            DateTime::new(d.year, d.month, d.day, d.second, d.nanosecond, d.zone),
+        ),
+        _ => tell_no_call(rt),
     }
-    let d = m.parts;
-    let zone = d.zone;
-    tell_made(
-        rt,
-        DateTime::new(d.year, d.month, d.day, d.second, d.nanosecond, zone),
-    );
 }
 
 // `dayTime→S→NANO`
 pub fn make_day_time(rt: &impl Print, line: &[u8]) {
-    let n = lasting_at(line, 2);
-    let good = n.good & !has_field(line, 4);
-    if !good {
-        tell_no_call(rt);
-        return;
+    match (lasting_at(line, 2), has_field(line, 4)) {
+        (Some(d), false) => tell_made(rt, DayTime::new(d.negative, d.seconds, d.nanoseconds)),
+        _ => tell_no_call(rt),
     }
-    tell_made(rt, DayTime::new(n.negative, n.seconds, n.nanoseconds));
 }
 
 // `yearMonth→S`
 pub fn make_year_month(rt: &impl Print, line: &[u8]) {
-    let n = signed_number(field(line, 2), FOUR_BYTES);
-    let good = n.good & !has_field(line, 3);
-    if !good {
-        tell_no_call(rt);
-        return;
+    match (
+        signed_number(field(line, 2), FOUR_BYTES),
+        has_field(line, 3),
+    ) {
+        (Some(n), false) => tell_made(rt, YearMonth::new(n.negative, n.value as u32)),
+        _ => tell_no_call(rt),
     }
-    tell_made(rt, YearMonth::new(n.negative, n.value as u32));
 }

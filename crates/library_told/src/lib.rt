@@ -1,8 +1,7 @@
 // The lines that are written: what a call answered, a refusal by its number.
 #![tactic(auto)]
 
-use library_lines::late::Lateness;
-use operation_ordering::Compared;
+use std::cmp::Ordering;
 use value::Refusal;
 
 // A line that is no call is refused like a condition that is none.
@@ -32,21 +31,21 @@ pub fn tell_no_call(rt: &impl Print) {
     tell_refused(rt, NO_CALL);
 }
 
-pub fn tell_order(rt: &impl Print, answer: Compared) {
+pub fn tell_order(rt: &impl Print, answer: Result<Ordering, Refusal>) {
     match answer {
-        Compared::Less => tell(rt, b"lt\n"),
-        Compared::Equal => tell(rt, b"eq\n"),
-        Compared::Greater => tell(rt, b"gt\n"),
+        Ok(Ordering::Less) => tell(rt, b"lt\n"),
+        Ok(Ordering::Equal) => tell(rt, b"eq\n"),
+        Ok(Ordering::Greater) => tell(rt, b"gt\n"),
         // 16: a value given is outside the bounds; 9: the two are of different kinds
-        Compared::Refused(refusal) => tell_refused(rt, refusal.number),
+        Err(refusal) => tell_refused(rt, refusal.number),
     }
 }
 
-pub fn tell_late(rt: &impl Print, answer: Lateness) {
+pub fn tell_late(rt: &impl Print, answer: Result<bool, Refusal>) {
     match answer {
-        Lateness::Late => tell(rt, b"yes\n"),
-        Lateness::InTime => tell(rt, b"no\n"),
+        Ok(true) => tell(rt, b"yes\n"),
+        Ok(false) => tell(rt, b"no\n"),
         // 4: the difference is beyond the bounds; 9: it is no dayTimeDuration
-        Lateness::Refused(refusal) => tell_refused(rt, refusal.number),
+        Err(refusal) => tell_refused(rt, refusal.number),
     }
 }

@@ -1,110 +1,143 @@
--- Bytes in hexadecimal: a digit by its tests, digits one after the other, and bytes put one by one over zeros.
+-- Bytes in hexadecimal, read pair by pair, and put one by one over zeros.
 use mathlib.Core.Path.{◌≡◌, refl, ap, sym, ◌∙◌}
 use mathlib.Core.Bool.{Bool, true, false}
 use mathlib.Core.List.{List, [], ◌∷◌, ◌++◌, append_assoc}
 use Prim.Native.Nat.{ℕ, zero, suc, ◌+◌, ◌-◌, ◌*◌, ◌/◌, ◌%◌, ◌≤◌, ◌<◌}
-use Prim.Native.Char.{code}
 use native.Mathlib.Numerals.{add-one}
 use native.Mathlib.Omega.{arith}
 use lib.Dec.{eqb, leb}
-use lib.ListN.{length, get_or, drop, set, replicate, length-append, drop_of_length-le}
-use lib.Seq.{drop-cons, set_at}
-use borrow.Author.Tests.{lt-ltb, le-ltb, le-leb, lt-leb, leb-true, eq-eqb, ne_eqb}
+use lib.ListN.{length, get_or, take, drop, set, replicate, length-append, length-drop}
+use lib.Seq.{set_at, take-append_seam, drop-append_seam}
+use Rattle.std.proofs.lemmas.List.{drop_more}
+use borrow.Author.Tests.{le-leb, lt-leb, eq-eqb, ne_eqb}
+use Rattle.std.specs.Prelude.{Some, None}
 use Rattle.basis.specs.Choice.{both, every}
-use Rattle.basis.proofs.Tests.{both_left, every_goes, every_fails, every_ends}
-use Rattle.numerals.specs.Reading.{is_digit, at}
+use Rattle.basis.proofs.Tests.{every_goes, every_fails, every_ends}
+use Rattle.numerals.specs.Reading.{at}
 use Rattle.line_fields.specs.Hex.{most_named, hex_digit, all_hex, is_hex, byte_named, bytes_named, hex_of}
-
--- ---- a digit
-
-module _ (b : ℕ) {t : Bool} (e : t ≡ is_digit b) where
-  pub a_number : t ≡ true → b - code "0" ≡ hex_digit b
-  unfolding hex_digit
-  a_number d = rw (sym e ∙ d)
-
-  module _ (d : t ≡ false) where
-    pub before_a : b < code "a" → 16 ≡ hex_digit b
-    unfolding hex_digit
-    before_a h = rw (sym e ∙ d, lt-ltb b (code "a") h)
-
-    module _ (h : code "a" ≤ b) where
-      pub after_f : code "f" < b → 16 ≡ hex_digit b
-      unfolding hex_digit
-      after_f g = rw (sym e ∙ d, le-ltb b (code "a") h, lt-ltb (code "f") b g)
-
-      pub a_letter : b ≤ code "f" → b - code "a" + 10 ≡ hex_digit b
-      unfolding hex_digit
-      a_letter g = rw (sym e ∙ d, le-ltb b (code "a") h, le-ltb (code "f") b g)
-
--- ---- digits one after the other
-
-module _ (s : List ℕ) (i : ℕ) where
-  pub digits_stop : i < length s → 16 ≤ hex_digit (get_or s i 0) → all_hex (drop i s) ≡ false
-  unfolding all_hex both
-  digits_stop l h = rw (drop-cons s i 0 l, le-ltb (hex_digit (get_or s i 0)) 16 h)
-
-  pub digits_on : i < length s → hex_digit (get_or s i 0) < 16 → all_hex (drop i s) ≡ all_hex (drop (i + 1) s)
-  unfolding all_hex both
-  digits_on l h = rw (add-one, drop-cons s i 0 l, lt-ltb (hex_digit (get_or s i 0)) 16 h)
-
-  pub digits_end : length s ≤ i → all_hex (drop i s) ≡ true
-  unfolding all_hex
-  digits_end l = rw (drop_of_length-le s l)
 
 -- ---- a field
 
 module _ (s : List ℕ) where
-  pub too_many : most_named * 2 < length s → false ≡ is_hex s
+  no_hex : is_hex s ≡ false → None ≡ hex_of s
+  unfolding hex_of
+  no_hex e = rw e
+
+  pub too_many : most_named < length s / 2 → None ≡ hex_of s
   unfolding is_hex
-  too_many h = sym (every_fails (leb (length s) (most_named * 2)) (eqb (length s % 2) 0 ∷ all_hex s ∷ []) (lt-leb (length s) (most_named * 2) h))
+  too_many h = no_hex (every_fails (leb (length s) (most_named * 2)) (eqb (length s % 2) 0 ∷ all_hex s ∷ []) (lt-leb (length s) (most_named * 2) (omega arith)))
 
-  module _ (h : length s ≤ most_named * 2) where
-    few : is_hex s ≡ every (eqb (length s % 2) 0 ∷ all_hex s ∷ [])
+  module _ (h : length s / 2 ≤ most_named) (o : length s % 2 ≡ 0) where
+    by_digits : is_hex s ≡ all_hex s
     unfolding is_hex
-    few = every_goes (leb (length s) (most_named * 2)) (eqb (length s % 2) 0 ∷ all_hex s ∷ []) (le-leb (length s) (most_named * 2) h)
+    by_digits =
+        every_goes (leb (length s) (most_named * 2)) (eqb (length s % 2) 0 ∷ all_hex s ∷ []) (le-leb (length s) (most_named * 2) (omega arith))
+        ∙ every_goes (eqb (length s % 2) 0) (all_hex s ∷ []) (eq-eqb (length s % 2) 0 o) ∙ every_ends (all_hex s)
 
-    pub one_left : (length s % 2 ≡ 0 → ⊥) → false ≡ is_hex s
-    one_left o = sym (few ∙ every_fails (eqb (length s % 2) 0) (all_hex s ∷ []) (ne_eqb (length s % 2) 0 o))
+    pub no_digit : all_hex s ≡ false → None ≡ hex_of s
+    no_digit e = no_hex (by_digits ∙ e)
 
-    pub by_digits : length s % 2 ≡ 0 → all_hex s ≡ is_hex s
-    by_digits o = sym (few ∙ every_goes (eqb (length s % 2) 0) (all_hex s ∷ []) (eq-eqb (length s % 2) 0 o) ∙ every_ends (all_hex s))
+    all_digits : all_hex s ≡ true → Some (bytes_named s (length s / 2)) ≡ hex_of s
+    unfolding hex_of
+    all_digits e = rw (by_digits ∙ e)
 
--- ---- bytes over zeros
+  pub one_left : (length s % 2 ≡ 0 → ⊥) → None ≡ hex_of s
+  unfolding is_hex
+  one_left o = no_hex (go (leb (length s) (most_named * 2)) refl)
+    where
+      go : (b : Bool) → leb (length s) (most_named * 2) ≡ b → every (leb (length s) (most_named * 2) ∷ eqb (length s % 2) 0 ∷ all_hex s ∷ []) ≡ false
+      go true e =
+          every_goes (leb (length s) (most_named * 2)) (eqb (length s % 2) 0 ∷ all_hex s ∷ []) e ∙ every_fails (eqb (length s % 2) 0) (all_hex s ∷ []) (ne_eqb (length s % 2) 0 o)
+      go false e = every_fails (leb (length s) (most_named * 2)) (eqb (length s % 2) 0 ∷ all_hex s ∷ []) e
+
+-- ---- pair by pair: the first n were read, and their bytes stand over zeros
+pub record Read (s rest w : List ℕ) (n : ℕ) : Type 0 where
+  pub few : n * 2 ≤ length s
+  pub left : rest ≡ drop (n * 2) s
+  pub digits : all_hex s ≡ all_hex rest
+  pub over : w ≡ bytes_named s n ++ replicate (most_named - n) 0
+
+pub none_read : (s : List ℕ) {rest : List ℕ} {n : ℕ} → rest ≡ s → n ≡ 0 → Read s rest (replicate most_named 0) n
+unfolding bytes_named
+none_read s e z = rw z record { few = omega arith; left = e; digits = ap all_hex (sym e); over = refl }
 
 named_length : (s : List ℕ) (n : ℕ) → length (bytes_named s n) ≡ n
 unfolding bytes_named
 named_length s zero = refl
 named_length s (suc n) = omega (arith, length-append (bytes_named s n) (byte_named s n ∷ []), named_length s n)
 
-pub one_named : (s : List ℕ) (i : ℕ) → i < most_named → {b : ℕ} → b ≡ byte_named s i
-    → set (bytes_named s i ++ replicate (most_named - i) 0) i b ≡ bytes_named s (i + 1) ++ replicate (most_named - (i + 1)) 0
-unfolding bytes_named
-one_named s i l {b} e =
-    let z : most_named - i ≡ suc (most_named - suc i) = omega arith in
-    rw (z, add-one, e, append_assoc) (set_at (bytes_named s i) 0 (replicate (most_named - suc i) 0) (byte_named s i) i (named_length s i))
+pair_is : (x : List ℕ) → length x ≡ 2 → x ≡ get_or x 0 0 ∷ get_or x 1 0 ∷ []
+pair_is [] h = absurd (omega arith)
+pair_is (a ∷ []) h = absurd (omega arith)
+pair_is (a ∷ b ∷ []) h = refl
+pair_is (a ∷ b ∷ c ∷ x) h = absurd (omega arith)
 
-pub none_named : (s : List ℕ) → replicate most_named 0 ≡ bytes_named s 0 ++ replicate (most_named - 0) 0
-unfolding bytes_named
-none_named s = refl
+module _ {s rest w : List ℕ} {n : ℕ} (p : Read s rest w n) (x more : List ℕ) (e : rest ≡ x ++ more) (two : length x ≡ 2) where
+  parted : rest ≡ get_or x 0 0 ∷ get_or x 1 0 ∷ more
+  parted = e ∙ ap (λ (y : List ℕ). y ++ more) (pair_is x two)
 
--- the byte that two digits name, by their own numbers
-pub byte_by : (s : List ℕ) (i : ℕ) {x y : ℕ} → x ≡ hex_digit (at s (i * 2)) → y ≡ hex_digit (at s (i * 2 + 1)) → x % 16 * 16 + y % 16 ≡ byte_named s i
-byte_by s i e f = rw (e, f)
+  pub room : n * 2 + 1 < length s
+  room = omega (arith, p.few, two, ap length p.left, ap length e, length-append x more, length-drop (n * 2) s)
 
--- ---- what a field names
+  pub below : length s / 2 ≤ most_named → n < most_named
+  below h = omega (arith, room)
 
-pub hex_length : (s : List ℕ) → is_hex s ≡ true → length s ≤ most_named * 2
-unfolding is_hex every
-hex_length s e = leb-true (length s) (most_named * 2) (both_left (leb (length s) (most_named * 2)) (every (eqb (length s % 2) 0 ∷ all_hex s ∷ [])) e)
+  pairs : get_or x 0 0 ∷ get_or x 1 0 ∷ more ≡ at s (n * 2) ∷ at s (n * 2 + 1) ∷ drop (n * 2 + 1 + 1) s
+  pairs =
+      let r = room in
+      sym parted ∙ p.left ∙ drop_more s (n * 2) 0 (omega arith) ∙ ap (λ (y : List ℕ). at s (n * 2) ∷ y) (drop_more s (n * 2 + 1) 0 r)
 
-pub no_bytes : (s : List ℕ) → is_hex s ≡ false → record { good = false; count = 0; bytes = replicate most_named 0 } ≡ hex_of s
-unfolding hex_of
-no_bytes s e = rw e
+  pub not_first : hex_digit (get_or x 0 0) ≡ None → all_hex s ≡ false
+  unfolding all_hex both
+  not_first q = p.digits ∙ ap all_hex parted ∙ rw q
 
-pub some_bytes : (s w : List ℕ) → is_hex s ≡ true → w ≡ bytes_named s (length s / 2) ++ replicate (most_named - length s / 2) 0
-    → record { good = true; count = length s / 2; bytes = w } ≡ hex_of s
-unfolding hex_of
-some_bytes s w e h = rw (e, h)
+  pub not_second : {a : ℕ} → hex_digit (get_or x 0 0) ≡ Some a → hex_digit (get_or x 1 0) ≡ None → all_hex s ≡ false
+  unfolding all_hex both
+  not_second qa q = p.digits ∙ ap all_hex parted ∙ rw (qa, q)
 
-pub named_fit : (s w : List ℕ) (n : ℕ) → w ≡ bytes_named s n ++ replicate (most_named - n) 0 → n ≤ length w
-named_fit s w n e = omega (arith, ap length e, length-append (bytes_named s n) (replicate (most_named - n) 0), named_length s n)
+  pub one_more : n < most_named → {a b : ℕ} → hex_digit (get_or x 0 0) ≡ Some a → hex_digit (get_or x 1 0) ≡ Some b → Read s more (set w n (a * 16 + b)) (n + 1)
+  unfolding all_hex both bytes_named
+  one_more l {a} {b} qa qb = record { few = let r = room in omega arith; left = after; digits = p.digits ∙ ap all_hex parted ∙ both_digits; over = written }
+    where
+      after : more ≡ drop ((n + 1) * 2) s
+      after = let h = pairs in let k : (n + 1) * 2 ≡ n * 2 + 1 + 1 = omega arith in rw k cc
+
+      both_digits : all_hex (get_or x 0 0 ∷ get_or x 1 0 ∷ more) ≡ all_hex more
+      both_digits = rw (qa, qb)
+
+      named : a * 16 + b ≡ byte_named s n
+      named =
+          let h = pairs in
+          let ha : get_or x 0 0 ≡ at s (n * 2) = cc in
+          let hb : get_or x 1 0 ≡ at s (n * 2 + 1) = cc in
+          rw (← ha, ← hb, qa, qb)
+
+      written : set w n (a * 16 + b) ≡ bytes_named s (n + 1) ++ replicate (most_named - (n + 1)) 0
+      written =
+          let z : most_named - n ≡ suc (most_named - suc n) = omega arith in
+          ap (λ (v : List ℕ). set v n (a * 16 + b)) p.over ∙ rw (z, add-one, named, append_assoc) (set_at (bytes_named s n) 0 (replicate (most_named - suc n) 0) (byte_named s n) n (named_length s n))
+
+-- less than a pair is left
+all_ended : (rest : List ℕ) → length rest ≡ 0 → all_hex rest ≡ true
+unfolding all_hex
+all_ended [] e = refl
+all_ended (x ∷ xs) e = absurd (omega arith)
+
+module _ {s rest w : List ℕ} {n : ℕ} (p : Read s rest w n) (none : length rest < 2) (h : length s / 2 ≤ most_named) (o : length s % 2 ≡ 0) where
+  all_read : n ≡ length s / 2
+  all_read = omega (arith, p.few, ap length p.left, length-drop (n * 2) s)
+
+  over_zeros : w ≡ bytes_named s (length s / 2) ++ replicate (most_named - length s / 2) 0
+  over_zeros = p.over ∙ ap (λ (k : ℕ). bytes_named s k ++ replicate (most_named - k) 0) all_read
+
+  named_first : (f : ℕ → List ℕ → List ℕ) → f (length s / 2) w ≡ f (length (bytes_named s (length s / 2))) (bytes_named s (length s / 2) ++ replicate (most_named - length s / 2) 0)
+  named_first f = ap (f (length s / 2)) over_zeros ∙ ap (λ (k : ℕ). f k (bytes_named s (length s / 2) ++ replicate (most_named - length s / 2) 0)) (sym (named_length s (length s / 2)))
+
+  pub bytes_read : Some (take (length s / 2) w) ≡ hex_of s
+  bytes_read = ap Some (named_first take ∙ take-append_seam (bytes_named s (length s / 2)) _) ∙ all_digits s h o (p.digits ∙ all_ended rest ended)
+    where
+      ended : length rest ≡ 0
+      ended = omega (arith, p.few, ap length p.left, length-drop (n * 2) s)
+
+  pub zeros_after : drop (length s / 2) w ≡ replicate (most_named - length s / 2) 0
+  zeros_after = named_first drop ∙ drop-append_seam (bytes_named s (length s / 2)) _

@@ -9,8 +9,9 @@ pub fn after_tab(line: &[u8]) -> &[u8]
     ensures { result.now ≡ the.after_tab line.now }
 {
     let long = field(line, 1).len();
-    if line.len() <= long {
-        return &line[0..0];
+    if long < line.len() {
+        &line[long + 1..]
+    } else {
+        &[]
     }
-    &line[long + 1..]
 }

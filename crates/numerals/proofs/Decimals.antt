@@ -2,7 +2,7 @@
 use mathlib.Core.Path.{◌≡◌, refl, ap, sym, ◌∙◌}
 use mathlib.Core.Bool.{Bool, true, false}
 use mathlib.Core.List.{List, [], ◌∷◌, ◌++◌, append_assoc}
-use Prim.Native.Nat.{ℕ, zero, suc, ◌+◌, ◌*◌, ◌/◌, ◌%◌, ◌^◌, ◌≤◌, ◌<◌}
+use Prim.Native.Nat.{ℕ, zero, suc, ◌+◌, ◌-◌, ◌*◌, ◌/◌, ◌%◌, ◌^◌, ◌≤◌, ◌<◌}
 use Prim.Native.Char.{code}
 use native.Mathlib.Nat.{pow-suc, mul_assoc}
 use native.Mathlib.Omega.{arith}
@@ -12,16 +12,31 @@ use borrow.Author.Tests.{ltb-true, lt-ltb, le-ltb}
 use Rattle.basis.specs.Choice.{pick}
 use Rattle.numerals.specs.Reading.{number, is_digit}
 use Rattle.numerals.specs.Writing.{digits, shortest, decimal}
-use Rattle.numerals.specs.Carried.{Added}
-use Rattle.numerals.specs.declared.Text.{Text}
 use Rattle.numerals.proofs.Powers.{few_digits}
 use Rattle.numerals.proofs.Stretches.{pass, stop}
-use Rattle.numerals.proofs.Texts.{named}
 
 pub length_digits : (k n : ℕ) → length (digits k n) ≡ k
 unfolding digits
 length_digits zero n = refl
 length_digits (suc k) n = length-append (digits k (n / 10)) ((code "0" + n % 10) ∷ []) ∙ omega (arith, length_digits k (n / 10))
+
+pub no_digit : (k n : ℕ) → k ≤ 0 → digits k n ≡ []
+unfolding digits
+no_digit zero n h = refl
+no_digit (suc k) n h = absurd (bad h)
+  where
+    bad : suc k ≤ 0 → ⊥
+    bad g = omega arith
+
+pub last_digit : (k n : ℕ) → 0 < k → digits k n ≡ digits (k - 1) (n / 10) ++ (code "0" + n % 10) ∷ []
+unfolding digits
+last_digit zero n h = absurd (bad h)
+  where
+    bad : 0 < 0 → ⊥
+    bad g = omega arith
+last_digit (suc k) n h =
+    let e : suc k - 1 ≡ k = omega arith in
+    rw e
 
 -- two digits, and four, cell by cell
 pub two_cells : (n : ℕ) → n < 100 → digits 2 n ≡ (code "0" + n / 10) ∷ (code "0" + n % 10) ∷ []
@@ -169,10 +184,6 @@ shortest_digits (suc k) n = go (ltb n 10) refl (shortest_digits k (n / 10))
 pub decimal_digits : (n : ℕ) → digits (length (decimal n)) n ≡ decimal n
 unfolding decimal
 decimal_digits n = shortest_digits (suc n) n
-
--- writing it
-pub wrote_all : {t r : Text} (n k : ℕ) → k ≡ length (decimal n) → Added t r (digits k n) k → Added t r (decimal n) (length (decimal n))
-wrote_all n k e a = named (sym (decimal_digits n) ∙ ap (λ (m : ℕ). digits m n) (sym e)) (sym (length_digits k n)) a
 
 pub decimal_longer : (n : ℕ) → 10 ≤ n → length (decimal n) ≡ length (decimal (n / 10)) + 1
 decimal_longer n h = ap length (decimal_more n h) ∙ length-append (decimal (n / 10)) ((code "0" + n % 10) ∷ [])

@@ -9,22 +9,22 @@ use native.Mathlib.Omega.{arith}
 use lib.Dec.{eqb, leb, lit≤}
 use lib.ListN.{length, get_or, drop}
 use borrow.Author.Tests.{le-leb, lt-leb, leb-true, leb-false, ne_eqb}
+use mir.Syntax.{w32}
+use mir.Val.{Fits}
 use Rattle.basis.specs.Choice.{pick}
 use Rattle.basis.proofs.Tests.{never}
 use Rattle.numerals.specs.declared.DigitsRead.{DigitsRead}
 use Rattle.numerals.specs.declared.Kept.{Kept}
-use Rattle.numerals.specs.declared.Text.{Text}
 use Rattle.numerals.specs.Reading.{is_digit, number, numeral_at, at, fraction_digits, fraction_of, fraction_at}
-use Rattle.numerals.specs.Carried.{Found, Added}
+use Rattle.numerals.specs.Carried.{Found}
 use Rattle.numerals.specs.Writing.{digits, kept_digits, fraction_text}
 use Rattle.numerals.proofs.Powers.{widened, filled, zeros_join}
 use Rattle.numerals.proofs.Stretches.{stretch_le, stretch_lt, stretch_digit}
 use Rattle.numerals.proofs.Decimals.{length_digits, digits_stretch}
 use Rattle.numerals.proofs.Stripping.{strip_le, strip_lt, given_back}
-use Rattle.numerals.proofs.Texts.{then, unchanged, named}
 
 -- what the reader keeps, with a cap that no fraction reaches
-module _ (s : List ℕ) (i : ℕ) {cap : ℕ} (ec : cap ≡ 1 * 10 ^ fraction_digits) (r : DigitsRead) (f : Found s i cap r) where
+module _ (s : List ℕ) (i : ℕ) {cap : ℕ} (ec : cap ≡ 10 ^ fraction_digits) (r : DigitsRead) (f : Found s i cap r) where
   count : r.end - i ≡ (numeral_at s i).count
   count = omega (arith, f.ends)
 
@@ -36,14 +36,18 @@ module _ (s : List ℕ) (i : ℕ) {cap : ℕ} (ec : cap ≡ 1 * 10 ^ fraction_di
     exact : r.value ≡ (numeral_at s i).value
     exact = omega (arith, f.capped, widened (numeral_at s i).value (numeral_at s i).count fraction_digits (omega (arith, count)) (stretch_lt s i))
 
-    pub ticks_fit : r.value * 10 ^ (fraction_digits - (r.end - i)) < 10 ^ fraction_digits
-    ticks_fit = rw (exact, count) (filled (numeral_at s i).value (numeral_at s i).count fraction_digits (omega (arith, count)) (stretch_lt s i))
+    module _ {p : ℕ} (ep : p ≡ 10 ^ (fraction_digits - (r.end - i))) where
+      ticks_lt : r.value * p < 10 ^ fraction_digits
+      ticks_lt = rw (ep, exact, count) (filled (numeral_at s i).value (numeral_at s i).count fraction_digits (omega (arith, count)) (stretch_lt s i))
 
-    pub some_ticks : {t : ℕ} → t ≡ r.value * 10 ^ (fraction_digits - (r.end - i)) → record { ticks = t; long = false; end = r.end } ≡ fraction_at s i
-    unfolding fraction_at
-    some_ticks {t} e =
-        let g : t ≡ (numeral_at s i).value * 10 ^ (fraction_digits - (numeral_at s i).count) = e ∙ rw (exact, count) in
-        rw (le-leb (numeral_at s i).count fraction_digits (omega (arith, count)), f.ends, g)
+      pub ticks_fit : Fits w32 (r.value * p)
+      ticks_fit = record { fits = omega (arith, ticks_lt) }
+
+      pub some_ticks : record { ticks = r.value * p; long = false; end = r.end } ≡ fraction_at s i
+      unfolding fraction_at
+      some_ticks =
+          let g : r.value * p ≡ (numeral_at s i).value * 10 ^ (fraction_digits - (numeral_at s i).count) = rw (ep, exact, count) in
+          rw (le-leb (numeral_at s i).count fraction_digits (omega (arith, count)), f.ends, g)
 
 -- where the digits end
 pub fraction_end : (s : List ℕ) (i : ℕ) → (fraction_at s i).end ≡ i + (numeral_at s i).count
@@ -111,16 +115,6 @@ fraction_back s i u rest h q e =
     let w : ℕ = (kept_digits fraction_digits u).value in
     let r : numeral_at s i ≡ record { value = w; count = k } = ap (number 0 0) e ∙ digits_stretch k w rest (strip_lt fraction_digits u h) q in
     rw (r, le-leb k fraction_digits (strip_le fraction_digits u), given_back fraction_digits u h, kept_length u)
-
--- writing it
-pub wrote_none : {t : Text} (u : ℕ) → u ≡ 0 → Added t t (fraction_text u) (length (fraction_text u))
-wrote_none {t} u e = named (no_fraction u e) refl (unchanged t)
-
-pub wrote_some : {t q r : Text} {k : Kept} (u : ℕ) → (u ≡ 0 → ⊥) → k ≡ kept_digits fraction_digits u → Added t q (code "." ∷ []) 1 → Added q r (digits k.count k.value) k.count
-    → Added t r (fraction_text u) (length (fraction_text u))
-wrote_some {t} {q} {r} {k} u e ek a b =
-    let x : fraction_text u ≡ code "." ∷ digits k.count k.value = a_fraction u e ∙ ap (λ (y : Kept). (code ".") ∷ digits y.count y.value) (sym ek) in
-    named x (omega (arith, length_digits k.count k.value)) (then a b)
 
 pub strip_length : {k : Kept} (u : ℕ) → (u ≡ 0 → ⊥) → k ≡ kept_digits fraction_digits u → length (fraction_text u) ≡ 1 + k.count
 strip_length {k} u e ek = omega (arith, ap length (a_fraction u e), kept_length u, ap (λ (q : Kept). q.count) ek)

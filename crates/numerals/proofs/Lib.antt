@@ -4,7 +4,6 @@ pub mod Stretches
 pub mod Passed
 pub mod Passing
 pub mod Decimals
-pub mod Filling
 pub mod Stripping
 pub mod Texts
 pub mod Fractions

@@ -56,18 +56,25 @@ strip_some k n nz h = go (kept_digits k n).count (kept_digits k n).value (strip_
         absurd (nz (omega arith))
     go (suc c) w a b = omega arith
 
-pub strip_none : (n k : ℕ) → k ≡ 0 → record { value = n; count = 0 } ≡ kept_digits k n
+pub strip_none : (n k : ℕ) → k ≤ 0 → record { value = n; count = k } ≡ kept_digits k n
 unfolding kept_digits
-strip_none n k e = rw e
+strip_none n zero h = refl
+strip_none n (suc k) h = absurd (bad h)
+  where
+    bad : suc k ≤ 0 → ⊥
+    bad q = omega arith
 
-pub strip_zero : (n k : ℕ) → (k ≡ 0 → ⊥) → n % 10 ≡ 0 → kept_digits (k - 1) (n / 10) ≡ kept_digits k n
+pub strip_zero : (n k : ℕ) → 0 < k → n % 10 ≡ 0 → kept_digits (k - 1) (n / 10) ≡ kept_digits k n
 unfolding kept_digits
-strip_zero n zero h e = absurd (h refl)
+strip_zero n zero h e = absurd (bad h)
+  where
+    bad : 0 < 0 → ⊥
+    bad q = omega arith
 strip_zero n (suc k) h e =
     let d : suc k - 1 ≡ k = omega arith in
     rw (d, eq-eqb (n % 10) 0 e)
 
-pub strip_kept : (n k : ℕ) → (k ≡ 0 → ⊥) → (n % 10 ≡ 0 → ⊥) → record { value = n; count = k } ≡ kept_digits k n
+pub strip_kept : (n k : ℕ) → (n % 10 ≡ 0 → ⊥) → record { value = n; count = k } ≡ kept_digits k n
 unfolding kept_digits
-strip_kept n zero h e = absurd (h refl)
-strip_kept n (suc k) h e = rw (ne_eqb (n % 10) 0 e)
+strip_kept n zero e = refl
+strip_kept n (suc k) e = rw (ne_eqb (n % 10) 0 e)

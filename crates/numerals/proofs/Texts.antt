@@ -1,24 +1,18 @@
--- Text that grows: what is added after what was added, nothing added, and the same text under another name; and how long a
--- text that is held can be.
-use mathlib.Core.Path.{◌≡◌, ap, sym, ◌∙◌}
-use mathlib.Core.List.{List, [], ◌++◌, append_assoc, append-nil}
-use Prim.Native.Nat.{ℕ, ◌+◌, ◌≤◌}
+-- Text that grows: after a byte more, zeros still stand behind it.
+use mathlib.Core.Path.{◌≡◌, ap}
+use mathlib.Core.List.{List}
+use Prim.Native.Nat.{ℕ, ◌+◌, ◌-◌, ◌≤◌, ◌<◌}
 use native.Mathlib.Omega.{arith}
-use lib.ListN.{length, length-take}
-use Rattle.numerals.specs.declared.Text.{Text}
-use Rattle.numerals.specs.Carried.{text_in, Holds, Added}
+use lib.ListN.{length, take, drop, set, replicate}
+use lib.Seq.{drop-drop, length-take-le}
+use Rattle.std.proofs.lemmas.List.{drop-set-lt, drop-replicate}
 
-pub then : {t r q : Text} {v w : List ℕ} {m n : ℕ} → Added t r v m → Added r q w n → Added t q (v ++ w) (m + n)
-then {t} {r} {q} {v} {w} a b =
-    record { text = b.text ∙ ap (λ (l : List ℕ). l ++ w) a.text ∙ append_assoc (text_in t) v w; more = omega (arith, a.more, b.more) }
+pub one_byte_more : {room len : ℕ} (bytes text : List ℕ) (b : ℕ) → take len bytes ≡ text → length text < room → length bytes ≡ room
+    → (len ≤ room) × (drop len bytes ≡ replicate (room - len) 0) → (len + 1 ≤ room) × (drop (len + 1) (set bytes len b) ≡ replicate (room - (len + 1)) 0)
+one_byte_more {room} {len} bytes text b e h l v = (omega (arith, ap length e, taken), rw (drop-set-lt (len + 1) bytes len b (omega arith), ← drop-drop 1 len bytes, v.1, drop-replicate {X = ℕ} 1 (room - len) 0, m))
+  where
+    taken : length (take len bytes) ≡ len
+    taken = length-take-le len bytes (omega arith)
 
-pub unchanged : (t : Text) → Added t t [] 0
-unchanged t = record { text = sym (append-nil (text_in t)); more = omega arith }
-
-pub named : {t r : Text} {w x : List ℕ} {n : ℕ} → x ≡ w → n ≡ length w → Added t r w n → Added t r x (length x)
-named {t} {r} {w} {x} {n} e l a =
-    record { text = a.text ∙ ap (λ (q : List ℕ). text_in t ++ q) (sym e); more = omega (arith, a.more, ap length e) }
-
--- no longer than its array
-pub holds_fits : {bytes w : List ℕ} {len : ℕ} → Holds bytes len w → len ≤ length bytes
-holds_fits {bytes} {w} {len} h = omega (arith, length-take len bytes, ap length h.text, h.size)
+    m : room - len - 1 ≡ room - (len + 1)
+    m = omega arith

@@ -1,17 +1,21 @@
 // Digits read and written, and the text that a value is written into.
 #![tactic(auto)]
 
-ghost use Rattle.std.specs.Prelude.{◌≡◌, [], ◌∷◌, ◌+◌, ◌*◌, ◌≤◌, ◌<◌, ◌^◌, min, length};
+ghost use Rattle.std.specs.Prelude.{◌≡◌, ℕ, List, [], ◌∷◌, ◌++◌, ◌+◌, ◌-◌, ◌*◌, ◌≤◌, ◌<◌, ◌^◌, min, length, take, drop, replicate};
 ghost use Rattle.numerals.specs.Reading as the;
-ghost use Rattle.numerals.specs.Writing.{longest};
-ghost use Rattle.numerals.specs.Carried.{Holds, Added, Found};
+ghost use Rattle.numerals.specs.Carried.{Found};
 ghost use Rattle.numerals.specs.Writing as its;
+
+use std::marker::Model;
 
 // A fraction has at most so many digits.
 pub const FRACTION_DIGITS: usize = 9;
 
-// The longest text has so many bytes.
+// The longest text of a value has so many bytes.
 pub const LONGEST: usize = 35;
+
+// The text of a value.
+pub type ValueText = Text<LONGEST>;
 
 // A stretch of digits: where it ends, and its number as far as a cap.
 #[derive(Clone, Copy)]
@@ -35,27 +39,33 @@ pub struct Kept {
     pub count: usize,
 }
 
-// Text that grows, in an array that holds the longest.
+// Text that grows, with room for N bytes.
 #[derive(Drop)]
-pub struct Text {
-    pub bytes: [u8; LONGEST],
-    pub len: usize,
+pub struct Text<const N: usize> {
+    bytes: [u8; N],
+    len: usize,
+}
+
+// Clauses see the bytes of the text. After them are zeros.
+impl<const N: usize> Model for Text<N> {
+    ghost Value = { List ℕ };
+
+    ghost view = { λ t. take t.len t.bytes };
+
+    ghost invariant = { λ t. (t.len ≤ N) × (drop t.len t.bytes ≡ replicate (N - t.len) 0) };
 }
 
 // The byte at an offset, 0 past the end.
 pub fn byte(s: &[u8], at: usize) -> u8
     ensures { result ≡ the.at s.now at }
 {
-    if at < s.len() { s[at] } else { 0 }
+    s.get(at).copied().unwrap_or(0)
 }
 
 pub fn digit(b: u8) -> bool
     ensures { result ≡ the.is_digit b }
 {
-    if b < b'0' {
-        return false;
-    }
-    b <= b'9'
+    b.is_ascii_digit()
 }
 
 // v with one more digit, as far as the cap.
@@ -63,8 +73,7 @@ fn longer(v: u64, d: u8, cap: u64) -> u64
     requires { (v ≤ cap) × (d ≤ 9) × (cap * 10 + 9 < 2 ^ 64) }
     ensures { result ≡ min cap (v * 10 + d) }
 {
-    let w = v * 10 + d as u64;
-    if w < cap { w } else { cap }
+    (v * 10 + d as u64).min(cap)
 }
 
 // The stretch of digits from an offset on. However long it is, its number stops at the cap and never wraps.
@@ -72,28 +81,16 @@ pub fn digits(s: &[u8], at: usize, cap: u64) -> DigitsRead
     requires { (at ≤ length s.now) × (cap * 10 + 9 < 2 ^ 64) }
     ensures { Found s.now at cap result }
 {
-    let mut i = at;
-    let mut v: u64 = 0;
-    while i < s.len() {
-        let b = s[i];
+    let mut end = at;
+    let mut value = 0;
+    for &b in &s[at..] {
         if !digit(b) {
-            return DigitsRead { end: i, value: v };
+            break;
         }
-        v = longer(v, b - b'0', cap);
-        i += 1;
+        value = longer(value, b - b'0', cap);
+        end += 1;
     }
-    DigitsRead { end: i, value: v }
-}
-
-// v with k zeros after it.
-pub fn raised(v: u64, k: usize) -> u64
-    requires { v * 10 ^ k < 2 ^ 64 }
-    ensures { result ≡ v * 10 ^ k }
-{
-    if k == 0 {
-        return v;
-    }
-    raised(v * 10, k - 1)
+    DigitsRead { end, value }
 }
 
 // The digits after a point, as ticks.
@@ -101,8 +98,7 @@ pub fn fraction_at(s: &[u8], at: usize) -> Fraction
     requires { at ≤ length s.now }
     ensures { result ≡ the.fraction_at s.now at }
 {
-    let n = digits(s, at, raised(1, FRACTION_DIGITS));
-    let end = n.end;
+    let DigitsRead { end, value } = digits(s, at, 10u64.pow(FRACTION_DIGITS as u32));
     let count = end - at;
     if FRACTION_DIGITS < count {
         return Fraction {
@@ -112,93 +108,102 @@ pub fn fraction_at(s: &[u8], at: usize) -> Fraction
         };
     }
     Fraction {
-        ticks: raised(n.value, FRACTION_DIGITS - count) as u32,
+        ticks: (value * 10u64.pow((FRACTION_DIGITS - count) as u32)) as u32,
         long: false,
         end,
     }
 }
 
-impl Text {
-    pub fn new() -> Text
-        ensures { Holds result.bytes result.len [] }
+impl<const N: usize> Text<N> {
+    pub fn new() -> Self
+        ensures { result ≡ [] }
     {
         Text {
-            bytes: [0u8; LONGEST],
+            bytes: [0; N],
             len: 0,
         }
     }
 
-    pub fn push(mut self, b: u8) -> Text
-        requires { self.len < longest }
-        ensures { Added self result (b ∷ []) 1 }
+    pub fn from_slice(s: &[u8]) -> Self
+        requires { length s.now ≤ N }
+        ensures { result ≡ s.now }
     {
-        let at = self.len;
-        self.bytes[at] = b;
-        self.len = at + 1;
-        self
+        let mut text = Text::new();
+        text.push_all(s);
+        text
     }
-}
 
-// k digits of n, with leading zeros: the last one first, each where it stands.
-pub fn fixed(t: Text, n: u64, k: usize) -> Text
-    requires { t.len + k ≤ longest }
-    ensures { Added t result (its.digits k n) k }
-{
-    let mut u = t;
-    let from = u.len;
-    let mut left = n;
-    let mut i = k;
-    while 0 < i {
-        i -= 1;
-        u.bytes[from + i] = b'0' + (left % 10) as u8;
-        left = left / 10;
+    pub fn as_slice(&self) -> &[u8]
+        ensures value { result.now ≡ self.now }
+        ensures within { length self.now ≤ N }
+    {
+        &self.bytes[..self.len]
     }
-    u.len = from + k;
-    u
+
+    pub fn push(&mut self, b: u8)
+        requires { length self.old < N }
+        ensures { self.new ≡ self.old ++ b ∷ [] }
+    {
+        self.bytes[self.len] = b;
+        self.len += 1;
+    }
+
+    pub fn push_all(&mut self, s: &[u8])
+        requires { length self.old + length s.now ≤ N }
+        ensures { self.new ≡ self.old ++ s.now }
+    {
+        for &b in s {
+            self.push(b);
+        }
+    }
+
+    // The last k digits of n, with leading zeros.
+    pub fn push_digits(&mut self, n: u64, k: usize)
+        requires { length self.old + k ≤ N }
+        ensures { self.new ≡ self.old ++ its.digits k n }
+    {
+        if 0 < k {
+            self.push_digits(n / 10, k - 1);
+            self.push(b'0' + (n % 10) as u8);
+        }
+    }
+
+    // n without leading zeros.
+    pub fn push_decimal(&mut self, n: u64)
+        requires { length self.old + length (its.decimal n) ≤ N }
+        ensures { self.new ≡ self.old ++ its.decimal n }
+    {
+        self.push_digits(n, width(n));
+    }
+
+    // A point and the ticks of a fraction without final zeros; nothing for no ticks.
+    pub fn push_fraction(&mut self, ticks: u64)
+        requires { length self.old + length (its.fraction_text ticks) ≤ N }
+        ensures { self.new ≡ self.old ++ its.fraction_text ticks }
+    {
+        if ticks == 0 {
+            return;
+        }
+        let kept = strip(ticks, FRACTION_DIGITS);
+        self.push(b'.');
+        self.push_digits(kept.value, kept.count);
+    }
 }
 
 // How many digits n has without leading zeros.
-pub fn width(n: u64) -> usize
+fn width(n: u64) -> usize
     ensures { result ≡ length (its.decimal n) }
 {
-    let mut left = n;
-    let mut k = 1;
-    while 10 <= left {
-        left = left / 10;
-        k += 1;
-    }
-    k
-}
-
-// n without leading zeros.
-pub fn decimal(t: Text, n: u64) -> Text
-    requires { t.len + length (its.decimal n) ≤ longest }
-    ensures { Added t result (its.decimal n) (length (its.decimal n)) }
-{
-    fixed(t, n, width(n))
+    if n < 10 { 1 } else { width(n / 10) + 1 }
 }
 
 // A number of k digits without its final zeros.
-pub fn strip(n: u64, k: usize) -> Kept
+fn strip(n: u64, k: usize) -> Kept
     ensures { result ≡ its.kept_digits k n }
 {
-    if k == 0 {
-        return Kept { value: n, count: 0 };
+    if 0 < k && n % 10 == 0 {
+        strip(n / 10, k - 1)
+    } else {
+        Kept { value: n, count: k }
     }
-    if n % 10 == 0 {
-        return strip(n / 10, k - 1);
-    }
-    Kept { value: n, count: k }
-}
-
-// A point and the ticks of a fraction without final zeros; nothing for no ticks.
-pub fn with_fraction(t: Text, ticks: u64) -> Text
-    requires { t.len + length (its.fraction_text ticks) ≤ longest }
-    ensures { Added t result (its.fraction_text ticks) (length (its.fraction_text ticks)) }
-{
-    if ticks == 0 {
-        return t;
-    }
-    let k = strip(ticks, FRACTION_DIGITS);
-    fixed(t.push(b'.'), k.value, k.count)
 }

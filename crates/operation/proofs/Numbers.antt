@@ -1,5 +1,6 @@
 -- The numbers that each call refuses with: comparing, casting and removing a zone 16 and 9; adjustment 16, 9, 5 and 4.
 -- (Those of plus, minus and times are in crate `operation_arithmetic`.)
+use Rattle.std.specs.Prelude.{None, Option, Some}
 use mathlib.Core.Path.{◌≡◌, refl}
 use mathlib.Core.Bool.{true}
 use mathlib.Core.List.{List, [], ◌∷◌}
@@ -12,8 +13,6 @@ use Rattle.value.specs.Rows.{same_kind}
 use Rattle.value.specs.Kinds.{kind_of, ok_value}
 use Rattle.value_instants.specs.Ticks.{local_of, instant_at}
 use Rattle.value.specs.declared.Offset.{Offset}
-use Rattle.value.specs.declared.Zone.{Zone}
-use Rattle.value.specs.declared.Zone.TheVariants.{Absent, At}
 use Rattle.value.specs.declared.DateTime.{DateTime}
 use Rattle.value.specs.declared.Kind.{Kind}
 use Rattle.value.specs.declared.Value.{Value}
@@ -68,10 +67,10 @@ unzone_refuses a r e =
     (only_either kind_numbers (ok_value a) (without_zone a) (refuses outside) (without_numbers a) refl)
     e
 
-adjusted_numbers : (k : Kind) (d : DateTime) (x : Zone) (z : Offset) → only adjust_numbers (adjusted_from k d x z) ≡ true
+adjusted_numbers : (k : Kind) (d : DateTime) (x : Option Offset) (z : Offset) → only adjust_numbers (adjusted_from k d x z) ≡ true
 unfolding adjusted_from
-adjusted_numbers k d Absent z = refl
-adjusted_numbers k d (At w) z = placed_numbers adjust_numbers refl k (local_at (instant_at (local_of d) w) z) (At z)
+adjusted_numbers k d None z = refl
+adjusted_numbers k d (Some w) z = placed_numbers adjust_numbers refl k (local_at (instant_at (local_of d) w) z) (Some z)
 
 moment_numbers : (k : Kind) (d : DateTime) (y : Value) → only adjust_numbers (moment_to k d y) ≡ true
 unfolding moment_to

@@ -1,5 +1,6 @@
 -- A kind with a clock and no date, as a time, is never refused for its result: a sum or a difference goes round the
 -- day, and an adjusted time stays near its template's day, which is far from either end of the years.
+use Rattle.std.specs.Prelude.{Some}
 use mathlib.Core.Path.{◌≡◌, refl, ap, sym, ◌∙◌}
 use mathlib.Core.Bool.{Bool, true, false}
 use Prim.Native.Nat.{ℕ, ◌+◌, ◌-◌, ◌*◌, ◌/◌, ◌≤◌, ◌<◌}
@@ -22,7 +23,6 @@ use Rattle.value.specs.Rows.{layout_of, template_of, is_dated, is_clocked, kept}
 use Rattle.value.specs.Kinds.{ok_value}
 use Rattle.value_instants.specs.Ticks.{local_of, at_local, in_years, instant_at, east, west}
 use Rattle.value.specs.declared.Offset.{Offset}
-use Rattle.value.specs.declared.Zone.TheVariants.{At}
 use Rattle.value.specs.declared.DateTime.{DateTime}
 use Rattle.value.specs.declared.DayTime as D
 use Rattle.value.specs.declared.Kind.{Kind}
@@ -134,10 +134,10 @@ module _ (n u e w a b : ℕ) (hu : u ≤ max_clock) (he : e ≤ max_zone) (hw : 
   two_days_around : (n ≤ moved_time / day_ticks + 2) × (moved_time / day_ticks ≤ n + 2)
   two_days_around = (omega arith, omega arith)
 
-pub time_adjust_given : (k : Kind) (d : DateTime) (t : D.DayTime) (w : Offset) → is_dated k ≡ false → is_clocked k ≡ true → d.zone ≡ At w
+pub time_adjust_given : (k : Kind) (d : DateTime) (t : D.DayTime) (w : Offset) → is_dated k ≡ false → is_clocked k ≡ true → d.zone ≡ Some w
     → ok_value (VV.Moment k d) ≡ true → ok_value (VV.DayTime t) ≡ true → is_zone t ≡ true
     → adjust_of (VV.Moment k d) (VV.DayTime t)
-    ≡ gives (VV.Moment k (kept k (at_local (local_at (instant_at (local_of d) w) (zone_of t)) (At (zone_of t)))))
+    ≡ gives (VV.Moment k (kept k (at_local (local_at (instant_at (local_of d) w) (zone_of t)) (Some (zone_of t)))))
 unfolding adjust_of value_to moment_to adjusted_from
 time_adjust_given k d t w p c z g h i =
     let q : ok_offset (zone_of t) ≡ true = zone_within t h i in
@@ -151,4 +151,4 @@ time_adjust_given k d t w p c z g h i =
     = ap (λ (x : ℕ). local_at (instant_at x w) (zone_of t)) (time_local k d p c g) in
     let y : in_years l ≡ true = ap in_years s ∙ near_reference k _ r.0 r.1 in
     (λ j. pick (b j) (adjusted_to k d t) (refuses outside)) ∙ (λ j. pick (i j) (adjusted_from k d (z j) (zone_of t)) (refuses bad_zone))
-    ∙ placed_gives k l (At (zone_of t)) y
+    ∙ placed_gives k l (Some (zone_of t)) y

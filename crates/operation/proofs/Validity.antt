@@ -1,4 +1,5 @@
 -- Every value that a cast or an adjustment answers is within its kind's bounds.
+use Rattle.std.specs.Prelude.{None, Option, Some}
 use mathlib.Core.Path.{◌≡◌, refl}
 use mathlib.Core.Bool.{true}
 use Rattle.basis.specs.Choice.{pick, both}
@@ -10,8 +11,6 @@ use Rattle.value.specs.Kinds.{kind_of, ok_value}
 use Rattle.value.specs.Carried.{valid}
 use Rattle.value_instants.specs.Ticks.{local_of, instant_at}
 use Rattle.value.specs.declared.Offset.{Offset}
-use Rattle.value.specs.declared.Zone.{Zone}
-use Rattle.value.specs.declared.Zone.TheVariants.{Absent, At}
 use Rattle.value.specs.declared.DateTime.{DateTime}
 use Rattle.value.specs.declared.Kind.{Kind}
 use Rattle.value.specs.declared.Value.{Value}
@@ -35,21 +34,21 @@ cast_valid a k =
     (λ g. valid_test (casts_to (kind_of a) k) (cast_to k a) wrong_kind (λ c. cast_to_valid a k g c)) refl
 
 -- adjustment
-zoned_record : (d : DateTime) (z : Zone) → ok_date_time d ≡ true → ok_zone z ≡ true → ok_date_time (with_zone d z) ≡ true
+zoned_record : (d : DateTime) (z : Option Offset) → ok_date_time d ≡ true → ok_zone z ≡ true → ok_date_time (with_zone d z) ≡ true
 zoned_record d z g h =
     let r = good d g in
     record_ok (with_zone d z) (record { day = r.day; time = time_part_kept (date_in d) d z r.time; zone = h })
 
-zoned_valid : (k : Kind) (d : DateTime) (z : Zone) → ok_value (Moment k d) ≡ true → ok_zone z ≡ true → ok_value (Moment k (with_zone d z)) ≡ true
+zoned_valid : (k : Kind) (d : DateTime) (z : Option Offset) → ok_value (Moment k d) ≡ true → ok_zone z ≡ true → ok_value (Moment k (with_zone d z)) ≡ true
 zoned_valid k d z g h =
     let own = moment_good (Moment k d) g k d refl in
     moment_ok k (with_zone d z) own.0 (zoned_record d z own.1 h) (of_kind_zoned k d z own.2)
 
-adjusted_valid : (k : Kind) (d : DateTime) (x : Zone) (z : Offset) → ok_value (Moment k d) ≡ true → ok_offset z ≡ true
+adjusted_valid : (k : Kind) (d : DateTime) (x : Option Offset) (z : Offset) → ok_value (Moment k d) ≡ true → ok_offset z ≡ true
     → valid (adjusted_from k d x z) ≡ true
 unfolding adjusted_from ok_zone
-adjusted_valid k d Absent z g h = zoned_valid k d (At z) g h
-adjusted_valid k d (At w) z g h = placed_valid k (local_at (instant_at (local_of d) w) z) (At z) (moment_good (Moment k d) g k d refl).0 h
+adjusted_valid k d None z g h = zoned_valid k d (Some z) g h
+adjusted_valid k d (Some w) z g h = placed_valid k (local_at (instant_at (local_of d) w) z) (Some z) (moment_good (Moment k d) g k d refl).0 h
 
 moment_to_valid : (k : Kind) (d : DateTime) (y : Value) → ok_value (Moment k d) ≡ true → ok_value y ≡ true
     → valid (moment_to k d y) ≡ true
@@ -74,7 +73,7 @@ adjust_valid a z =
 
 without_valid : (x : Value) → ok_value x ≡ true → valid (without_zone x) ≡ true
 unfolding without_zone ok_zone
-without_valid (Moment k d) g = zoned_valid k d Absent g refl
+without_valid (Moment k d) g = zoned_valid k d None g refl
 without_valid (DayTime t) g = refl
 without_valid (YearMonth m) g = refl
 

@@ -12,28 +12,28 @@ ghost use Rattle.operation_casting.specs.Casts as casts;
 ghost use Rattle.operation_adjusting.specs.Adjustment as adjustment;
 
 use operation_arithmetic::{products, sums};
-use operation_ordering::Compared;
 use operation_quantities::results;
-use value::{Kind, Offset, Outcome, Refusal, Value, valid};
+use std::cmp::Ordering;
+use value::{Kind, Offset, Refusal, Value, valid};
 use value_instants::ticks;
 
-pub fn compare(a: Value, b: Value) -> Compared
+pub fn compare(a: Value, b: Value) -> Result<Ordering, Refusal>
     ensures { order.compared_meaning result ≡ order.order_in utc a b }
 {
     operation_ordering::compare_in(a, b, ticks::utc())
 }
 
 // The same in any zone; one beyond its bounds is 16.
-pub fn compare_for(a: Value, b: Value, zone: Offset) -> Compared
+pub fn compare_for(a: Value, b: Value, zone: Offset) -> Result<Ordering, Refusal>
     ensures { order.compared_meaning result ≡ order.order_for zone a b }
 {
     if !valid::offset_ok(zone) {
-        return Compared::Refused(Refusal::numbered(Refusal::OUTSIDE));
+        return Err(Refusal::numbered(Refusal::OUTSIDE));
     }
     operation_ordering::compare_in(a, b, zone)
 }
 
-pub fn plus(a: Value, b: Value) -> Outcome
+pub fn plus(a: Value, b: Value) -> Result<Value, Refusal>
     ensures { meaning result ≡ sums.plus_of a b }
 {
     if !valid::value_ok(a) {
@@ -45,14 +45,14 @@ pub fn plus(a: Value, b: Value) -> Outcome
     sums::sum(a, b)
 }
 
-pub fn minus(a: Value, b: Value) -> Outcome
+pub fn minus(a: Value, b: Value) -> Result<Value, Refusal>
     ensures { meaning result ≡ sums.minus_in utc a b }
 {
     sums::minus_in(a, b, ticks::utc())
 }
 
 // The same in any zone; one beyond its bounds is 16.
-pub fn minus_for(a: Value, b: Value, zone: Offset) -> Outcome
+pub fn minus_for(a: Value, b: Value, zone: Offset) -> Result<Value, Refusal>
     ensures { meaning result ≡ sums.minus_for zone a b }
 {
     if !valid::offset_ok(zone) {
@@ -62,7 +62,7 @@ pub fn minus_for(a: Value, b: Value, zone: Offset) -> Outcome
 }
 
 // The whole number is a sign and a magnitude.
-pub fn times(a: Value, negative: bool, n: u32) -> Outcome
+pub fn times(a: Value, negative: bool, n: u32) -> Result<Value, Refusal>
     ensures { meaning result ≡ products.times_of a negative n }
 {
     if !valid::value_ok(a) {
@@ -74,7 +74,7 @@ pub fn times(a: Value, negative: bool, n: u32) -> Outcome
     products::product(a, negative, n)
 }
 
-pub fn cast(a: Value, kind: Kind) -> Outcome
+pub fn cast(a: Value, kind: Kind) -> Result<Value, Refusal>
     ensures { meaning result ≡ casts.cast_of a kind }
 {
     if !valid::value_ok(a) {
@@ -83,11 +83,11 @@ pub fn cast(a: Value, kind: Kind) -> Outcome
     if !operation_casting::casts_to(a.kind(), kind) {
         return results::refused(Refusal::WRONG_KIND);
     }
-    Outcome::Is(operation_casting::cast_to(kind, a))
+    Ok(operation_casting::cast_to(kind, a))
 }
 
 // To a zone given as a dayTimeDuration.
-pub fn adjust(a: Value, zone: Value) -> Outcome
+pub fn adjust(a: Value, zone: Value) -> Result<Value, Refusal>
     ensures { meaning result ≡ adjustment.adjust_of a zone }
 {
     if !valid::value_ok(a) {
@@ -100,7 +100,7 @@ pub fn adjust(a: Value, zone: Value) -> Outcome
 }
 
 // The zone removed; local fields stay.
-pub fn unzone(a: Value) -> Outcome
+pub fn unzone(a: Value) -> Result<Value, Refusal>
     ensures { meaning result ≡ adjustment.unzone_of a }
 {
     if !valid::value_ok(a) {

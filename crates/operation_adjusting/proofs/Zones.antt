@@ -1,4 +1,5 @@
 -- The zone that a dayTimeDuration gives is within the bounds, and the local time of an instant there.
+use Rattle.std.specs.Prelude.{None, Option, Some}
 use mathlib.Core.Path.{◌≡◌, refl, ap, sym, ◌∙◌}
 use mathlib.Core.Bool.{Bool, true, false}
 use Prim.Native.Nat.{ℕ, ◌+◌, ◌-◌, ◌*◌, ◌/◌, ◌%◌, ◌≤◌, ◌<◌, ◌^◌}
@@ -15,8 +16,6 @@ use Rattle.value_instants.specs.Ticks.{local_of, instant_at}
 use Rattle.value.specs.Carried.{ticks_of, span_of}
 use Rattle.value.specs.declared.Offset.{Offset}
 use Rattle.value.specs.declared.Offset.TheVariants.{East, West}
-use Rattle.value.specs.declared.Zone.{Zone}
-use Rattle.value.specs.declared.Zone.TheVariants.{Absent, At}
 use Rattle.value.specs.declared.DateTime.{DateTime}
 use Rattle.value.specs.declared.DayTime as D
 use Rattle.value.specs.declared.Kind.{Kind}
@@ -74,7 +73,7 @@ zone_good false m g h w = le-leb _ _ h
 pub zone_ok : (z : D.DayTime) → ok_day_time z ≡ true → is_zone z ≡ true → ok_offset (zone_of z) ≡ true
 zone_ok z g e = zone_good z.negative (ticks_in z) (day_time_signed z g) (zone_minutes_lem z e) (zone_whole z e)
 
-pub own_zone : (d : DateTime) (w : Offset) → ok_date_time d ≡ true → d.zone ≡ At w → ok_offset w ≡ true
+pub own_zone : (d : DateTime) (w : Offset) → ok_date_time d ≡ true → d.zone ≡ Some w → ok_offset w ≡ true
 unfolding ok_zone
 own_zone d w g e = ap ok_zone (sym e) ∙ (good d g).zone
 
@@ -112,10 +111,10 @@ pub local_span : (l s : Span) (n : ℕ) (o : Offset) → l ≡ span_of n → s �
 local_span l s n o e f = f ∙ ap (λ (x : ℕ). span_of (local_at x o)) (ticks_of_lem l n e)
 
 -- one adjustment, by the zone that the record has
-pub adjusted_none : (k : Kind) (d r : DateTime) (x : Zone) (z : Offset) → x ≡ Absent → r ≡ with_zone d (At z) → gives (Moment k r) ≡ adjusted_from k d x z
+pub adjusted_none : (k : Kind) (d r : DateTime) (x : Option Offset) (z : Offset) → x ≡ None → r ≡ with_zone d (Some z) → gives (Moment k r) ≡ adjusted_from k d x z
 unfolding adjusted_from
 adjusted_none k d r x z e f = (λ i. gives (Moment k (f i))) ∙ (λ i. adjusted_from k d (sym e i) z)
 
-pub adjusted_own : (k : Kind) (d : DateTime) (x : Zone) (w z : Offset) → x ≡ At w → at_ticks k (local_at (instant_at (local_of d) w) z) (At z) ≡ adjusted_from k d x z
+pub adjusted_own : (k : Kind) (d : DateTime) (x : Option Offset) (w z : Offset) → x ≡ Some w → at_ticks k (local_at (instant_at (local_of d) w) z) (Some z) ≡ adjusted_from k d x z
 unfolding adjusted_from
 adjusted_own k d x w z e = λ i. adjusted_from k d (sym e i) z

@@ -1,7 +1,7 @@
 -- Document 01, "Operations", adjustment to a zone Z given as a dayTimeDuration: a value without zone gets Z; one with a
 -- zone keeps its instant (a date from its 00:00:00, then its date; a time on 1972-12-31, then its time). With no Z, the
 -- zone is removed and local fields stay.
-use Rattle.std.specs.Prelude.{Bool, ℕ, ◌+◌, ◌-◌, ◌*◌, ◌/◌, ◌%◌, eqb, leb}
+use Rattle.std.specs.Prelude.{Bool, ℕ, ◌+◌, ◌-◌, ◌*◌, ◌/◌, ◌%◌, eqb, leb, None, Option, Some}
 use Rattle.basis.specs.Choice.{pick, both}
 use Rattle.basis.specs.Answer.{Answer, gives, refuses}
 use Rattle.value.specs.Bounds.{max_zone, minute_ticks}
@@ -12,8 +12,6 @@ use Rattle.value.specs.Kinds.{ok_value}
 use Rattle.value_instants.specs.Ticks.{local_of, instant_at, east, west}
 use Rattle.value.specs.declared.Offset.{Offset}
 use Rattle.value.specs.declared.Offset.TheVariants.{East, West}
-use Rattle.value.specs.declared.Zone.{Zone}
-use Rattle.value.specs.declared.Zone.TheVariants.{Absent, At}
 use Rattle.value.specs.declared.DateTime.{DateTime}
 use Rattle.value.specs.declared.DayTime as D
 use Rattle.value.specs.declared.Kind.{Kind}
@@ -33,12 +31,12 @@ abbrev pub local_at : ℕ → Offset → ℕ
 local_at i o = i + east o * minute_ticks - west o * minute_ticks
 
 -- the record with its local fields, in another zone or in none
-abbrev pub with_zone : DateTime → Zone → DateTime
+abbrev pub with_zone : DateTime → Option Offset → DateTime
 with_zone d z = at_clock_of (date_in d) d z
 
-unfoldable pub adjusted_from : Kind → DateTime → Zone → Offset → Answer Value
-adjusted_from k d Absent z = gives (Moment k (with_zone d (At z)))
-adjusted_from k d (At w) z = at_ticks k (local_at (instant_at (local_of d) w) z) (At z)
+unfoldable pub adjusted_from : Kind → DateTime → Option Offset → Offset → Answer Value
+adjusted_from k d None z = gives (Moment k (with_zone d (Some z)))
+adjusted_from k d (Some w) z = at_ticks k (local_at (instant_at (local_of d) w) z) (Some z)
 
 abbrev pub adjusted_to : Kind → DateTime → D.DayTime → Answer Value
 adjusted_to k d z = pick (is_zone z) (adjusted_from k d d.zone (zone_of z)) (refuses bad_zone)
@@ -58,7 +56,7 @@ unfoldable pub adjust_of : Value → Value → Answer Value
 adjust_of a z = pick (both (ok_value a) (ok_value z)) (value_to a z) (refuses outside)
 
 unfoldable pub without_zone : Value → Answer Value
-without_zone (Moment k d) = gives (Moment k (with_zone d Absent))
+without_zone (Moment k d) = gives (Moment k (with_zone d None))
 without_zone (DayTime t) = refuses wrong_kind
 without_zone (YearMonth m) = refuses wrong_kind
 

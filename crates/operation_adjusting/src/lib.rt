@@ -10,7 +10,7 @@ ghost use Rattle.operation_adjusting.specs.Adjustment as the;
 
 use calendar::Date;
 use operation_quantities::results;
-use value::{DateTime, DayTime, Kind, Offset, Outcome, Refusal, Span, Value, Zone, clocks};
+use value::{DateTime, DayTime, Kind, Offset, Refusal, Span, Value, Zone, clocks};
 use value_instants::ticks;
 
 fn is_zone(z: DayTime) -> bool
@@ -69,21 +69,21 @@ fn with_zone(d: DateTime, zone: Zone) -> DateTime
     clocks::at_clock_of(e, d, zone)
 }
 
-fn adjusted_from(kind: Kind, d: DateTime, z: Offset) -> Outcome
+fn adjusted_from(kind: Kind, d: DateTime, z: Offset) -> Result<Value, Refusal>
     requires { (ok_date_time d ≡ true) × (ok_offset z ≡ true) }
     ensures { meaning result ≡ the.adjusted_from kind d d.zone z }
 {
     let own = d.zone;
     match own {
-        Zone::Absent => Outcome::Is(Value::Moment(kind, with_zone(d, Zone::At(z)))),
-        Zone::At(w) => {
+        None => Ok(Value::Moment(kind, with_zone(d, Some(z)))),
+        Some(w) => {
             let i = ticks::instant_at(ticks::local(d), w);
-            results::at_ticks(kind, local_at(i, z), Zone::At(z))
+            results::at_ticks(kind, local_at(i, z), Some(z))
         }
     }
 }
 
-fn adjusted_to(kind: Kind, d: DateTime, z: DayTime) -> Outcome
+fn adjusted_to(kind: Kind, d: DateTime, z: DayTime) -> Result<Value, Refusal>
     requires { (ok_date_time d ≡ true) × (ok_day_time z ≡ true) }
     ensures { meaning result ≡ the.adjusted_to kind d z }
 {
@@ -93,7 +93,7 @@ fn adjusted_to(kind: Kind, d: DateTime, z: DayTime) -> Outcome
     adjusted_from(kind, d, zone_of(z))
 }
 
-fn moment_to(kind: Kind, d: DateTime, z: Value) -> Outcome
+fn moment_to(kind: Kind, d: DateTime, z: Value) -> Result<Value, Refusal>
     requires { (ok_date_time d ≡ true) × (ok_value z ≡ true) }
     ensures { meaning result ≡ the.moment_to kind d z }
 {
@@ -104,7 +104,7 @@ fn moment_to(kind: Kind, d: DateTime, z: Value) -> Outcome
     }
 }
 
-pub fn value_to(a: Value, z: Value) -> Outcome
+pub fn value_to(a: Value, z: Value) -> Result<Value, Refusal>
     requires { (ok_value a ≡ true) × (ok_value z ≡ true) }
     ensures { meaning result ≡ the.value_to a z }
 {
@@ -115,11 +115,11 @@ pub fn value_to(a: Value, z: Value) -> Outcome
     }
 }
 
-pub fn without_zone(a: Value) -> Outcome
+pub fn without_zone(a: Value) -> Result<Value, Refusal>
     ensures { meaning result ≡ the.without_zone a }
 {
     match a {
-        Value::Moment(kind, d) => Outcome::Is(Value::Moment(kind, with_zone(d, Zone::Absent))),
+        Value::Moment(kind, d) => Ok(Value::Moment(kind, with_zone(d, None))),
         Value::DayTime(_) => results::refused(Refusal::WRONG_KIND),
         Value::YearMonth(_) => results::refused(Refusal::WRONG_KIND),
     }

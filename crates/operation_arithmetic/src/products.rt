@@ -6,7 +6,7 @@ ghost use Rattle.operation_arithmetic.specs.Products as the;
 ghost use Rattle.value.specs.declared.Value.TheVariants as VV;
 
 use operation_quantities::{halves, results};
-use value::{DayTime, Outcome, Refusal, Value, YearMonth};
+use value::{DayTime, Refusal, Value, YearMonth};
 use value_instants::spans;
 
 pub const MAX_FACTOR: u32 = 999_999;
@@ -17,7 +17,7 @@ pub fn max_factor() -> u32
     MAX_FACTOR
 }
 
-fn day_time_times(t: DayTime, negative: bool, n: u32) -> Outcome
+fn day_time_times(t: DayTime, negative: bool, n: u32) -> Result<Value, Refusal>
     requires { (ok_day_time t ≡ true) × (n ≤ the.max_factor) }
     ensures { meaning result ≡ the.product_of (VV.DayTime t) negative n }
 {
@@ -29,7 +29,7 @@ fn day_time_times(t: DayTime, negative: bool, n: u32) -> Outcome
     results::in_ticks(p, q)
 }
 
-fn year_month_times(m: YearMonth, negative: bool, n: u32) -> Outcome
+fn year_month_times(m: YearMonth, negative: bool, n: u32) -> Result<Value, Refusal>
     requires { n ≤ the.max_factor }
     ensures { meaning result ≡ the.product_of (VV.YearMonth m) negative n }
 {
@@ -41,7 +41,7 @@ fn year_month_times(m: YearMonth, negative: bool, n: u32) -> Outcome
     results::in_months(p, q)
 }
 
-pub fn product(a: Value, negative: bool, n: u32) -> Outcome
+pub fn product(a: Value, negative: bool, n: u32) -> Result<Value, Refusal>
     requires { (ok_value a ≡ true) × (n ≤ the.max_factor) }
     ensures { meaning result ≡ the.product_of a negative n }
 {

@@ -10,12 +10,10 @@ ghost use Rattle.value.specs.declared.Value.TheVariants as VV;
 
 use operation_quantities::{halves, results};
 use operation_shifting::{months, shifts};
-use value::{
-    DateTime, DayTime, Kind, Offset, Outcome, Refusal, Span, Value, YearMonth, clocks, kinds, valid,
-};
+use value::{DateTime, DayTime, Kind, Offset, Refusal, Span, Value, YearMonth, clocks, valid};
 use value_instants::{spans, ticks};
 
-fn moment_plus(kind: Kind, d: DateTime, b: Value) -> Outcome
+fn moment_plus(kind: Kind, d: DateTime, b: Value) -> Result<Value, Refusal>
     requires { (ok_date_time d ≡ true) × (ok_value b ≡ true) }
     ensures { meaning result ≡ the.sum_of (VV.Moment kind d) b }
 {
@@ -40,7 +38,7 @@ fn minus_halves(a: DayTime, b: DayTime) -> Span
     spans::plus(halves::minus_ticks(a), halves::minus_ticks(b))
 }
 
-fn day_time_plus(t: DayTime, b: Value) -> Outcome
+fn day_time_plus(t: DayTime, b: Value) -> Result<Value, Refusal>
     requires { (ok_day_time t ≡ true) × (ok_value b ≡ true) }
     ensures { meaning result ≡ the.sum_of (VV.DayTime t) b }
 {
@@ -51,7 +49,7 @@ fn day_time_plus(t: DayTime, b: Value) -> Outcome
     }
 }
 
-fn months_sum(a: YearMonth, b: YearMonth) -> Outcome
+fn months_sum(a: YearMonth, b: YearMonth) -> Result<Value, Refusal>
     ensures { meaning result ≡ the.sum_of (VV.YearMonth a) (VV.YearMonth b) }
 {
     let p = halves::plus_half(a.negative, a.months as u64);
@@ -61,7 +59,7 @@ fn months_sum(a: YearMonth, b: YearMonth) -> Outcome
     results::in_months(p + r, q + s)
 }
 
-fn year_month_plus(m: YearMonth, b: Value) -> Outcome
+fn year_month_plus(m: YearMonth, b: Value) -> Result<Value, Refusal>
     requires { (m.months ≤ max_year_month) × (ok_value b ≡ true) }
     ensures { meaning result ≡ the.sum_of (VV.YearMonth m) b }
 {
@@ -72,7 +70,7 @@ fn year_month_plus(m: YearMonth, b: Value) -> Outcome
     }
 }
 
-pub fn sum(a: Value, b: Value) -> Outcome
+pub fn sum(a: Value, b: Value) -> Result<Value, Refusal>
     requires { (ok_value a ≡ true) × (ok_value b ≡ true) }
     ensures { meaning result ≡ the.sum_of a b }
 {
@@ -109,13 +107,13 @@ fn opposite_months(m: YearMonth) -> YearMonth
     }
 }
 
-fn less_moment(a: Value, kind: Kind, e: DateTime, given: Offset) -> Outcome
+fn less_moment(a: Value, kind: Kind, e: DateTime, given: Offset) -> Result<Value, Refusal>
     requires { (ok_value a ≡ true) × (ok_date_time e ≡ true) × (ok_offset given ≡ true) }
     ensures { meaning result ≡ the.less_moment given a kind e }
 {
     match a {
         Value::Moment(own, d) => {
-            if !kinds::same(own, kind) {
+            if own != kind {
                 return results::refused(Refusal::WRONG_KIND);
             }
             results::in_ticks(ticks::instant(d, given), ticks::instant(e, given))
@@ -125,7 +123,7 @@ fn less_moment(a: Value, kind: Kind, e: DateTime, given: Offset) -> Outcome
     }
 }
 
-fn difference(a: Value, b: Value, given: Offset) -> Outcome
+fn difference(a: Value, b: Value, given: Offset) -> Result<Value, Refusal>
     requires { (ok_value a ≡ true) × (ok_value b ≡ true) × (ok_offset given ≡ true) }
     ensures { meaning result ≡ the.difference_in given a b }
 {
@@ -137,7 +135,7 @@ fn difference(a: Value, b: Value, given: Offset) -> Outcome
 }
 
 // A value without zone counts in the given offset.
-pub fn minus_in(a: Value, b: Value, given: Offset) -> Outcome
+pub fn minus_in(a: Value, b: Value, given: Offset) -> Result<Value, Refusal>
     requires { ok_offset given ≡ true }
     ensures { meaning result ≡ the.minus_in given a b }
 {

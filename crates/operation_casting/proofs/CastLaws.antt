@@ -1,5 +1,6 @@
 -- What a cast gives is of the kind asked for and within the bounds; a cast of a kind to itself changes nothing; and a
 -- cast by way of a kind that has all the parts of the last is the last cast alone.
+use Rattle.std.specs.Prelude.{Option}
 use mathlib.Core.Path.{◌≡◌, refl, ap, sym, ◌∙◌}
 use mathlib.Core.Bool.{Bool, true, false}
 use Prim.Native.Char.{code}
@@ -8,24 +9,19 @@ use Rattle.basis.specs.Answer.{gives, refuses}
 use Rattle.basis.proofs.Tests.{both_left, both_right, every_fails, never}
 use Rattle.calendar.specs.declared.Date.{Date}
 use Rattle.value.specs.Refusals.{outside, wrong_kind}
-use Rattle.value.specs.Rows.{own_parts, template_of, same_kind, has, has_part, is_moment, is_dated, kept}
+use Rattle.value.specs.Rows.{template_of, same_kind, has, has_part, is_moment, is_dated, kept}
 use Rattle.value.specs.Clocks.{at_clock_of}
 use Rattle.value.specs.Values.{date_in}
 use Rattle.value.specs.Kinds.{kind_of, ok_value}
-use Rattle.value.specs.declared.Zone.{Zone}
 use Rattle.value.specs.declared.DateTime.{DateTime}
 use Rattle.value.specs.declared.Kind.{Kind}
 use Rattle.value.specs.declared.Kind.TheVariants as KV
-use Rattle.value.specs.declared.OwnParts.{OwnParts}
 use Rattle.value.specs.declared.Value.{Value}
 use Rattle.value.specs.declared.Value.TheVariants as VV
 use Rattle.value.proofs.KindParts.{of_kind_kept, moment_good, moment_ok}
 use Rattle.value.proofs.RowLaws.{same_kind_lem, own_kind, cast_of_kind, cast_good}
 use Rattle.operation_casting.specs.Casts.{own_within, parts_within, casts_across, casts_to, cast_to, cast_of}
-
--- the parts of two kinds, through those that the code has in hand
-pub parts_within_lem : (j k : Kind) (a b : OwnParts) → a ≡ own_parts j → b ≡ own_parts k → own_within a b ≡ parts_within j k
-parts_within_lem j k a b ea eb = λ i. own_within (ea i) (eb i)
+use Rattle.value.specs.declared.Offset.{Offset}
 
 -- a cast of a kind to itself
 to_itself : (k : Kind) → casts_to k k ≡ true
@@ -86,7 +82,7 @@ through_part true true x y z e = refl
 through_part true false x y z e = cc
 through_part false b x y z e = refl
 
-through_clock : (a b : Bool) (e f : Date) (d u t : DateTime) (z : Zone) → pick a b true ≡ true
+through_clock : (a b : Bool) (e f : Date) (d u t : DateTime) (z : Option Offset) → pick a b true ≡ true
     → at_clock_of e (pick a (at_clock_of f (pick b d u) z) t) z ≡ at_clock_of e (pick a d t) z
 through_clock true true e f d u t z h = refl
 through_clock true false e f d u t z h = absurd (never h)

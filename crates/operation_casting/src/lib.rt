@@ -11,23 +11,18 @@ use value::{Kind, OwnParts, Value, kinds};
 fn shares(first: bool, second: bool) -> bool
     ensures { result ≡ pick first second true }
 {
-    if first { second } else { true }
+    !first || second
 }
 
 // Every part of the first is one of the second.
+#[tactic(auto, unfolding(basis::specs::Choice::both, basis::specs::Choice::every, crate::specs::Casts::own_within))]
 fn within(first: OwnParts, second: OwnParts) -> bool
     ensures { result ≡ the.own_within first second }
 {
-    if !shares(first.year, second.year) {
-        return false;
-    }
-    if !shares(first.month, second.month) {
-        return false;
-    }
-    if !shares(first.day, second.day) {
-        return false;
-    }
-    shares(first.clock, second.clock)
+    shares(first.year, second.year)
+        && shares(first.month, second.month)
+        && shares(first.day, second.day)
+        && shares(first.clock, second.clock)
 }
 
 // The parts of one of the kinds are parts of the other.
@@ -36,33 +31,24 @@ fn one_within(from: Kind, to: Kind) -> bool
 {
     let own = kinds::parts(from);
     let wanted = kinds::parts(to);
-    if within(wanted, own) {
-        return true;
-    }
-    within(own, wanted)
+    within(wanted, own) || within(own, wanted)
 }
 
+#[tactic(auto, unfolding(basis::specs::Choice::both, basis::specs::Choice::every, crate::specs::Casts::casts_across))]
 fn casts_across(from: Kind, to: Kind) -> bool
     ensures { result ≡ the.casts_across from to }
 {
-    if !kinds::is_dated(from) {
-        return false;
-    }
-    if !kinds::is_moment(to) {
-        return false;
-    }
-    one_within(from, to)
+    kinds::is_dated(from) && kinds::is_moment(to) && one_within(from, to)
 }
 
+#[tactic(auto, unfolding(crate::specs::Casts::casts_to))]
 pub fn casts_to(from: Kind, to: Kind) -> bool
     ensures { result ≡ the.casts_to from to }
 {
-    if kinds::same(from, to) {
-        return true;
-    }
-    casts_across(from, to)
+    from == to || casts_across(from, to)
 }
 
+#[tactic(auto, unfolding(crate::specs::Casts::cast_to))]
 pub fn cast_to(kind: Kind, a: Value) -> Value
     ensures { result ≡ the.cast_to kind a }
 {

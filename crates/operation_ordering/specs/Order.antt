@@ -1,7 +1,7 @@
 -- Document 01, "Operations", order and equality: dateTimes by UTC instant; dates by the instant at which they start;
 -- times as if on 1972-12-31, without wrapping round the day; durations by their number. A value without zone counts in
 -- the given offset, which is UTC in the calls of document 01.
-use Rattle.std.specs.Prelude.{ℕ, ◌+◌, ltb}
+use Rattle.std.specs.Prelude.{ℕ, ◌+◌, ltb, Result, Ok, Err}
 use Rattle.basis.specs.Choice.{pick, both}
 use Rattle.basis.specs.Answer.{Answer, gives, refuses_for, refuses}
 use Rattle.value.specs.Reasons.{reason_of}
@@ -14,20 +14,25 @@ use Rattle.value_instants.specs.Ticks.{instant_of}
 use Rattle.value.specs.declared.Offset.{Offset}
 use Rattle.value.specs.declared.Value.{Value}
 use Rattle.value.specs.declared.Value.TheVariants.{Moment, DayTime, YearMonth}
-use Rattle.operation_ordering.specs.declared.Compared.{Compared}
-use Rattle.operation_ordering.specs.declared.Compared.TheVariants as CV
+use Rattle.std.specs.declared.cmp.Ordering.{Ordering}
+use Rattle.std.specs.declared.cmp.Ordering.TheVariants as V
+use Rattle.value.specs.declared.Refusal.{Refusal}
 
 pub data Order : Type 0 where
   less : Order
   equal : Order
   greater : Order
 
+-- the order that the code's answer is
+abbrev pub ordered : Ordering → Order
+ordered V.Less = less
+ordered V.Equal = equal
+ordered V.Greater = greater
+
 -- what an answer says: an order, or the number of a refusal
-abbrev pub compared_meaning : Compared → Answer Order
-compared_meaning CV.Less = gives less
-compared_meaning CV.Equal = gives equal
-compared_meaning CV.Greater = gives greater
-compared_meaning (CV.Refused r) = refuses_for (reason_of r)
+abbrev pub compared_meaning : Result Ordering Refusal → Answer Order
+compared_meaning (Ok o) = gives (ordered o)
+compared_meaning (Err r) = refuses_for (reason_of r)
 
 -- what a value is ordered by, as the whole number up - down: its instant (a date is at 00:00:00, a time on 1972-12-31),
 -- or a duration's number

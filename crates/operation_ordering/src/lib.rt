@@ -9,17 +9,9 @@ ghost use Rattle.value.specs.Carried.{span_of};
 ghost use Rattle.operation_ordering.specs.Order as the;
 
 use operation_quantities::halves;
-use value::{Offset, Refusal, Span, Value, clocks, kinds, valid};
+use std::cmp::Ordering;
+use value::{Offset, Refusal, Span, Value, clocks, valid};
 use value_instants::{spans, ticks};
-
-// What a call that compares answers.
-#[derive(Clone, Copy)]
-pub enum Compared {
-    Less,
-    Equal,
-    Greater,
-    Refused(Refusal),
-}
 
 // Months stand as so many ticks: only durations of one kind are compared.
 fn up(v: Value, given: Offset) -> Span
@@ -54,29 +46,29 @@ fn side(a: Value, b: Value, given: Offset) -> Span
     spans::plus(p, q)
 }
 
-fn order_of(a: Value, b: Value, given: Offset) -> Compared
+fn order_of(a: Value, b: Value, given: Offset) -> Result<Ordering, Refusal>
     requires { (ok_value a ≡ true) × (ok_value b ≡ true) × (ok_offset given ≡ true) }
     ensures { the.compared_meaning result ≡ gives (the.value_order given a b) }
 {
     let p = side(a, b, given);
     let q = side(b, a, given);
     if spans::is_less(p, q) {
-        return Compared::Less;
+        return Ok(Ordering::Less);
     }
     if spans::is_less(q, p) {
-        return Compared::Greater;
+        return Ok(Ordering::Greater);
     }
-    Compared::Equal
+    Ok(Ordering::Equal)
 }
 
-fn refused(number: u8) -> Compared
+fn refused(number: u8) -> Result<Ordering, Refusal>
     ensures { the.compared_meaning result ≡ refuses number }
 {
-    Compared::Refused(Refusal::numbered(number))
+    Err(Refusal::numbered(number))
 }
 
 // A value without zone counts in the given offset.
-pub fn compare_in(a: Value, b: Value, given: Offset) -> Compared
+pub fn compare_in(a: Value, b: Value, given: Offset) -> Result<Ordering, Refusal>
     requires { ok_offset given ≡ true }
     ensures { the.compared_meaning result ≡ the.order_in given a b }
 {
@@ -86,7 +78,7 @@ pub fn compare_in(a: Value, b: Value, given: Offset) -> Compared
     if !valid::value_ok(b) {
         return refused(Refusal::OUTSIDE);
     }
-    if !kinds::same(a.kind(), b.kind()) {
+    if a.kind() != b.kind() {
         return refused(Refusal::WRONG_KIND);
     }
     order_of(a, b, given)

@@ -1,19 +1,16 @@
 -- A span that stands for a number of ticks: its parts, and what is computed from its ticks.
-use mathlib.Core.Path.{◌≡◌, ap, sym, ◌∙◌}
-use mathlib.Core.Bool.{true, false}
+use Rattle.std.specs.Prelude.{Option}
+use mathlib.Core.Path.{◌≡◌, ap, ◌∙◌}
 use Prim.Native.Nat.{ℕ, ◌+◌, ◌/◌, ◌%◌, ◌<◌}
 use native.Mathlib.Omega.{arith}
 use lib.Dec.{ltb}
 use Rattle.value.specs.Bounds.{second_ticks}
 use Rattle.value.specs.Carried.{ticks_of, span_of}
-use Rattle.value.specs.Clocks.{ticks_in}
-use Rattle.value.specs.Durations.{plus_half, minus_half, plus_ticks, minus_ticks}
-use Rattle.value.specs.declared.DayTime.{DayTime}
 use Rattle.value.specs.declared.Span.{Span}
-use Rattle.value.specs.declared.Zone.{Zone}
 use Rattle.value.specs.declared.Kind.{Kind}
 use Rattle.value.proofs.Spans.{span_ticks}
 use Rattle.operation_quantities.specs.Results.{in_ticks, at_ticks}
+use Rattle.value.specs.declared.Offset.{Offset}
 
 module _ (s : Span) (t : ℕ) (e : s ≡ span_of t) where
   pub part_of : s.part < second_ticks
@@ -35,13 +32,5 @@ module _ (s r : Span) (t u : ℕ) (e : s ≡ span_of t) (f : r ≡ span_of u) wh
   pub spans_in_ticks : in_ticks (ticks_of s) (ticks_of r) ≡ in_ticks t u
   spans_in_ticks = λ i. in_ticks (ticks_of_lem s t e i) (ticks_of_lem r u f i)
 
-pub span_at_ticks : (k : Kind) (z : Zone) (s : Span) (t : ℕ) → s ≡ span_of t → at_ticks k (ticks_of s) z ≡ at_ticks k t z
+pub span_at_ticks : (k : Kind) (z : Option Offset) (s : Span) (t : ℕ) → s ≡ span_of t → at_ticks k (ticks_of s) z ≡ at_ticks k t z
 span_at_ticks k z s t e = ap (λ (n : ℕ). at_ticks k n z) (ticks_of_lem s t e)
-
--- by its sign, one half of a dayTimeDuration is its size
-module _ (t : DayTime) (s : Span) (e : s ≡ span_of (ticks_in t)) where
-  pub size_is_plus : t.negative ≡ false → s ≡ span_of (plus_ticks t)
-  size_is_plus n = e ∙ (λ i. span_of (plus_half (sym n i) (ticks_in t)))
-
-  pub size_is_minus : t.negative ≡ true → s ≡ span_of (minus_ticks t)
-  size_is_minus n = e ∙ (λ i. span_of (minus_half (sym n i) (ticks_in t)))

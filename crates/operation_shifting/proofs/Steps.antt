@@ -1,4 +1,5 @@
 -- The steps of the code that a definition takes in one: a result before year 0, months moved.
+use Rattle.std.specs.Prelude.{Option}
 use mathlib.Core.Path.{◌≡◌, refl, ap, sym, ◌∙◌}
 use mathlib.Core.Bool.{Bool, true, false}
 use Prim.Native.Nat.{ℕ, ◌+◌, ◌-◌, ◌<◌}
@@ -10,16 +11,16 @@ use Rattle.value.specs.Refusals.{beyond_result, wrong_kind}
 use Rattle.value.specs.Durations.{plus_half, minus_half}
 use Rattle.value.specs.Rows.{is_dated, is_clocked}
 use Rattle.value_instants.specs.Ticks.{local_of, in_years, placed_at}
-use Rattle.value.specs.declared.Zone.{Zone}
 use Rattle.value.specs.declared.DateTime.{DateTime}
 use Rattle.value.specs.declared.Kind.{Kind}
 use Rattle.value.specs.declared.Value.TheVariants.{Moment}
 use Rattle.operation_quantities.specs.Results.{at_ticks}
 use Rattle.operation_shifting.specs.Shifts.{month_of, moved_to, moved, wrapped, shifted}
 use Rattle.operation_shifting.proofs.Halves.{taken_off}
+use Rattle.value.specs.declared.Offset.{Offset}
 
 -- 0 ticks and 0 months are in year 0
-nothing_placed : (k : Kind) (z : Zone) → refuses beyond_result ≡ at_ticks k 0 z
+nothing_placed : (k : Kind) (z : Option Offset) → refuses beyond_result ≡ at_ticks k 0 z
 unfolding at_ticks placed_at in_years both date_of period_of
 nothing_placed k z = refl
 
@@ -27,7 +28,7 @@ nothing_moved : (k : Kind) (d : DateTime) → refuses beyond_result ≡ moved_to
 unfolding moved_to both
 nothing_moved k d = refl
 
-pub before_ticks : (k : Kind) (z : Zone) (l m : ℕ) (n : Bool) → n ≡ true → l < m → refuses beyond_result ≡ at_ticks k (l + plus_half n m - minus_half n m) z
+pub before_ticks : (k : Kind) (z : Option Offset) (l m : ℕ) (n : Bool) → n ≡ true → l < m → refuses beyond_result ≡ at_ticks k (l + plus_half n m - minus_half n m) z
 before_ticks k z l m n e h =
     let y : 0 ≡ l - m = omega arith in
     nothing_placed k z ∙ ap (λ (t : ℕ). at_ticks k t z) (y ∙ taken_off l m n e)

@@ -1,4 +1,5 @@
 -- A dayTimeDuration added and taken off again: a kind with a clock comes back, one with a date alone by whole days.
+use Rattle.std.specs.Prelude.{None, Option, Some}
 use mathlib.Core.Path.{◌≡◌, refl, ap, sym, ◌∙◌}
 use mathlib.Core.Bool.{Bool, true, false}
 use Prim.Native.Nat.{ℕ, ◌+◌, ◌-◌, ◌/◌, ◌%◌, ◌≤◌}
@@ -14,12 +15,10 @@ use Rattle.value.specs.Clocks.{clock_of, with_time, at_clock}
 use Rattle.value.specs.Values.{ok_date_time, date_in}
 use Rattle.value.specs.Rows.{layout_of, template_of, is_dated, is_clocked, kept, of_kind}
 use Rattle.value_instants.specs.Ticks.{local_of, at_local, in_years, placed_at}
-use Rattle.value.specs.declared.Zone.{Zone}
 use Rattle.value.specs.declared.DateTime.{DateTime}
 use Rattle.value.specs.declared.Kind.{Kind}
 use Rattle.value.specs.declared.Value.{Value}
 use Rattle.value.specs.declared.Value.TheVariants as VV
-use Rattle.value_instants.specs.declared.Placed.TheVariants as PV
 use Rattle.value.proofs.Good.{good}
 use Rattle.value.proofs.ClockLaws.{clock_at, clock_kept, at_its_clock, clock_to}
 use Rattle.value_instants.proofs.Locals.{local_of_placed, local_in_years, placed_of_local}
@@ -30,17 +29,18 @@ use Rattle.operation_quantities.specs.Results.{at_ticks, of_placed}
 use Rattle.value.proofs.PartsKept.{kept_whole, kept_date}
 use Rattle.operation_shifting.specs.Shifts.{wrapped, wrapped_clock, shifted}
 use Rattle.operation_shifting.proofs.Steps.{dated_shift, clocked_shift}
+use Rattle.value.specs.declared.Offset.{Offset}
 
 -- a result placed within the years, and one that was given
-pub placed_gives : (k : Kind) (t : ℕ) (z : Zone) → in_years t ≡ true → at_ticks k t z ≡ gives (VV.Moment k (kept k (at_local t z)))
+pub placed_gives : (k : Kind) (t : ℕ) (z : Option Offset) → in_years t ≡ true → at_ticks k t z ≡ gives (VV.Moment k (kept k (at_local t z)))
 unfolding at_ticks placed_at
-placed_gives k t z e = λ i. of_placed k (pick (e i) (PV.At (at_local t z)) PV.Beyond)
+placed_gives k t z e = λ i. of_placed k (pick (e i) (Some (at_local t z)) None)
 
-pub given_in_years : (k : Kind) (t : ℕ) (z : Zone) (v : Value) → at_ticks k t z ≡ gives v → in_years t ≡ true
+pub given_in_years : (k : Kind) (t : ℕ) (z : Option Offset) (v : Value) → at_ticks k t z ≡ gives v → in_years t ≡ true
 unfolding at_ticks placed_at
 given_in_years k t z v = go (in_years t) refl
   where
-    go : (b : Bool) → in_years t ≡ b → of_placed k (pick b (PV.At (at_local t z)) PV.Beyond) ≡ gives v → in_years t ≡ true
+    go : (b : Bool) → in_years t ≡ b → of_placed k (pick b (Some (at_local t z)) None) ≡ gives v → in_years t ≡ true
     go true h e = h
     go false h e = cc
 
@@ -81,7 +81,7 @@ module _ (k : Kind) (n : is_dated k ≡ true) where
   unfolding local_of
   whole_days d p q u a b = omega arith
 
-  at_day_start : (t : ℕ) (z : Zone) → is_clocked k ≡ false → t % day_ticks ≡ 0 → kept k (at_local t z) ≡ at_local t z
+  at_day_start : (t : ℕ) (z : Option Offset) → is_clocked k ≡ false → t % day_ticks ≡ 0 → kept k (at_local t z) ≡ at_local t z
   at_day_start t z c w =
       let m = row_midnight (layout_of k) (template_of k) (rows_pass k) in
       kept_date k (at_local t z) n c ∙ (λ i. with_time (date_of (t / day_ticks)) (m.0 i) (m.1 i) z) ∙ (λ i. at_clock (date_of (t / day_ticks)) (sym w i) z)

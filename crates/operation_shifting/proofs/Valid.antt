@@ -1,4 +1,5 @@
 -- Every value that a shift, a move of months or a result gives is within its kind's bounds.
+use Rattle.std.specs.Prelude.{None, Option, Some}
 use mathlib.Core.Path.{◌≡◌, refl}
 use mathlib.Core.Bool.{Bool, true, false}
 use Prim.Native.Nat.{ℕ, ◌+◌, ◌-◌, ◌/◌, ◌%◌, ◌≤◌}
@@ -18,11 +19,9 @@ use Rattle.value.specs.Rows.{is_moment, is_dated, is_clocked, kept}
 use Rattle.value.specs.Kinds.{ok_value}
 use Rattle.value.specs.Carried.{valid}
 use Rattle.value_instants.specs.Ticks.{local_of, at_local, in_years, placed_at}
-use Rattle.value.specs.declared.Zone.{Zone}
 use Rattle.value.specs.declared.DateTime.{DateTime}
 use Rattle.value.specs.declared.Kind.{Kind}
 use Rattle.value.specs.declared.Value.TheVariants as VV
-use Rattle.value_instants.specs.declared.Placed.TheVariants as PV
 use Rattle.value.proofs.Good.{good, record_ok}
 use Rattle.value.proofs.ClockLaws.{time_part_at, time_part_kept}
 use Rattle.value_instants.proofs.Locals.{placed_ok}
@@ -32,6 +31,7 @@ use Rattle.operation_quantities.specs.Results.{in_ticks, in_months, at_ticks, of
 use Rattle.operation_shifting.specs.Shifts.{month_of, in_month, moved_to, moved, wrapped_clock, wrapped, shifted}
 use Rattle.operation_shifting.proofs.Lengths.{month_has_day}
 use Rattle.operation_quantities.proofs.Given.{valid_pick, valid_test}
+use Rattle.value.specs.declared.Offset.{Offset}
 
 pub ticks_valid : (p q : ℕ) → valid (in_ticks p q) ≡ true
 unfolding in_ticks ok_value
@@ -45,11 +45,11 @@ months_valid p q = valid_test (ok_year_month (less_months p q)) (VV.YearMonth (l
 kept_valid : (k : Kind) (d : DateTime) → is_moment k ≡ true → ok_date_time d ≡ true → ok_value (VV.Moment k (kept k d)) ≡ true
 kept_valid k d m g = moment_ok k (kept k d) m (cast_good k d g) (cast_of_kind k d)
 
-pub placed_valid : (k : Kind) (t : ℕ) (z : Zone) → is_moment k ≡ true → ok_zone z ≡ true → valid (at_ticks k t z) ≡ true
+pub placed_valid : (k : Kind) (t : ℕ) (z : Option Offset) → is_moment k ≡ true → ok_zone z ≡ true → valid (at_ticks k t z) ≡ true
 unfolding at_ticks placed_at
 placed_valid k t z m g = go (in_years t) refl
   where
-    go : (b : Bool) → in_years t ≡ b → valid (of_placed k (pick b (PV.At (at_local t z)) PV.Beyond)) ≡ true
+    go : (b : Bool) → in_years t ≡ b → valid (of_placed k (pick b (Some (at_local t z)) None)) ≡ true
     go true e = kept_valid k (at_local t z) m (placed_ok t z e g)
     go false e = refl
 

@@ -7,7 +7,7 @@ ghost use Rattle.operation_shifting.specs.Shifts as the;
 
 use calendar::Date;
 use operation_quantities::results;
-use value::{DateTime, Kind, Outcome, Refusal, Value, YearMonth, clocks, kinds};
+use value::{DateTime, Kind, Refusal, Value, YearMonth, clocks, kinds};
 
 const MONTHS: u32 = calendar::MONTH_COUNT as u32;
 
@@ -18,7 +18,7 @@ fn lesser(a: u8, b: u8) -> u8
 }
 
 // The record in the month numbered t from January of year 0 on.
-fn moved_to(kind: Kind, d: DateTime, t: u32) -> Outcome
+fn moved_to(kind: Kind, d: DateTime, t: u32) -> Result<Value, Refusal>
     ensures { meaning result ≡ the.moved_to kind d t }
 {
     let zone = d.zone;
@@ -36,10 +36,10 @@ fn moved_to(kind: Kind, d: DateTime, t: u32) -> Outcome
         month,
         day: lesser(d.day, last),
     };
-    Outcome::Is(Value::Moment(kind, clocks::at_clock_of(e, d, zone)))
+    Ok(Value::Moment(kind, clocks::at_clock_of(e, d, zone)))
 }
 
-pub fn moved(kind: Kind, d: DateTime, m: YearMonth) -> Outcome
+pub fn moved(kind: Kind, d: DateTime, m: YearMonth) -> Result<Value, Refusal>
     requires { (ok_date_time d ≡ true) × (m.months ≤ max_year_month) }
     ensures { meaning result ≡ the.moved_by kind d m }
 {

@@ -12,7 +12,7 @@ ghost use Rattle.operation_shifting.specs.Shifts as the;
 
 use calendar::Date;
 use operation_quantities::results;
-use value::{DateTime, DayTime, Kind, Outcome, Refusal, Span, Value, clocks, kinds};
+use value::{DateTime, DayTime, Kind, Refusal, Span, Value, clocks, kinds};
 use value_instants::{spans, ticks};
 
 // A span less its whole days.
@@ -58,7 +58,7 @@ fn wrapped(d: DateTime, t: DayTime) -> DateTime
 }
 
 // The local time after a duration, of a kind that has a date.
-fn local_shifted(kind: Kind, d: DateTime, t: DayTime) -> Outcome
+fn local_shifted(kind: Kind, d: DateTime, t: DayTime) -> Result<Value, Refusal>
     requires { (ok_date_time d ≡ true) × (ok_day_time t ≡ true) }
     ensures { meaning result ≡ at_ticks kind (local_of d + halves.plus_ticks t - halves.minus_ticks t) d.zone }
 {
@@ -74,7 +74,7 @@ fn local_shifted(kind: Kind, d: DateTime, t: DayTime) -> Outcome
     results::at_ticks(kind, spans::plus(local, amount), zone)
 }
 
-pub fn shifted(kind: Kind, d: DateTime, t: DayTime) -> Outcome
+pub fn shifted(kind: Kind, d: DateTime, t: DayTime) -> Result<Value, Refusal>
     requires { (ok_date_time d ≡ true) × (ok_day_time t ≡ true) }
     ensures { meaning result ≡ the.shifted_by kind d t }
 {
@@ -82,7 +82,7 @@ pub fn shifted(kind: Kind, d: DateTime, t: DayTime) -> Outcome
         return local_shifted(kind, d, t);
     }
     if kinds::is_clocked(kind) {
-        return Outcome::Is(Value::Moment(kind, wrapped(d, t)));
+        return Ok(Value::Moment(kind, wrapped(d, t)));
     }
     results::refused(Refusal::WRONG_KIND)
 }

@@ -3,25 +3,24 @@
 use native.Mathlib.Omega.{arith}
 use mathlib.Core.Path.{◌≡◌, refl, sym}
 use mathlib.Core.Bool.{Bool, true, false, true≢false}
-use mathlib.Core.List.{List, [], ◌∷◌, ◌++◌}
+use mathlib.Core.List.{List}
 use mathlib.Core.Logic.{⊎_elim}
 use Prim.Native.Nat.{ℕ, ◌+◌, ◌≤◌, ◌<◌}
 use borrow.Author.Tests.{leb-true, eqb-true, ltb-true}
 use lib.Dec.{eqb, ltb}
-use lib.ListN.{length, length-append}
+use lib.ListN.{length}
 use Rattle.basis.specs.Choice.{pick}
 use Rattle.basis.specs.Answer.{Reason, Answer, gives, refuses_for}
 use Rattle.basis.specs.Letters.{bytes}
-use Rattle.timetable.specs.Lines.{newline, line_at}
+use Rattle.timetable.specs.Lines.{line_at}
 use Rattle.value_instants.specs.Ticks.{utc}
-use Rattle.numerals.specs.Writing.{decimal}
 use Rattle.value.specs.Refusals.{no_seat, not_sound, no_more_tickets, too_many}
 use Rattle.run_times.specs.Occurrences.{most_occurrences}
 use Rattle.run_cases.specs.Cases.{Case, row_case, miss_case, refusal_case, case_at}
 use Rattle.run_cases.proofs.Refusals.{refusals_at_line}
 use Rattle.condition.proofs.Readable.{Readable, accepted_readable}
 use Rattle.condition_parts.specs.Numbers.{at_row}
-use Rattle.desk_seat.specs.Bounds.{max_timetable, max_count}
+use Rattle.desk_seat.specs.Bounds.{max_timetable}
 use Rattle.desk_seat.specs.Files.{Files}
 use Rattle.desk_seat.specs.Request.{Request}
 use Rattle.desk_seat.specs.Conditions.{Result, hit, miss, unreadable, accepted, check_of, result_at}
@@ -38,30 +37,8 @@ use Rattle.desk.specs.Soundness.{sound_of}
 use Rattle.desk.specs.Desk.{open_of}
 use Rattle.desk.specs.declared.Desk.{Desk}
 use Rattle.desk_laws.proofs.OwnNumbers.{own_low}
-use Rattle.output_lines.specs.Text.{numbers, line_with, refused_line, open_line, turn_line, line_room}
-use Rattle.output_lines.proofs.Widths.{ten_digits, eight_digits}
-
-line_length : (w ns : List ℕ) → length (line_with w ns) ≡ length w + length (numbers ns) + 1
-unfolding line_with
-line_length w ns = omega (arith, length-append w (numbers ns ++ (newline ∷ [])), length-append (numbers ns) (newline ∷ []))
-
-no_numbers : length (numbers []) ≡ 0
-unfolding numbers
-no_numbers = refl
-
-numbers_length : (n : ℕ) (ns : List ℕ) → length (numbers (n ∷ ns)) ≡ 1 + length (decimal n) + length (numbers ns)
-unfolding numbers
-numbers_length n ns = omega (arith, length-append (decimal n) (numbers ns))
-
-three_fit : (w : List ℕ) (a b c : ℕ) → length w ≤ 10 → a ≤ last_ticket → b ≤ max_count → c ≤ max_count → length (line_with w (a ∷ b ∷ c ∷ [])) ≤ line_room
-three_fit w a b c l la lb lc =
-    omega (arith, line_length w (a ∷ b ∷ c ∷ []), numbers_length a (b ∷ c ∷ []), numbers_length b (c ∷ []), numbers_length c [], no_numbers, ten_digits a la, eight_digits b lb, eight_digits c lc)
-
-one_fits : (w : List ℕ) (a : ℕ) → length w ≤ 10 → a ≤ last_ticket → length (line_with w (a ∷ [])) ≤ line_room
-one_fits w a l la = omega (arith, line_length w (a ∷ []), numbers_length a [], no_numbers, ten_digits a la)
-
-pub idle_fits : length (line_with (bytes "idle") []) ≤ line_room
-idle_fits = let z = leb-true (length (bytes "idle")) 10 refl in omega (arith, line_length (bytes "idle") [], no_numbers)
+use Rattle.output_lines.specs.Text.{refused_line, open_line, turn_line, line_room}
+use Rattle.output_lines.proofs.Widths.{three_fit, one_fits}
 
 -- the numbers that a row's result can have are small
 number_small : (n : ℕ) → at_row n ≡ true → n ≤ too_many

@@ -31,7 +31,8 @@ use Rattle.desk_laws.proofs.Lasting.{open_lasts, turn_lasts}
 use Rattle.output_lines.specs.Text.{turn_line, line_room}
 use Rattle.output_turns.specs.Turns.{is_idle}
 use Rattle.output_pieces.specs.Pieces.{opened_all, most_turns}
-use Rattle.output.proofs.Lengths.{idle_fits, served_fits}
+use Rattle.output_lines.proofs.Widths.{idle_fits}
+use Rattle.output.proofs.Lengths.{served_fits}
 use Rattle.output.proofs.Left.{desk_left, serving_less, desk_bounded}
 
 pub record Ready (f : Files) (d : Desk) : Type 0 where

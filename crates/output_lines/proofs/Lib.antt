@@ -1,3 +1,2 @@
 pub mod Widths
 pub mod Writing
-pub mod Putting

@@ -1,54 +1,40 @@
--- A line is written part by part: what it holds after a part is added, and the lines of no, one and three numbers.
+-- A line is written number by number: the text so far, and the numbers that are left, are what the word and all numbers are.
 use mathlib.Core.Path.{◌≡◌, ap, sym, ◌∙◌}
 use mathlib.Core.List.{List, [], ◌∷◌, ◌++◌, append_assoc, append-nil}
-use Prim.Native.Nat.{ℕ, ◌≤◌}
+use Prim.Native.Nat.{ℕ, ◌+◌, ◌≤◌, ◌<◌}
+use native.Mathlib.Numerals.{add-one}
 use native.Mathlib.Omega.{arith}
-use lib.ListN.{length, length-append}
+use lib.ListN.{length, get_or, drop, length-append, drop_of_length-le}
+use lib.Seq.{drop-cons}
 use Rattle.timetable.specs.Fields.{tab}
 use Rattle.timetable.specs.Lines.{newline}
 use Rattle.numerals.specs.Writing.{decimal}
-use Rattle.numerals.specs.Carried.{Holds}
-use Rattle.numerals.proofs.Texts.{holds_fits}
 use Rattle.output_lines.specs.Text.{numbers, line_with, line_room}
-use Rattle.output_lines.specs.Carried.{line_in, Grown}
-use Rattle.output_lines.specs.declared.LineText.{LineText}
+use Rattle.output_lines.proofs.Widths.{line_length}
 
-pub and_then : {t r : LineText} {w v : List ℕ} → Holds t.bytes t.len w → Grown t r v → Holds r.bytes r.len (w ++ v)
-and_then {t} {r} {w} {v} h a =
-    record {
-      text = a.text ∙ ap (λ (x : List ℕ). x ++ v) h.text;
-      size = omega (arith, a.more, h.size, length-append w v);
-    }
+module _ (w ns : List ℕ) (t : List ℕ) (k : ℕ) (g : t ++ numbers (drop k ns) ≡ w ++ numbers ns) where
+  module _ (h : k < length ns) where
+    abbrev n : ℕ
+    n = get_or ns k 0
 
-pub and_more : {t r q : LineText} {w v : List ℕ} → Grown t r w → Grown r q v → Grown t q (w ++ v)
-and_more {t} {r} {q} {w} {v} a b =
-    record {
-      text = b.text ∙ ap (λ (x : List ℕ). x ++ v) a.text ∙ append_assoc (line_in t) w v;
-      more = omega (arith, a.more, b.more, length-append w v);
-    }
+    pub one_more : ((t ++ tab ∷ []) ++ decimal n) ++ numbers (drop (k + 1) ns) ≡ w ++ numbers ns
+    unfolding numbers
+    one_more = rw add-one (simp append_assoc (ap (λ (q : List ℕ). t ++ q) (sym (rw (drop-cons ns k 0 h, numbers))) ∙ g))
 
-pub nothing_more : (t : LineText) → Grown t t []
-nothing_more t = record { text = sym (append-nil (line_in t)); more = omega arith }
+    pub room : length (line_with w ns) ≤ line_room → length t + 1 + length (decimal n) < line_room
+    room l =
+        omega (arith, line_length w ns, length-append w (numbers ns), ap length one_more, length-append ((t ++ tab ∷ []) ++ decimal n) (numbers (drop (k + 1) ns)), length-append (t ++ tab ∷ []) (decimal n), length-append t (tab ∷ []))
 
-pub grown_by : {t r : LineText} {w v : List ℕ} → Grown t r w → w ≡ v → Grown t r v
-grown_by h e = rw (← e) h
+  module _ (h : length ns ≤ k) where
+    pub all : t ≡ w ++ numbers ns
+    unfolding numbers
+    all =
+        let e : numbers (drop k ns) ≡ [] = rw (drop_of_length-le ns h) in
+        sym (append-nil t) ∙ ap (λ (q : List ℕ). t ++ q) (sym e) ∙ g
 
-pub same_bytes : {bytes w v : List ℕ} {len : ℕ} → Holds bytes len w → w ≡ v → Holds bytes len v
-same_bytes h e = rw (← e) h
+    pub end_fits : length (line_with w ns) ≤ line_room → length t < line_room
+    end_fits l = omega (arith, line_length w ns, length-append w (numbers ns), ap length all)
 
--- a line that holds its bytes has no more than there is room for
-pub line_fits : (t : LineText) (w : List ℕ) → Holds t.bytes t.len w → length t.bytes ≡ line_room → t.len ≤ line_room
-line_fits t w h e = omega (arith, holds_fits h, e)
-
-pub no_number : {t r : LineText} (w : List ℕ) → Holds t.bytes t.len w → Grown t r (newline ∷ []) → Holds r.bytes r.len (line_with w [])
-unfolding line_with numbers
-no_number w h a = and_then h a
-
-pub one_number : {t r : LineText} (w : List ℕ) (a : ℕ) → Holds t.bytes t.len (w ++ (tab ∷ decimal a)) → Grown t r (newline ∷ []) → Holds r.bytes r.len (line_with w (a ∷ []))
-unfolding line_with numbers
-one_number w a h e = same_bytes (and_then h e) (simp (append_assoc, append-nil))
-
-pub three_numbers : {t u v r : LineText} (w : List ℕ) (a b c : ℕ) → Holds t.bytes t.len (w ++ (tab ∷ decimal a))
-    → Grown t u (tab ∷ decimal b) → Grown u v (tab ∷ decimal c) → Grown v r (newline ∷ []) → Holds r.bytes r.len (line_with w (a ∷ b ∷ c ∷ []))
-unfolding line_with numbers
-three_numbers w a b c h x y e = same_bytes (and_then (and_then (and_then h x) y) e) (simp (append_assoc, append-nil))
+    pub ended : t ++ newline ∷ [] ≡ line_with w ns
+    unfolding line_with
+    ended = rw (all, append_assoc)

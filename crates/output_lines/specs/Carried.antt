@@ -1,20 +1,10 @@
--- Carried: a text as it grows to a line, and which answers have lines that fit it. No promise to a caller rests on it: what a
--- line says is Text.antt.
-use Rattle.std.specs.Prelude.{◌≡◌, List, ◌++◌, ℕ, ◌+◌, ◌≤◌, ◌<◌, length, take}
+-- Carried: which answers have lines that fit the text of a line. No promise to a caller rests on it: what a line says is
+-- Text.antt.
+use Rattle.std.specs.Prelude.{◌≤◌, ◌<◌}
 use Rattle.basis.specs.Answer.{Answer, gives, refuses_for}
 use Rattle.run_times.specs.Occurrences.{most_occurrences}
 use Rattle.desk_seat.specs.Bounds.{max_timetable, max_count}
 use Rattle.desk_seat.specs.Answers.{Turned, idle, hit_at, miss_at, unreadable_at, done_with}
-use Rattle.output_lines.specs.declared.LineText.{LineText}
-
--- the bytes of a line that grows
-abbrev pub line_in : LineText → List ℕ
-line_in t = take t.len t.bytes
-
--- r is t with the bytes of w after it
-pub record Grown (t r : LineText) (w : List ℕ) : Type 0 where
-  pub text : line_in r ≡ line_in t ++ w
-  pub more : r.len ≡ t.len + length w
 
 -- the offset, the place and the counts of an answer are within their bounds, as those of a sound desk are
 abbrev pub Within : Answer Turned → Type 0

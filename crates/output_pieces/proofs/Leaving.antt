@@ -1,4 +1,5 @@
 -- What a call leaves in the room: a line that a text holds, what many turns wrote, and a condition's line.
+use Rattle.std.specs.Prelude.{Result, ℕ}
 use mathlib.Core.Path.{◌≡◌, refl, sym, ap, ◌∙◌}
 use mathlib.Core.Bool.{Bool, true, false}
 use mathlib.Core.List.{List, ◌++◌}
@@ -6,38 +7,31 @@ use Prim.Native.Nat.{ℕ, ◌+◌}
 use native.Mathlib.Omega.{arith}
 use lib.Dec.{leb}
 use lib.ListN.{length, take, drop}
-use Rattle.basis.specs.Answer.{Answer}
-use Rattle.numerals.specs.Carried.{Holds}
 use Rattle.desk_seat.specs.Files.{Files}
-use Rattle.desk_seat.specs.Request.{Request}
-use Rattle.desk.specs.Answers.{open_meaning}
-use Rattle.desk.specs.Desk.{open_of, have_lengths, turn_of}
+use Rattle.desk.specs.Desk.{have_lengths, turn_of}
 use Rattle.desk.specs.Soundness.{sound_of}
 use Rattle.desk.specs.declared.Desk.{Desk}
-use Rattle.desk.specs.declared.OpenAnswer.{OpenAnswer}
-use Rattle.output_lines.specs.Text.{open_line, turn_line}
-use Rattle.output_lines.specs.Carried.{line_in}
+use Rattle.output_lines.specs.Text.{turn_line}
 use Rattle.output_turns.specs.Turns.{none, taken, turns_of, room_after, turns_meaning}
-use Rattle.output_lines.specs.declared.LineText.{LineText}
-use Rattle.output_turns.specs.declared.TurnsAnswer.{TurnsAnswer}
 use Rattle.output_turns.proofs.Counting.{taken_next}
-use Rattle.output_pieces.specs.Pieces.{Piece, begun, open_piece, goes_on, turns_piece, Leaves}
+use Rattle.output_pieces.specs.Pieces.{Piece, begun, goes_on, turns_piece, Leaves}
 use Rattle.output_pieces.specs.Carried.{written_count}
 use Rattle.output_pieces.specs.declared.PieceEnd.{PieceEnd}
+use Rattle.output_turns.specs.declared.WrittenTurns.{WrittenTurns}
+use Rattle.value.specs.declared.Refusal.{Refusal}
 
 -- put from offset 0 on
 pub put_first : (room w after : List ℕ) (n : ℕ) → after ≡ take 0 room ++ (w ++ drop (0 + n) room) → after ≡ w ++ drop n room
 put_first room w after n e = e ∙ ap (λ (m : ℕ). w ++ drop m room) {x = 0 + n} {y = n} (omega arith)
 
--- the line w, left by its text
-abbrev Left : LineText → PieceEnd → Bool → List ℕ → List ℕ → Type 0
-Left line r more before after = (r.count ≡ line.len) × (r.more ≡ more) × (after ≡ line_in line ++ drop line.len before)
+-- the line w is left, by whatever name
+abbrev Left : List ℕ → PieceEnd → Bool → List ℕ → List ℕ → Type 0
+Left line r more before after = (r.count ≡ length line) × (r.more ≡ more) × (after ≡ line ++ drop (length line) before)
 
-pub line_told : (w : List ℕ) (line : LineText) (more : Bool) (r : PieceEnd) (before after : List ℕ) → Holds line.bytes line.len w → Left line r more before after
-    → (r.count ≡ length w) × (r.more ≡ more) × (after ≡ w ++ drop (length w) before)
-line_told w line more r before after h e = (e.0 ∙ h.size, e.1, e.2 ∙ (λ i. h.text i ++ drop (h.size i) before))
+pub line_told : (w line : List ℕ) (more : Bool) (r : PieceEnd) (before after : List ℕ) → line ≡ w → Left line r more before after → Left w r more before after
+line_told w line more r before after h e = rw (← h) e
 
-pub line_leaves : (p : Piece) (line : LineText) (r : PieceEnd) (before after : List ℕ) → Holds line.bytes line.len p.text → Left line r p.more before after → Leaves p r before after
+pub line_leaves : (p : Piece) (line : List ℕ) (r : PieceEnd) (before after : List ℕ) → line ≡ p.text → Left line r p.more before after → Leaves p r before after
 line_leaves p line r before after h e =
     let z = line_told p.text line p.more r before after h e in
     record { count = z.0; more = z.1; room = z.2 }
@@ -76,7 +70,7 @@ module _ (f : Files) (d : Desk) (room : List ℕ) where
   piece_more = refl
 
   -- what `turns_in` says, and what is counted by its answer
-  pub turns_leave : (h : Desk) (a : TurnsAnswer) (r : PieceEnd) (after : List ℕ)
+  pub turns_leave : (h : Desk) (a : Result WrittenTurns Refusal) (r : PieceEnd) (after : List ℕ)
       → (h ≡ (turns_of f d (length room)).desk) × (turns_meaning a ≡ (turns_of f d (length room)).answer) × (after ≡ room_after f d room)
       → (r.count ≡ written_count (turns_meaning a)) × (r.more ≡ goes_on (turns_meaning a)) → (h ≡ piece.desk) × Leaves piece r room after
   turns_leave h a r after e c = (
@@ -87,17 +81,3 @@ module _ (f : Files) (d : Desk) (room : List ℕ) where
       room = e.2 ∙ turns_wrote.1;
     },
   )
-
--- ---- a condition
-pub open_leaves : (condition : Request) (d h : Desk) (room after : List ℕ) (a : OpenAnswer) (r : PieceEnd)
-    → (h ≡ (open_of condition d).desk) × (open_meaning a ≡ (open_of condition d).answer)
-    → (r.count ≡ length (open_line (open_meaning a))) × (r.more ≡ true) × (after ≡ open_line (open_meaning a) ++ drop (length (open_line (open_meaning a))) room)
-    → (h ≡ (open_piece condition d).desk) × Leaves (open_piece condition d) r room after
-open_leaves condition d h room after a r e c = (
-  e.0,
-  record {
-    count = c.0 ∙ ap (λ (x : Answer ℕ). length (open_line x)) e.1;
-    more = c.1;
-    room = c.2 ∙ ap (λ (x : Answer ℕ). open_line x ++ drop (length (open_line x)) room) e.1;
-  },
-)

@@ -8,15 +8,14 @@ ghost use Rattle.desk_seat.specs.Files.{over};
 ghost use Rattle.desk_seat.specs.Request.{asking};
 ghost use Rattle.desk.specs.Answers.{open_meaning};
 ghost use Rattle.output_lines.specs.Text.{open_line, line_room};
-ghost use Rattle.output_lines.specs.Carried.{line_in};
 ghost use Rattle.output_turns.specs.Turns.{turns_meaning};
 ghost use Rattle.output_pieces.specs.Bounds.{max_input};
 ghost use Rattle.output_pieces.specs.Pieces.{start_piece, open_piece, turns_piece, goes_on, Leaves};
 ghost use Rattle.output_pieces.specs.Carried.{written_count};
 
-use desk::{Desk, OpenAnswer};
+use desk::Desk;
 use output_lines::{LineText, open_line, put, refused_line};
-use output_turns::TurnsAnswer;
+use output_turns::WrittenTurns;
 use value::Refusal;
 
 // The most bytes of conditions.
@@ -54,14 +53,12 @@ pub fn input_buffer() -> [u8; MAX_INPUT + 1]
 
 // A line left at the start of the room.
 fn leave(room: &mut [u8], line: LineText, more: bool) -> PieceEnd
-    requires { (line.len ≤ line_room) × (line_room ≤ length room.old) }
-    ensures { (result.count ≡ line.len) × (result.more ≡ more) × (room.new ≡ line_in line ++ drop line.len room.old) }
+    requires { line_room ≤ length room.old }
+    ensures { (result.count ≡ length line) × (result.more ≡ more) × (room.new ≡ line ++ drop (length line) room.old) }
 {
-    put(room, 0, line);
-    PieceEnd {
-        count: line.len,
-        more,
-    }
+    let count = line.as_slice().len();
+    put(room, 0, &line);
+    PieceEnd { count, more }
 }
 
 // A timetable too long stops the program, otherwise an input too long does, otherwise it goes on.
@@ -86,14 +83,14 @@ pub fn begin(timetable_length: usize, input_length: usize, room: &mut [u8]) -> B
     requires { line_room ≤ length room.old }
     ensures { (result.desk ≡ (start_piece timetable_length input_length).desk) × Leaves (start_piece timetable_length input_length) result.part room.old room.new }
 {
-    let fresh = desk::fresh(timetable_length);
-    let part = choice(timetable_length, input_length, room);
-    let desk = fresh.desk;
-    Begun { desk, part }
+    Begun {
+        desk: desk::fresh(timetable_length).desk,
+        part: choice(timetable_length, input_length, room),
+    }
 }
 
 // The line of what open answered.
-fn open_told(answer: OpenAnswer, room: &mut [u8]) -> PieceEnd
+fn open_told(answer: Result<u32, Refusal>, room: &mut [u8]) -> PieceEnd
     requires { line_room ≤ length room.old }
     ensures { (result.count ≡ length (open_line (open_meaning answer))) × (result.more ≡ true) × (room.new ≡ open_line (open_meaning answer) ++ drop (length (open_line (open_meaning answer))) room.old) }
 {
@@ -101,18 +98,15 @@ fn open_told(answer: OpenAnswer, room: &mut [u8]) -> PieceEnd
 }
 
 // What many turns wrote: more is due until the last one was Idle.
-fn turns_told(answer: TurnsAnswer) -> PieceEnd
+fn turns_told(answer: Result<WrittenTurns, Refusal>) -> PieceEnd
     ensures { (result.count ≡ written_count (turns_meaning answer)) × (result.more ≡ goes_on (turns_meaning answer)) }
 {
     match answer {
-        TurnsAnswer::Wrote(written) => {
-            let count = written.count;
-            PieceEnd {
-                count,
-                more: !written.idle,
-            }
-        }
-        TurnsAnswer::Refused(_) => PieceEnd {
+        Ok(written) => PieceEnd {
+            count: written.count,
+            more: !written.idle,
+        },
+        Err(_) => PieceEnd {
             count: 0,
             more: false,
         },
@@ -124,14 +118,12 @@ pub fn open_piece_in(desk: &mut Desk, condition: &[u8], room: &mut [u8]) -> Piec
     requires { line_room ≤ length room.old }
     ensures { (desk.new ≡ (open_piece (asking condition.now) desk.old).desk) × Leaves (open_piece (asking condition.now) desk.old) result room.old room.new }
 {
-    let answer = desk_in_place::open_in(desk, condition);
-    open_told(answer, room)
+    open_told(desk_in_place::open_in(desk, condition), room)
 }
 
 // The piece of as many turns as have their lines in the room, of a desk that is updated where it stands.
 pub fn turns_piece_in(desk: &mut Desk, t: &[u8], room: &mut [u8]) -> PieceEnd
     ensures { (desk.new ≡ (turns_piece (over t.now) desk.old (length room.old)).desk) × Leaves (turns_piece (over t.now) desk.old (length room.old)) result room.old room.new }
 {
-    let answer = output_turns::turns_in(desk, t, room);
-    turns_told(answer)
+    turns_told(output_turns::turns_in(desk, t, room))
 }

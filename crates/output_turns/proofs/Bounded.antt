@@ -51,10 +51,7 @@ module _ (f : Files) (d : Desk) (o : Sound d) (e : have_lengths f d ≡ true) wh
 
   -- what the turn of a desk known to be sound handed back
   module _ (r : AfterTurn) (h : after_turn r ≡ next_of f d) where
-    pub next_desk : r.desk ≡ (turn_of f d).desk
-    next_desk = ap (λ (x : After Turned). x.desk) (h ∙ sym (turn_next f d o e))
-
-    pub next_answer : turn_meaning r.answer ≡ (turn_of f d).answer
+    next_answer : turn_meaning r.answer ≡ (turn_of f d).answer
     next_answer = ap (λ (x : After Turned). x.answer) (h ∙ sym (turn_next f d o e))
 
     pub next_within : Within (turn_meaning r.answer)

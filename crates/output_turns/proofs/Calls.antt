@@ -8,18 +8,13 @@ use native.Mathlib.Omega.{arith}
 use lib.Dec.{leb}
 use lib.ListN.{length, drop, length-append, length-map}
 use Rattle.basis.specs.Choice.{pick}
-use Rattle.basis.specs.Answer.{gives}
 use Rattle.value.specs.Refusals.{no_room}
 use Rattle.desk_seat.specs.Files.{Files}
-use Rattle.desk.specs.Answers.{After}
 use Rattle.desk.specs.Soundness.{sound_of}
 use Rattle.desk.specs.Desk.{refused, have_lengths, turn_of}
 use Rattle.desk.specs.declared.Desk.{Desk}
 use Rattle.output_lines.specs.Text.{turn_line}
 use Rattle.output_turns.specs.Turns.{is_idle, Taken, none, onto_taken, taken, wrote, turns_of, room_after}
-use Rattle.output_turns.specs.Carried.{Progressed}
-use Rattle.output_turns.specs.declared.Progress.{Progress}
-use Rattle.output_turns.specs.declared.WrittenTurns.{WrittenTurns}
 use Rattle.output_turns.proofs.Counting.{line_some, taken_next}
 
 -- what is as long as its image
@@ -38,10 +33,11 @@ module _ (f : Files) (d : Desk) (size : ℕ) where
       taken_next f d size ∙ rw e in
       rw is (omega (arith, line_some (turn_of f d).answer, length-append (turn_line (turn_of f d).answer) rest.text))
 
+  none_taken : leb (length (turn_line (turn_of f d).answer)) size ≡ false → taken f d size ≡ none d
+  none_taken e = taken_next f d size ∙ rw e
+
   none_written : leb (length (turn_line (turn_of f d).answer)) size ≡ false → length (taken f d size).text ≡ 0
-  none_written e =
-      let is : taken f d size ≡ none d = taken_next f d size ∙ rw e in
-      rw is
+  none_written e = rw (none_taken e)
 
   pub no_room_lem : length (taken f d size).text < 1 → leb (length (turn_line (turn_of f d).answer)) size ≡ false
   no_room_lem l = go (leb (length (turn_line (turn_of f d).answer)) size) refl
@@ -49,6 +45,9 @@ module _ (f : Files) (d : Desk) (size : ℕ) where
       go : (b : Bool) → leb (length (turn_line (turn_of f d).answer)) size ≡ b → leb (length (turn_line (turn_of f d).answer)) size ≡ false
       go false e = e
       go true e = absurd (omega (arith, some_written e))
+
+  pub desk_stays : length (taken f d size).text < 1 → (taken f d size).desk ≡ d
+  desk_stays l = rw (none_taken (no_room_lem l))
 
   pub room_enough : 1 ≤ length (taken f d size).text → leb (length (turn_line (turn_of f d).answer)) size ≡ true
   room_enough l = go (leb (length (turn_line (turn_of f d).answer)) size) refl
@@ -70,8 +69,3 @@ pub room_after_lem : (f : Files) (d : Desk) (room : List ℕ) → sound_of d ≡
     → room_after f d room ≡ (taken f d (length room)).text ++ drop (length (taken f d (length room)).text) room
 unfolding room_after
 room_after_lem f d room h e = rw (h, e)
-
--- what the loop handed back, as an answer
-pub ran_wrote : (r : Progress) (k : Taken) (before after : List ℕ) → Progressed r k before after
-    → ◌≡◌ {A = After WrittenTurns} (record { desk = r.desk; answer = gives r.written }) (wrote k)
-ran_wrote r k before after x = λ i. record { desk = x.desk i; answer = gives (record { count = x.count i; idle = x.idle i }) }

@@ -13,7 +13,7 @@ use Rattle.desk.specs.declared.Desk.{Desk}
 use Rattle.output_lines.specs.Text.{turn_line}
 use Rattle.output_turns.specs.Turns.{is_idle, none, onto_taken, taken}
 use Rattle.output_turns.specs.Carried.{Progressed}
-use Rattle.output_turns.specs.declared.Progress.{Progress}
+use Rattle.output_turns.specs.declared.WrittenTurns.{WrittenTurns}
 use Rattle.output_turns.proofs.Counting.{line_some, taken_next}
 
 -- from the desk d₀ and the room before, the loop stands at a desk, with so many bytes written
@@ -38,17 +38,17 @@ module _ (f : Files) (d₀ : Desk) (before : List ℕ) where
     written = length-take-le at room (omega (arith, g.within, g.size))
 
     -- no line fits any more
-    pub going_stops : length before - at < length (turn_line (turn_of f d).answer) → (r : Progress) → r.desk ≡ d → r.written.count ≡ at → r.written.idle ≡ false
-        → Progressed r (taken f d₀ (length before)) before room
-    going_stops l r rd rc ri =
+    pub going_stops : length before - at < length (turn_line (turn_of f d).answer) → (w : WrittenTurns) → w.count ≡ at → w.idle ≡ false
+        → Progressed d w (taken f d₀ (length before)) before room
+    going_stops l w wc wi =
         let e : taken f d (length before - at) ≡ none d = taken_next f d (length before - at) ∙ rw (lt-leb _ _ l) in
         let all : taken f d₀ (length before) ≡ record { desk = d; text = take at room; idle = false } = g.so ∙ rw (e, append-nil) in
-        let w = written in
-        rw all (record { desk = rd; count = rc ∙ sym w; idle = ri; room = whole ∙ rw w })
+        let long = written in
+        rw all (record { desk = refl; count = wc ∙ sym long; idle = wi; room = whole ∙ rw long })
 
     -- the room is full
-    pub going_full : length before ≤ at → (r : Progress) → r.desk ≡ d → r.written.count ≡ at → r.written.idle ≡ false
-        → Progressed r (taken f d₀ (length before)) before room
+    pub going_full : length before ≤ at → (w : WrittenTurns) → w.count ≡ at → w.idle ≡ false
+        → Progressed d w (taken f d₀ (length before)) before room
     going_full l = going_stops (omega (arith, line_some (turn_of f d).answer))
 
     module _ (line : List ℕ) (is : line ≡ turn_line (turn_of f d).answer) (fits : at + length line ≤ length before)
@@ -90,9 +90,9 @@ module _ (f : Files) (d₀ : Desk) (before : List ℕ) where
             so = goes_so ∙ rw (e, z, took, is, append_assoc);
           }
 
-      pub going_idle : is_idle (turn_of f d).answer ≡ true → (r : Progress) → r.desk ≡ (turn_of f d).desk → r.written.count ≡ at + length line
-          → r.written.idle ≡ true → Progressed r (taken f d₀ (length before)) before room'
-      going_idle last r rd rc ri =
+      pub going_idle : is_idle (turn_of f d).answer ≡ true → (w : WrittenTurns) → w.count ≡ at + length line → w.idle ≡ true
+          → Progressed (turn_of f d).desk w (taken f d₀ (length before)) before room'
+      going_idle last w wc wi =
           let fit : length (turn_line (turn_of f d).answer) ≤ length before - at = omega (arith, ap length is) in
           let e : taken f d (length before - at)
           ≡ onto_taken (turn_line (turn_of f d).answer) (record { desk = (turn_of f d).desk; text = []; idle = true }) =
@@ -100,8 +100,8 @@ module _ (f : Files) (d₀ : Desk) (before : List ℕ) where
           let all : taken f d₀ (length before) ≡ record { desk = (turn_of f d).desk; text = take at room ++ line; idle = true } =
           goes_so ∙ rw (e, is, append-nil) in
           rw all (record {
-            desk = rd;
-            count = rc ∙ sym end_is;
-            idle = ri;
+            desk = refl;
+            count = wc ∙ sym end_is;
+            idle = wi;
             room = sym (lib.ListN.take-append-drop (at + length line) room') ∙ rw (took, left_over, end_is);
           })

@@ -1,6 +1,6 @@
 -- Many turns at once: as long as the next answer's line fits in what is left of the lent room, and until Idle. A turn whose
 -- line does not fit is not taken. Refusals 12, 11 as for a turn, then 15 where the first line does not fit.
-use Rattle.std.specs.Prelude.{◌≡◌, Bool, true, false, List, [], ◌++◌, ℕ, zero, suc, ◌+◌, ◌-◌, ◌≤◌, ◌<◌, leb, length, drop}
+use Rattle.std.specs.Prelude.{◌≡◌, Bool, true, false, List, [], ◌++◌, ℕ, zero, suc, ◌+◌, ◌-◌, ◌≤◌, ◌<◌, leb, length, drop, Err, Ok, Result}
 use Rattle.basis.specs.Choice.{pick}
 use Rattle.basis.specs.Answer.{Reason, Answer, gives, refuses_for}
 use Rattle.value.specs.Reasons.{reason_of}
@@ -13,9 +13,8 @@ use Rattle.desk.specs.Desk.{refused, have_lengths, turn_of}
 use Rattle.desk.specs.declared.Desk.{Desk}
 use Rattle.output_lines.specs.Text.{turn_line}
 use Rattle.output_turns.specs.declared.WrittenTurns.{WrittenTurns}
-use Rattle.output_turns.specs.declared.TurnsAnswer.{TurnsAnswer}
-use Rattle.output_turns.specs.declared.TurnsAnswer.TheVariants as TV
 use Rattle.output_turns.specs.declared.AfterTurns.{AfterTurns}
+use Rattle.value.specs.declared.Refusal.{Refusal}
 
 -- whether an answer is Idle
 abbrev pub is_idle : Answer Turned → Bool
@@ -73,9 +72,9 @@ room_after f d room =
     room
 
 -- what the enum says
-abbrev pub turns_meaning : TurnsAnswer → Answer WrittenTurns
-turns_meaning (TV.Wrote w) = gives w
-turns_meaning (TV.Refused r) = refuses_for (reason_of r)
+abbrev pub turns_meaning : Result WrittenTurns Refusal → Answer WrittenTurns
+turns_meaning (Ok w) = gives w
+turns_meaning (Err r) = refuses_for (reason_of r)
 
 abbrev pub after_turns : AfterTurns → After WrittenTurns
 after_turns r = record { desk = r.desk; answer = turns_meaning r.answer }

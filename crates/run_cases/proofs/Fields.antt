@@ -1,4 +1,5 @@
 -- The fields of a run that were read are valid, and so its spans are those of values.
+use Rattle.std.specs.Prelude.{Result}
 use mathlib.Core.Path.{◌≡◌, refl, ap, sym, subst, ◌∙◌}
 use mathlib.Core.Bool.{Bool, true, false}
 use mathlib.Core.List.{List}
@@ -15,7 +16,6 @@ use Rattle.value.specs.declared.DateTime.{DateTime}
 use Rattle.value.specs.declared.Kind.{Kind}
 use Rattle.value.specs.declared.Kind.TheVariants as KV
 use Rattle.value.specs.declared.Offset.{Offset}
-use Rattle.value.specs.declared.Outcome.{Outcome}
 use Rattle.value.specs.declared.Value.{Value}
 use Rattle.value.proofs.Good.{good}
 use Rattle.value_instants.specs.Ticks.{local_of, instant_of, in_years, forward_of}
@@ -35,6 +35,7 @@ use Rattle.run_cases.specs.StandsFor.{RunFields, fields_read, times_in}
 use Rattle.run_cases.specs.Carried.{timed_in, time_read, step_read, run_from, after_last, after_first, spans_in, spans_read, GoodSpans}
 use Rattle.run_cases.specs.declared.RunSpans.{RunSpans}
 use Rattle.basis.proofs.Answers.{refuses_same, then_gives}
+use Rattle.value.specs.declared.Refusal.{Refusal}
 
 -- a field that reads is valid
 pub field_valid : (k : Kind) (row : Row) (n : ℕ) (v : Value) → read_field k row n ≡ gives v → ok_value v ≡ true
@@ -131,7 +132,7 @@ read_refused zone line why = go (fields_read line)
 
 module _ (line : List ℕ) where
   -- what a call with an empty made text says of the line's own field
-  pub own_field : (k : Kind) (n : ℕ) (made : List ℕ) (o p : Outcome) → length made ≤ 0 → meaning o ≡ read_field k (row_with line made) n → o ≡ p
+  pub own_field : (k : Kind) (n : ℕ) (made : List ℕ) (o p : Result Value Refusal) → length made ≤ 0 → meaning o ≡ read_field k (row_with line made) n → o ≡ p
       → read_field k (row_of line) n ≡ meaning p
   own_field k n made o p h e q = ap (λ (row : Row). read_field k row n) (sym (with_none line made h)) ∙ sym e ∙ ap meaning q
 

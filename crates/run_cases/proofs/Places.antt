@@ -47,4 +47,4 @@ none_after c p = le-ltb (p + 1) 1 (omega arith)
 pub alone_shown : (r : CaseAtPlace) (s : CaseRead) (line : List ℕ) (cs : List Case) (p : ℕ) → Alone r s
     → case_said line [] s ≡ case_at cs p → ltb (p + 1) (length cs) ≡ false → Shows r line cs p
 alone_shown r s line cs p a e h =
-    record { what = (λ i. case_said line (a.none i) (a.said i)) ∙ e; more = a.last ∙ sym h; fits = a.fits }
+    record { what = (λ i. case_said line (a.none i) (a.said i)) ∙ e; more = a.last ∙ sym h }

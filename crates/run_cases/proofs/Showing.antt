@@ -1,5 +1,6 @@
 -- What is said at a place of a run, and of a line: by the run's verdict, by whether the place is reached, and by the written text of the
 -- occurrence there.
+use Rattle.std.specs.Prelude.{None, Option, Some}
 use mathlib.Core.Path.{◌≡◌, ap, sym, subst, ◌∙◌}
 use mathlib.Core.Bool.{Bool, true, false}
 use mathlib.Core.List.{List, [], ◌∷◌}
@@ -17,18 +18,13 @@ use Rattle.value.specs.declared.Kind.TheVariants as KV
 use Rattle.value.specs.declared.Offset.{Offset}
 use Rattle.value.specs.declared.Refusal.{Refusal}
 use Rattle.value.specs.declared.Value.TheVariants as VV
-use Rattle.value.specs.declared.Zone.{Zone}
 use Rattle.value_instants.specs.Ticks.{at_local, in_years, placed_at}
 use Rattle.value.specs.Carried.{ticks_of}
 use Rattle.value.proofs.RowLaws.{date_time_ok}
-use Rattle.value_instants.specs.declared.Placed.TheVariants as PV
 use Rattle.value_instants.proofs.Locals.{placed_there, placed_ok}
 use Rattle.value_instants.proofs.Years.{later_in_years}
 use Rattle.timetable.specs.Rows.{row_of, row_with, with_second}
 use Rattle.timetable.proofs.Rows.{with_none, with_some}
-use Rattle.numerals.specs.Carried.{Holds}
-use Rattle.numerals.specs.declared.Text.{Text}
-use Rattle.numerals.proofs.Texts.{holds_fits}
 use Rattle.text.specs.Writing.{text_of}
 use Rattle.text.proofs.NotEmpty.{written_some}
 use Rattle.run_times.specs.Occurrences.{count_of, local_at_place, run_checked}
@@ -48,15 +44,15 @@ use Rattle.run_cases.proofs.Lines.{is_plain, is_run_line, is_bad, run_of_read, r
 
 -- ---- the record of an occurrence and its text
 
-pub placed_is : (t : ℕ) (z : Zone) (d : DateTime) → PV.At d ≡ placed_at t z → in_years t ≡ true → d ≡ at_local t z
-placed_is t z d e y = let q : PV.At d ≡ PV.At (at_local t z) = e ∙ placed_there t z y in cc
+pub placed_is : (t : ℕ) (z : Option Offset) (d : DateTime) → Some d ≡ placed_at t z → in_years t ≡ true → d ≡ at_local t z
+placed_is t z d e y = let q : Some d ≡ Some (at_local t z) = e ∙ placed_there t z y in cc
 
-pub placed_not : {A : Type 0} (t : ℕ) (z : Zone) → PV.Beyond ≡ placed_at t z → in_years t ≡ true → A
+pub placed_not : {A : Type 0} (t : ℕ) (z : Option Offset) → None ≡ placed_at t z → in_years t ≡ true → A
 placed_not t z e y =
-    let q : PV.Beyond ≡ PV.At (at_local t z) = e ∙ placed_there t z y in
+    let q : None ≡ Some (at_local t z) = e ∙ placed_there t z y in
     absurd (let n : ◌≡◌ {A = ℕ} 0 1 = cc in omega arith)
 
-module _ (run : Run) (own : Zone) (p : ℕ) (g : GoodSpans run own) (t : GoodTimes (span_times run)) (h : p < count_of (span_times run)) where
+module _ (run : Run) (own : Option Offset) (p : ℕ) (g : GoodSpans run own) (t : GoodTimes (span_times run)) (h : p < count_of (span_times run)) where
   pub in_years_lem : in_years (local_at_place (span_times run) p) ≡ true
   in_years_lem = later_in_years (ticks_of run.local) (local_at_place (span_times run) p) (omega arith) g.years (t.within p h)
 
@@ -64,8 +60,8 @@ module _ (run : Run) (own : Zone) (p : ℕ) (g : GoodSpans run own) (t : GoodTim
   record_good = placed_ok (local_at_place (span_times run) p) own in_years_lem g.zoned
 
   -- the row with the written text of the occurrence
-  pub there_shown : (d : DateTime) (made : Text) (more : Bool) → d ≡ at_local (local_at_place (span_times run) p) own
-      → Holds made.bytes made.len (text_of (VV.Moment KV.DateTime d)) → more ≡ ltb (p + 1) (count_of (span_times run))
+  pub there_shown : (d : DateTime) (made : List ℕ) (more : Bool) → d ≡ at_local (local_at_place (span_times run) p) own
+      → made ≡ text_of (VV.Moment KV.DateTime d) → more ≡ ltb (p + 1) (count_of (span_times run))
       → ShowsOccurrence (record { read = SV.Row; made = made; more = more }) run own p
   unfolding ok_value
   there_shown d made more q w m zone line f e =
@@ -76,17 +72,16 @@ module _ (run : Run) (own : Zone) (p : ℕ) (g : GoodSpans run own) (t : GoodTim
       let long : 0 < length (text_of (VV.Moment KV.DateTime d)) = written_some (VV.Moment KV.DateTime d) (date_time_ok d (ap ok_date_time q ∙ record_good)) in
       record {
         what =
-            ap (λ (s : List ℕ). row_case (row_with line s)) w.text
+            ap (λ (s : List ℕ). row_case (row_with line s)) w
             ∙ ap row_case (with_some line (text_of (VV.Moment KV.DateTime d)) long)
             ∙ ap (λ (x : DateTime). row_case (with_second (text_of (VV.Moment KV.DateTime x)) (row_of line))) o
             ∙ sym (run_there line f (count_of (times_in zone f)) p (omega arith));
         more = m ∙ ap (ltb (p + 1)) n ∙ sym (run_more line f (count_of (times_in zone f)) p);
-        fits = holds_fits w;
       }
 
 -- ---- a run at a place
 
-module _ (r : CaseAtPlace) (run : Run) (own : Zone) (p : ℕ) where
+module _ (r : CaseAtPlace) (run : Run) (own : Option Offset) (p : ℕ) where
   -- no occurrence there
   pub gone_shown : Alone r SV.Miss → ltb p (count_of (span_times run)) ≡ false → ShowsOccurrence r run own p
   gone_shown a h zone line f e =

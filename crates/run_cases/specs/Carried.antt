@@ -1,7 +1,7 @@
 -- Carried: what the call that looks at a line hands to a seat: the case at a place, a made text beside the line in it, and whether the
 -- line has a case after it; and the run of a line in spans, on the way there. No promise to a caller rests on it: a turn is stated over
 -- `stands_for` of StandsFor.antt.
-use Rattle.std.specs.Prelude.{◌≡◌, true, false, List, [], ℕ, ◌+◌, ◌≤◌, ltb, length}
+use Rattle.std.specs.Prelude.{◌≡◌, true, false, List, [], ℕ, ◌+◌, ltb, length, Err, Ok, Option, Result}
 use Rattle.basis.specs.Answer.{Answer, gives, refuses_for, and_then}
 use Rattle.value.specs.Reasons.{reason_of}
 use Rattle.value.specs.Values.{ok_zone}
@@ -9,11 +9,9 @@ use Rattle.value.specs.declared.DateTime.{DateTime}
 use Rattle.value.specs.declared.Kind.TheVariants as KV
 use Rattle.value.specs.declared.Offset.{Offset}
 use Rattle.value.specs.declared.Span.{Span}
-use Rattle.value.specs.declared.Zone.{Zone}
 use Rattle.value_instants.specs.Ticks.{local_of, instant_of, in_years, forward_of}
 use Rattle.value.specs.Carried.{ticks_of, span_of}
 use Rattle.timetable.specs.Rows.{row_of, row_with}
-use Rattle.numerals.specs.Carried.{text_in}
 use Rattle.text.specs.Alike.{moment_of}
 use Rattle.text_fields.specs.Fields.{read_field}
 use Rattle.run_times.specs.Occurrences.{count_of, run_checked}
@@ -25,13 +23,8 @@ use Rattle.run_cases.specs.declared.CaseRead.{CaseRead}
 use Rattle.run_cases.specs.declared.CaseRead.TheVariants as SV
 use Rattle.run_cases.specs.declared.CaseAtPlace.{CaseAtPlace}
 use Rattle.run_cases.specs.declared.Timed.{Timed}
-use Rattle.run_cases.specs.declared.TimeRead.{TimeRead}
-use Rattle.run_cases.specs.declared.TimeRead.TheVariants as TV
-use Rattle.run_cases.specs.declared.StepRead.{StepRead}
-use Rattle.run_cases.specs.declared.StepRead.TheVariants as PV
 use Rattle.run_cases.specs.declared.RunSpans.{RunSpans}
-use Rattle.run_cases.specs.declared.RunRead.{RunRead}
-use Rattle.run_cases.specs.declared.RunRead.TheVariants as RV
+use Rattle.value.specs.declared.Refusal.{Refusal}
 
 -- the case that is meant: of a row, the line with the made text beside it
 abbrev pub case_said : List ℕ → List ℕ → CaseRead → Case
@@ -41,16 +34,14 @@ case_said line made (SV.Refused r) = refusal_case (reason_of r)
 
 -- the case at a place of what a line stands for, and whether the line has one after it
 pub record Shows (r : CaseAtPlace) (line : List ℕ) (cs : List Case) (p : ℕ) : Type 0 where
-  pub what : case_said line (text_in r.made) r.read ≡ case_at cs p
+  pub what : case_said line r.made r.read ≡ case_at cs p
   pub more : r.more ≡ ltb (p + 1) (length cs)
-  pub fits : r.made.len ≤ length r.made.bytes
 
 -- a case without a made text, and with nothing after it
 pub record Alone (r : CaseAtPlace) (s : CaseRead) : Type 0 where
   pub said : r.read ≡ s
-  pub none : text_in r.made ≡ []
+  pub none : r.made ≡ []
   pub last : r.more ≡ false
-  pub fits : r.made.len ≤ length r.made.bytes
 
 -- the times of a dateTime in spans, and its own zone
 abbrev pub timed_in : Offset → DateTime → Timed
@@ -60,16 +51,16 @@ timed_in zone d = record { local = span_of (local_of d); instant = span_of (inst
 unfoldable pub time_read : Offset → List ℕ → ℕ → Answer Timed
 time_read zone line n = and_then (read_field KV.DateTime (row_of line) n) (λ v. gives (timed_in zone (moment_of v)))
 
-abbrev pub time_meaning : TimeRead → Answer Timed
-time_meaning (TV.Is t) = gives t
-time_meaning (TV.Refused r) = refuses_for (reason_of r)
+abbrev pub time_meaning : Result Timed Refusal → Answer Timed
+time_meaning (Ok t) = gives t
+time_meaning (Err r) = refuses_for (reason_of r)
 
 unfoldable pub step_read : List ℕ → Answer Span
 step_read line = and_then (read_field KV.DayTimeDuration (row_of line) 5) (λ v. gives (span_of (forward_of v)))
 
-abbrev pub step_meaning : StepRead → Answer Span
-step_meaning (PV.Is s) = gives s
-step_meaning (PV.Refused r) = refuses_for (reason_of r)
+abbrev pub step_meaning : Result Span Refusal → Answer Span
+step_meaning (Ok s) = gives s
+step_meaning (Err r) = refuses_for (reason_of r)
 
 -- the run of first, last and step in spans
 abbrev pub run_from : Timed → Timed → Span → RunSpans
@@ -100,23 +91,23 @@ abbrev pub spans_read : Offset → Answer RunFields → Answer RunSpans
 spans_read zone (gives f) = gives (spans_in zone f)
 spans_read zone (refuses_for r) = refuses_for r
 
-abbrev pub read_meaning : RunRead → Answer RunSpans
-read_meaning (RV.Is x) = gives x
-read_meaning (RV.Refused r) = refuses_for (reason_of r)
+abbrev pub read_meaning : Result RunSpans Refusal → Answer RunSpans
+read_meaning (Ok x) = gives x
+read_meaning (Err r) = refuses_for (reason_of r)
 
 -- a run whose fields were read, and its zone
-pub record GoodSpans (run : Run) (zone : Zone) : Type 0 where
+pub record GoodSpans (run : Run) (zone : Option Offset) : Type 0 where
   pub short : Good run
   pub years : in_years (ticks_of run.local) ≡ true
   pub zoned : ok_zone zone ≡ true
 
 -- what is said of a run at a place holds of every line that has the run: of a good one's occurrences, and of any one's cases
-abbrev pub ShowsOccurrence : CaseAtPlace → Run → Zone → ℕ → Type 0
+abbrev pub ShowsOccurrence : CaseAtPlace → Run → Option Offset → ℕ → Type 0
 ShowsOccurrence r run own p =
     (zone : Offset) (line : List ℕ) (f : RunFields) → record { run = run; zone = own } ≡ spans_in zone f
     → Shows r line (or_miss (occurrences line f 0 (count_of (times_in zone f)))) p
 
-abbrev pub ShowsRun : CaseAtPlace → Run → Zone → ℕ → Type 0
+abbrev pub ShowsRun : CaseAtPlace → Run → Option Offset → ℕ → Type 0
 ShowsRun r run own p =
     (zone : Offset) (line : List ℕ) (f : RunFields) → record { run = run; zone = own } ≡ spans_in zone f
     → Shows r line (run_cases zone line (and_then (run_checked (times_in zone f)) (λ good. gives f))) p

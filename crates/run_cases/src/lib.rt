@@ -10,10 +10,10 @@ ghost use Rattle.run_times.specs.Carried.{span_times};
 ghost use Rattle.run_cases.specs.StandsFor.{is_run, fields_read, stands_for};
 ghost use Rattle.run_cases.specs.Carried.{Alone, timed_in, time_read, time_meaning, step_read, step_meaning, run_from, after_last, after_first, spans_read, read_meaning, GoodSpans, ShowsOccurrence, ShowsRun, Shows};
 
-use numerals::Text;
-use run_times::{Run, Verdict};
-use value::{DateTime, Kind, Offset, Outcome, Refusal, Span, Value, Zone};
-use value_instants::{Placed, ticks};
+use numerals::ValueText;
+use run_times::Run;
+use value::{DateTime, Kind, Offset, Refusal, Span, Value, Zone};
+use value_instants::ticks;
 
 // The word that makes a line a run stands in its second field; first, last and step stand in the next three.
 const WORD: usize = 2;
@@ -36,7 +36,7 @@ pub enum CaseRead {
 #[derive(Drop)]
 pub struct CaseAtPlace {
     pub read: CaseRead,
-    pub made: Text,
+    pub made: ValueText,
     pub more: bool,
 }
 
@@ -48,32 +48,11 @@ pub struct Timed {
     pub zone: Zone,
 }
 
-// What first or last reads as.
-#[derive(Clone, Copy)]
-pub enum TimeRead {
-    Is(Timed),
-    Refused(Refusal),
-}
-
-// What the step reads as.
-#[derive(Clone, Copy)]
-pub enum StepRead {
-    Is(Span),
-    Refused(Refusal),
-}
-
 // A run in spans, and the zone that its occurrences are written in.
 #[derive(Clone, Copy)]
 pub struct RunSpans {
     pub run: Run,
     pub zone: Zone,
-}
-
-// The run of a line, or the refusal of one of its fields.
-#[derive(Clone, Copy)]
-pub enum RunRead {
-    Is(RunSpans),
-    Refused(Refusal),
 }
 
 // A case without a made text, and with nothing after it.
@@ -82,7 +61,7 @@ fn alone(read: CaseRead) -> CaseAtPlace
 {
     CaseAtPlace {
         read,
-        made: Text::new(),
+        made: ValueText::new(),
         more: false,
     }
 }
@@ -120,23 +99,19 @@ fn times_of(d: DateTime, zone: Offset) -> Timed
 }
 
 // First or last: the n-th field.
-fn time_read(line: &[u8], n: usize, zone: Offset) -> TimeRead
+fn time_read(line: &[u8], n: usize, zone: Offset) -> Result<Timed, Refusal>
     requires { ok_offset zone ≡ true }
     ensures { time_meaning result ≡ time_read zone line.now n }
 {
-    match text_fields::read(Kind::DateTime, line, n, &line[..0]) {
-        Outcome::Refused(r) => TimeRead::Refused(r),
-        Outcome::Is(v) => TimeRead::Is(times_of(moment(v), zone)),
-    }
+    let v = text_fields::read(Kind::DateTime, line, n, &line[..0])?;
+    Ok(times_of(moment(v), zone))
 }
 
-fn step_read(line: &[u8]) -> StepRead
+fn step_read(line: &[u8]) -> Result<Span, Refusal>
     ensures { step_meaning result ≡ step_read line.now }
 {
-    match text_fields::read(Kind::DayTimeDuration, line, STEP, &line[..0]) {
-        Outcome::Refused(r) => StepRead::Refused(r),
-        Outcome::Is(v) => StepRead::Is(ticks::forward(v)),
-    }
+    let v = text_fields::read(Kind::DayTimeDuration, line, STEP, &line[..0])?;
+    Ok(ticks::forward(v))
 }
 
 fn run_from(a: Timed, b: Timed, step: Span) -> RunSpans
@@ -158,33 +133,27 @@ fn run_from(a: Timed, b: Timed, step: Span) -> RunSpans
 }
 
 // Fields 3, 4 and 5 in their turn: the last of them first.
-fn after_last(line: &[u8], first: Timed, last: Timed) -> RunRead
+fn after_last(line: &[u8], first: Timed, last: Timed) -> Result<RunSpans, Refusal>
     ensures { read_meaning result ≡ after_last line.now first last }
 {
-    match step_read(line) {
-        StepRead::Refused(r) => RunRead::Refused(r),
-        StepRead::Is(step) => RunRead::Is(run_from(first, last, step)),
-    }
+    let step = step_read(line)?;
+    Ok(run_from(first, last, step))
 }
 
-fn after_first(line: &[u8], first: Timed, zone: Offset) -> RunRead
+fn after_first(line: &[u8], first: Timed, zone: Offset) -> Result<RunSpans, Refusal>
     requires { ok_offset zone ≡ true }
     ensures { read_meaning result ≡ after_first zone line.now first }
 {
-    match time_read(line, LAST, zone) {
-        TimeRead::Refused(r) => RunRead::Refused(r),
-        TimeRead::Is(last) => after_last(line, first, last),
-    }
+    let last = time_read(line, LAST, zone)?;
+    after_last(line, first, last)
 }
 
-fn run_read(line: &[u8], zone: Offset) -> RunRead
+fn run_read(line: &[u8], zone: Offset) -> Result<RunSpans, Refusal>
     requires { ok_offset zone ≡ true }
     ensures { read_meaning result ≡ spans_read zone (fields_read line.now) }
 {
-    match time_read(line, FIRST, zone) {
-        TimeRead::Refused(r) => RunRead::Refused(r),
-        TimeRead::Is(first) => after_first(line, first, zone),
-    }
+    let first = time_read(line, FIRST, zone)?;
+    after_first(line, first, zone)
 }
 
 // A good run at a place: the written text of its occurrence there, or nothing.
@@ -198,8 +167,8 @@ fn at_occurrence(run: Run, zone: Zone, place: u32) -> CaseAtPlace
     let more = run_times::reached(run, place + 1);
     let t = run_times::occurrence(run, place);
     match ticks::placed(t, zone) {
-        Placed::Beyond => alone(CaseRead::Miss),
-        Placed::At(d) => CaseAtPlace {
+        None => alone(CaseRead::Miss),
+        Some(d) => CaseAtPlace {
             read: CaseRead::Row,
             made: text::text_of(Value::Moment(Kind::DateTime, d)),
             more,
@@ -213,8 +182,8 @@ fn at_run(run: Run, zone: Zone, place: u32) -> CaseAtPlace
     ensures { ShowsRun result run zone place }
 {
     match run_times::checked(run) {
-        Verdict::Refused(r) => alone(CaseRead::Refused(r)),
-        Verdict::Good => at_occurrence(run, zone, place),
+        Err(r) => alone(CaseRead::Refused(r)),
+        Ok(()) => at_occurrence(run, zone, place),
     }
 }
 
@@ -230,8 +199,8 @@ pub fn at_place(line: &[u8], place: u32, zone: Offset) -> CaseAtPlace
         return alone(CaseRead::Miss);
     }
     match run_read(line, zone) {
-        RunRead::Refused(r) => alone(CaseRead::Refused(r)),
-        RunRead::Is(x) => {
+        Err(r) => alone(CaseRead::Refused(r)),
+        Ok(x) => {
             let run = x.run;
             let own = x.zone;
             at_run(run, own, place)

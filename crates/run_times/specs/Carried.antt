@@ -1,6 +1,6 @@
 -- Carried: a run in code is four spans; here it is their ticks, and what is known of them. No promise to a caller rests on it: runs are
 -- Occurrences.antt.
-use Rattle.std.specs.Prelude.{◌<◌, ◌≤◌}
+use Rattle.std.specs.Prelude.{◌<◌, ◌≤◌, Err, Ok, Result}
 use Rattle.basis.specs.Answer.{Answer, gives, refuses_for}
 use Rattle.value.specs.Reasons.{reason_of}
 use Rattle.value.specs.Bounds.{second_ticks, max_day_time}
@@ -8,8 +8,7 @@ use Rattle.value.specs.declared.Span.{Span}
 use Rattle.value.specs.Carried.{ticks_of}
 use Rattle.run_times.specs.Occurrences.{Times}
 use Rattle.run_times.specs.declared.Run.{Run}
-use Rattle.run_times.specs.declared.Verdict.{Verdict}
-use Rattle.run_times.specs.declared.Verdict.TheVariants as VV
+use Rattle.value.specs.declared.Refusal.{Refusal}
 
 abbrev pub span_times : Run → Times
 span_times r =
@@ -33,6 +32,6 @@ pub record Going (r : Run) : Type 0 where
   pub above : 0 < ticks_of r.step
 
 -- what a verdict says
-abbrev pub verdict_meaning : Verdict → Answer (Unit {0})
-verdict_meaning VV.Good = gives tt
-verdict_meaning (VV.Refused r) = refuses_for (reason_of r)
+abbrev pub verdict_meaning : Result Unit Refusal → Answer (Unit {0})
+verdict_meaning (Ok tt) = gives tt
+verdict_meaning (Err r) = refuses_for (reason_of r)

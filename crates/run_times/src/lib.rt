@@ -23,13 +23,6 @@ pub struct Run {
     pub step: Span,
 }
 
-// That a run is good, or its refusal.
-#[derive(Clone, Copy)]
-pub enum Verdict {
-    Good,
-    Refused(Refusal),
-}
-
 pub fn most_occurrences() -> u32
     ensures { result ≡ most_occurrences }
 {
@@ -107,14 +100,14 @@ fn some_passes(r: Run) -> bool
     last_passes(r)
 }
 
-fn refused(number: u8) -> Verdict
+fn refused(number: u8) -> Result<(), Refusal>
     ensures { verdict_meaning result ≡ refuses number }
 {
-    Verdict::Refused(Refusal::numbered(number))
+    Err(Refusal::numbered(number))
 }
 
 // The refusals of a run, in their order.
-pub fn checked(r: Run) -> Verdict
+pub fn checked(r: Run) -> Result<(), Refusal>
     requires { Good r }
     ensures { verdict_meaning result ≡ run_checked (span_times r) }
 {
@@ -132,5 +125,5 @@ pub fn checked(r: Run) -> Verdict
     if some_passes(r) {
         return refused(Refusal::BEYOND_RESULT);
     }
-    Verdict::Good
+    Ok(())
 }

@@ -1,6 +1,7 @@
 -- Document 01, "Writing text" and refusal 15, with document 02's nine digits, by computation: the longest text has 35
 -- bytes. A room of one byte less keeps every byte; one that just fits is filled; of a longer one the bytes after the
 -- text stay.
+use Rattle.std.specs.Prelude.{Some}
 use mathlib.Core.Path.{◌≡◌, refl}
 use mathlib.Core.List.{List, ◌++◌}
 use Prim.Native.Nat.{ℕ}
@@ -15,7 +16,6 @@ use Rattle.value.specs.Rows.{is_moment, has, of_kind}
 use Rattle.value.specs.Values.{ok_date, ok_offset, ok_zone, ok_time_part, ok_date_time}
 use Rattle.value.specs.Kinds.{ok_value}
 use Rattle.value.specs.declared.Offset.TheVariants.{East}
-use Rattle.value.specs.declared.Zone.TheVariants.{At}
 use Rattle.value.specs.declared.Value.{Value}
 use Rattle.value.specs.declared.Kind.TheVariants as KV
 use Rattle.value.specs.declared.Value.TheVariants as VV
@@ -25,7 +25,7 @@ use Rattle.text_layouts.specs.Writing.{layout_text, part_text, pair_of}
 use Rattle.text.specs.Writing.{text_of, written, after_write}
 
 abbrev last : Value
-last = VV.Moment KV.DateTime (at_clock (record { year = max_year; month = 12; day = 31 }) max_clock (At (East max_zone)))
+last = VV.Moment KV.DateTime (at_clock (record { year = max_year; month = 12; day = 31 }) max_clock (Some (East max_zone)))
 
 abbrev text : List ℕ
 text = bytes "9999-12-31T23:59:59.999999999+14:00"

@@ -2,7 +2,6 @@ pub mod Answers
 pub mod ReadsBare
 pub mod Numbers
 pub mod Rooms
-pub mod Texts
 pub mod Strangers
 pub mod RoundTrip
 pub mod Cases

@@ -1,4 +1,5 @@
 -- The numbers that reading refuses with are 1, 2 and 3; those of writing are 16 and 15.
+use Rattle.std.specs.Prelude.{None, Option, Some}
 use mathlib.Core.Path.{◌≡◌, refl, sym, ◌∙◌}
 use mathlib.Core.Bool.{Bool, true}
 use mathlib.Core.List.{List, [], ◌∷◌}
@@ -9,23 +10,19 @@ use lib.ListN.{length}
 use Rattle.basis.specs.Choice.{pick, among}
 use Rattle.basis.specs.Answer.{Reason, Answer, gives, refuses_for, refuses}
 use Rattle.calendar.specs.declared.Date.{Date}
-use Rattle.calendar.specs.declared.Dated.{Dated}
-use Rattle.calendar.specs.declared.Dated.TheVariants.{On, Later}
 use Rattle.calendar.specs.Calendar.{day_of, dated_of}
 use Rattle.value.specs.Bounds.{max_year}
 use Rattle.value.specs.Refusals.{bad_text, beyond_bounds, long_fraction, no_room, outside}
 use Rattle.value.specs.Rows.{is_moment, has_part}
 use Rattle.value.specs.Kinds.{ok_value}
 use Rattle.value.specs.Values.{ok_date}
-use Rattle.value.specs.declared.Zone.{Zone}
 use Rattle.value.specs.declared.Kind.{Kind}
 use Rattle.value.specs.declared.Value.{Value}
 use Rattle.value.proofs.Numbers.{only, only_either, only_refused}
 use Rattle.text_scan.specs.declared.FoundDate.{FoundDate}
 use Rattle.text_scan.specs.declared.FoundClock.{FoundClock}
 use Rattle.text_scan.specs.declared.FoundZone.{FoundZone}
-use Rattle.text_scan.specs.declared.Scan.{Scan}
-use Rattle.text_scan.specs.Scanning.{uncapped, scanned_parts}
+use Rattle.text_scan.specs.Scanning.{Scan, uncapped, scanned_parts}
 use Rattle.text_checks.specs.Reading as judging
 use Rattle.text_layouts.specs.Reading.{read_layout}
 use Rattle.text_durations.specs.Walks.{within_bounds, counted, read_by, shape, as_value}
@@ -36,6 +33,7 @@ use Rattle.text_blanks.specs.Blanks.{bare}
 use Rattle.text.specs.Reading.{read_bare, read_as}
 use Rattle.text.specs.Writing.{text_of, written}
 use Rattle.text.proofs.ReadsBare.{reads_bare}
+use Rattle.value.specs.declared.Offset.{Offset}
 
 abbrev pub reading_numbers : List ℕ
 reading_numbers = bad_text ∷ beyond_bounds ∷ long_fraction ∷ []
@@ -50,15 +48,15 @@ either : {A : Type 0} (b : Bool) (x y : Answer A) → Reads x → Reads y → Re
 either b x y p q = only_either reading_numbers b x y p q
 
 -- dates, times and dateTimes
-start_numbers : (k : Kind) (z : Zone) (d : Dated) → Reads (judging.start_of_day k z d)
-start_numbers k z (On d) = refl
-start_numbers k z Later = refl
+start_numbers : (k : Kind) (z : Option Offset) (d : Option Date) → Reads (judging.start_of_day k z d)
+start_numbers k z (Some d) = refl
+start_numbers k z None = refl
 
-next_numbers : (k : Kind) (d : Date) (z : Zone) → Reads (judging.next_day k d z)
+next_numbers : (k : Kind) (d : Date) (z : Option Offset) → Reads (judging.next_day k d z)
 unfolding judging.next_day
 next_numbers k d z = either (has_part k (code "D")) _ _ (start_numbers k z (dated_of (day_of d + 1) max_year)) refl
 
-clocked_numbers : (k : Kind) (d : Date) (c : FoundClock) (z : Zone) → Reads (judging.clocked k d c z)
+clocked_numbers : (k : Kind) (d : Date) (c : FoundClock) (z : Option Offset) → Reads (judging.clocked k d c z)
 unfolding judging.clocked
 clocked_numbers k d c z = either (eqb c.hour judging.day_end) _ _ (next_numbers k d z) refl
 

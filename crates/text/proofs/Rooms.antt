@@ -1,5 +1,5 @@
 -- What a lent room holds afterwards: as it was after a refusal, else the text and after it the bytes that stood there.
-use mathlib.Core.Path.{◌≡◌, ap, sym, ◌∙◌}
+use mathlib.Core.Path.{◌≡◌}
 use mathlib.Core.Bool.{true, false}
 use mathlib.Core.List.{List, ◌++◌}
 use Prim.Native.Nat.{ℕ, ◌≤◌, ◌<◌}
@@ -10,9 +10,6 @@ use Rattle.basis.specs.Answer.{gives, refuses}
 use Rattle.value.specs.Refusals.{no_room, outside}
 use Rattle.value.specs.Kinds.{ok_value}
 use Rattle.value.specs.declared.Value.{Value}
-use Rattle.numerals.specs.declared.Text.{Text}
-use Rattle.numerals.specs.Carried.{text_in, Holds}
-use Rattle.numerals.proofs.Texts.{holds_fits}
 use Rattle.text.specs.Writing.{text_of, written, after_write}
 
 module _ (v : Value) (room : List ℕ) where
@@ -33,7 +30,3 @@ module _ (v : Value) (room : List ℕ) where
   copied e n en h s es =
       let l = le-leb (length (text_of v)) (length room) (omega arith) in
       (rw (e, l, en), rw (e, l, es, en))
-
--- a text's length is that of its bytes, and its array is at least as long
-pub own_length : (t : Text) (w : List ℕ) → Holds t.bytes t.len w → (t.len ≡ length (text_in t)) × (t.len ≤ length t.bytes)
-own_length t w h = (h.size ∙ sym (ap length h.text), holds_fits h)

@@ -17,8 +17,7 @@ use Rattle.value.specs.declared.Kind.TheVariants as KV
 use Rattle.value.specs.declared.Value.{Value}
 use Rattle.numerals.specs.Reading.{is_digit, at}
 use Rattle.text_blanks.specs.Blanks.{blanks, is_blank}
-use Rattle.text_scan.specs.Scanning.{uncapped, scanned_parts}
-use Rattle.text_scan.specs.declared.Scan.{Scan}
+use Rattle.text_scan.specs.Scanning.{Scan, uncapped, scanned_parts}
 use Rattle.text_scan.proofs.Passed.{moment_byte, good_passed}
 use Rattle.text_checks.specs.Reading.{judge}
 use Rattle.text_layouts.specs.Reading.{read_layout}

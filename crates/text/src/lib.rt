@@ -4,22 +4,14 @@
 ghost use Rattle.std.specs.Prelude.{◌≡◌, true, length};
 ghost use Rattle.basis.specs.Answer.{refuses};
 ghost use Rattle.value.specs.Kinds as kinds;
-ghost use Rattle.numerals.specs.Carried.{Holds};
 ghost use Rattle.text.specs.Reading.{read_bare, read_as};
 ghost use Rattle.text.specs.Writing as its;
 
-use numerals::Text;
-use value::{Kind, Outcome, Refusal, Value};
-
-// How many bytes were written, or why none was.
-#[derive(Clone, Copy)]
-pub enum Written {
-    Length(usize),
-    Refused(Refusal),
-}
+use numerals::ValueText;
+use value::{Kind, Refusal, Value};
 
 // What the bytes of a value of a kind read as; a blank among them is a byte like any other.
-fn read_bare(kind: Kind, s: &[u8]) -> Outcome
+fn read_bare(kind: Kind, s: &[u8]) -> Result<Value, Refusal>
     ensures { kinds.meaning result ≡ read_bare kind s.now }
 {
     if value::kinds::is_moment(kind) {
@@ -31,7 +23,7 @@ fn read_bare(kind: Kind, s: &[u8]) -> Outcome
 }
 
 // What a text of a kind reads as. The text is the whole field or literal, with the blanks round the value.
-pub fn read(kind: Kind, s: &[u8]) -> Outcome
+pub fn read(kind: Kind, s: &[u8]) -> Result<Value, Refusal>
     ensures { kinds.meaning result ≡ read_as kind s.now }
 {
     let ends = text_blanks::strip(s);
@@ -40,37 +32,36 @@ pub fn read(kind: Kind, s: &[u8]) -> Outcome
     read_bare(kind, &s[start..end])
 }
 
-pub fn text_of(v: Value) -> Text
+pub fn text_of(v: Value) -> ValueText
     requires { kinds.ok_value v ≡ true }
-    ensures { Holds result.bytes result.len (its.text_of v) }
+    ensures { result ≡ its.text_of v }
 {
     match v {
         Value::Moment(kind, d) => text_layouts::layout_text(kind, d),
-        Value::DayTime(_) => text_durations::text_of(v),
-        Value::YearMonth(_) => text_durations::text_of(v),
+        Value::DayTime(_) | Value::YearMonth(_) => text_durations::text_of(v),
     }
 }
 
-fn refused(number: u8) -> Written
+fn refused(number: u8) -> Result<usize, Refusal>
     ensures { its.written_meaning result ≡ refuses number }
 {
-    Written::Refused(Refusal::numbered(number))
+    Err(Refusal::numbered(number))
 }
 
 // The text of a value at the start of a lent room.
-pub fn write(v: Value, room: &mut [u8]) -> Written
+pub fn write(v: Value, room: &mut [u8]) -> Result<usize, Refusal>
     ensures result_value { its.written_meaning result ≡ its.written v (length room.old) }
     ensures room_after { room.new ≡ its.after_write v room.old }
 {
     if !value::valid::value_ok(v) {
         return refused(Refusal::OUTSIDE);
     }
-    let t = text_of(v);
-    let n = t.len;
-    let bytes = t.bytes;
+    let text = text_of(v);
+    let bytes = text.as_slice();
+    let n = bytes.len();
     if room.len() < n {
         return refused(Refusal::NO_ROOM);
     }
-    room[..n].copy_from_slice(&bytes[..n]);
-    Written::Length(n)
+    room[..n].copy_from_slice(bytes);
+    Ok(n)
 }

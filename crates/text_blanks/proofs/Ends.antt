@@ -1,20 +1,21 @@
 -- Which bytes are blanks, and those at a text's two ends: how many stand at its beginning, byte by byte, and how long it is without
 -- those at its end.
-use mathlib.Core.Path.{◌≡◌, refl, ap, sym, ◌∙◌}
-use mathlib.Core.Bool.{Bool, true, false}
-use mathlib.Core.List.{List, [], ◌∷◌, ◌++◌}
-use Prim.Native.Nat.{ℕ, suc, ◌+◌, ◌-◌, ◌≤◌, ◌<◌}
-use native.Mathlib.Numerals.{add-one}
+use mathlib.Core.Path.{◌≡◌, refl, ap, ◌∙◌}
+use mathlib.Core.Bool.{Bool, true, false, cond}
+use mathlib.Core.List.{List, reverse, [], ◌∷◌, ◌++◌}
+use Prim.Native.Nat.{ℕ, zero, suc, ◌+◌, ◌≤◌}
 use native.Mathlib.Omega.{arith}
 use lib.Dec.{eqb}
-use lib.ListN.{length, get_or, take, drop, length-drop, drop_of_length-le}
-use lib.Seq.{drop-cons, take-suc, take_all, length-take-le, get_or-drop}
+use Rattle.std.specs.List.{prefix_len, suffix_len}
+use Rattle.std.proofs.lemmas.List.{reverse-append, length-reverse}
+use Rattle.std.proofs.lemmas.List.Folds.{prefix_len-append}
+use lib.ListN.{length}
 use borrow.Author.Tests.{eq-eqb, ne_eqb}
 use Rattle.basis.specs.Choice.{pick, both}
 use Rattle.basis.proofs.Tests.{both_left, both_right}
 use Rattle.text_blanks.specs.Blanks.{is_blank, only_blanks, leading_blanks, untrailed}
 
--- ---- a blank: worked cases, then one byte of the four after the other
+-- ---- a blank: worked cases
 
 -- the four are blanks
 four_blanks : (is_blank 9 ≡ true) × (is_blank 10 ≡ true) × (is_blank 13 ≡ true) × (is_blank 32 ≡ true)
@@ -26,45 +27,17 @@ no_others : (is_blank 8 ≡ false) × (is_blank 11 ≡ false) × (is_blank 12 �
 unfolding is_blank
 no_others = (refl, refl, refl, refl, refl, refl, refl, refl, refl)
 
-module _ (b : ℕ) where
-  pub first_blank : b ≡ 9 → true ≡ is_blank b
-  unfolding is_blank
-  first_blank e = rw (eq-eqb b 9 e)
-
-  module _ (n : b ≡ 9 → ⊥) where
-    pub second_blank : b ≡ 10 → true ≡ is_blank b
-    unfolding is_blank
-    second_blank e = rw (ne_eqb b 9 n, eq-eqb b 10 e)
-
-    module _ (m : b ≡ 10 → ⊥) where
-      pub third_blank : b ≡ 13 → true ≡ is_blank b
-      unfolding is_blank
-      third_blank e = rw (ne_eqb b 9 n, ne_eqb b 10 m, eq-eqb b 13 e)
-
-      pub last_blank : (b ≡ 13 → ⊥) → eqb b 32 ≡ is_blank b
-      unfolding is_blank
-      last_blank k = rw (ne_eqb b 9 n, ne_eqb b 10 m, ne_eqb b 13 k) (go (eqb b 32))
-        where
-          go : (x : Bool) → x ≡ pick x true false
-          go true = refl
-          go false = refl
-
 -- ---- at the beginning
 
--- at another byte no blank stands before it
-pub lead_stop : (s : List ℕ) (i : ℕ) → i < length s → is_blank (get_or s i 0) ≡ false → leading_blanks (drop i s) ≡ 0
+-- as many as pass the test at the front
+pub lead_counts : (s : List ℕ) → prefix_len is_blank s ≡ leading_blanks s
 unfolding leading_blanks
-lead_stop s i l e = rw (drop-cons s i 0, e)
-
--- a blank is one more
-pub lead_on : (s : List ℕ) (i : ℕ) → i < length s → is_blank (get_or s i 0) ≡ true → leading_blanks (drop i s) ≡ suc (leading_blanks (drop (i + 1) s))
-unfolding leading_blanks
-lead_on s i l e = rw (add-one, drop-cons s i 0, e)
-
--- at the end there is none
-pub lead_end : (s : List ℕ) (i : ℕ) → length s ≤ i → leading_blanks (drop i s) ≡ 0
-unfolding leading_blanks
-lead_end s i l = rw (drop_of_length-le s l)
+lead_counts [] = refl
+lead_counts (b ∷ s) = go (is_blank b) (lead_counts s)
+  where
+    go : (x : Bool) → prefix_len is_blank s ≡ leading_blanks s → cond x (1 + prefix_len is_blank s) 0 ≡ pick x (suc (leading_blanks s)) 0
+    go true h = omega arith
+    go false h = refl
 
 pub lead_le : (s : List ℕ) → leading_blanks s ≤ length s
 unfolding leading_blanks
@@ -114,45 +87,23 @@ untrailed_whole (c ∷ s) b e = rw (untrailed_whole s b e) (go (is_blank c))
     go true = rw (ne_eqb (suc (length s)) 0 (λ q. omega arith))
     go false = refl
 
--- ---- a text cut off before a byte, from its end on
+-- one byte more in front is one more at the back, where all bytes behind it pass
+rear_front : (b : ℕ) (s : List ℕ)
+    → suffix_len is_blank (b ∷ s) ≡ cond (eqb (suffix_len is_blank s) (length s)) (length s + cond (is_blank b) 1 0) (suffix_len is_blank s)
+rear_front b s =
+    ap (prefix_len is_blank) (reverse-append (b ∷ []) s)
+    ∙ prefix_len-append is_blank (reverse s) (b ∷ [])
+    ∙ ap (λ (n : ℕ). cond (eqb (suffix_len is_blank s) n) (n + cond (is_blank b) 1 0) (suffix_len is_blank s)) (length-reverse s)
 
-module _ (t : List ℕ) (n : ℕ) (h : n < length t) where
-  -- a blank is cut off
-  pub cut_blank : is_blank (get_or t n 0) ≡ true → untrailed (take (suc n) t) ≡ untrailed (take n t)
-  unfolding only_blanks both
-  cut_blank e = rw (take-suc t n 0 h) (untrailed_same (take n t) (get_or t n 0 ∷ []) (rw e))
+rear_step : (x : Bool) (u k n : ℕ) → u + k ≡ n → pick (both x (eqb u 0)) 0 (suc u) + cond (eqb k n) (n + cond x 1 0) k ≡ suc n
+unfolding both
+rear_step true zero k n h = rw (eq-eqb k n (omega arith)) (omega arith)
+rear_step false zero k n h = rw (eq-eqb k n (omega arith)) (omega arith)
+rear_step true (suc u) k n h = rw (ne_eqb (suc u) 0 (λ e. omega arith), ne_eqb k n (λ e. omega arith)) (omega arith)
+rear_step false (suc u) k n h = rw (ne_eqb k n (λ e. omega arith)) (omega arith)
 
-  -- another byte is the last
-  pub cut_last : is_blank (get_or t n 0) ≡ false → untrailed (take (suc n) t) ≡ suc n
-  cut_last e = rw (take-suc t n 0 h) (untrailed_whole (take n t) (get_or t n 0) e ∙ ap suc (length-take-le n t (omega arith)))
-
--- ---- the same of what stands in a text from an offset on, up to another
-
-module _ (s : List ℕ) (start : ℕ) where
-  pub all_taken : untrailed (drop start s) ≡ untrailed (take (length s - start) (drop start s))
-  all_taken = ap untrailed (sym (take_all (length s - start) (drop start s) (omega (arith, length-drop start s))))
-
-  module _ (end : ℕ) (l : start < end) (m : end ≤ length s) where
-    last_there : is_blank (get_or (drop start s) (end - 1 - start) 0) ≡ is_blank (get_or s (end - 1) 0)
-    last_there =
-        let e : start + (end - 1 - start) ≡ end - 1 = omega arith in
-        ap is_blank (get_or-drop start s (end - 1 - start) 0) ∙ ap (λ (k : ℕ). is_blank (get_or s k 0)) e
-
-    up_to : take (end - start) (drop start s) ≡ take (suc (end - 1 - start)) (drop start s)
-    up_to =
-        let e : end - start ≡ suc (end - 1 - start) = omega arith in
-        ap (λ (k : ℕ). take k (drop start s)) e
-
-    -- a blank there is none of the value
-    pub one_less : is_blank (get_or s (end - 1) 0) ≡ true → untrailed (take (end - start) (drop start s)) ≡ untrailed (take (end - 1 - start) (drop start s))
-    one_less e = ap untrailed up_to ∙ cut_blank (drop start s) (end - 1 - start) (omega (arith, length-drop start s)) (last_there ∙ e)
-
-    -- another byte is its last
-    pub the_last : is_blank (get_or s (end - 1) 0) ≡ false → start + untrailed (take (end - start) (drop start s)) ≡ end
-    the_last e = omega (arith, ap untrailed up_to, cut_last (drop start s) (end - 1 - start) (omega (arith, length-drop start s)) (last_there ∙ e))
-
-  pub all_gone : (end : ℕ) → end ≤ start → untrailed (take (end - start) (drop start s)) ≡ 0
-  unfolding untrailed
-  all_gone end h =
-      let e : end - start ≡ 0 = omega arith in
-      ap (λ (k : ℕ). untrailed (take k (drop start s))) e
+-- what is not left are the bytes that pass the test at the back
+pub rear_counts : (s : List ℕ) → untrailed s + suffix_len is_blank s ≡ length s
+unfolding untrailed
+rear_counts [] = refl
+rear_counts (b ∷ s) = rw (rear_front b s) (rear_step (is_blank b) (untrailed s) (suffix_len is_blank s) (length s) (rear_counts s))

@@ -12,55 +12,24 @@ pub struct Stripped {
 }
 
 // Tab, newline, carriage return and space.
+#[tactic(auto, unfolding(crate::specs::Blanks::is_blank))]
 fn is_blank(b: u8) -> bool
     ensures { result ≡ the.is_blank b }
 {
-    if b == 9 {
-        return true;
-    }
-    if b == 10 {
-        return true;
-    }
-    if b == 13 {
-        return true;
-    }
-    b == 32
+    matches!(b, b'\t' | b'\n' | b'\r' | b' ')
 }
 
-// The first byte that is no blank, or the text's end.
-fn start_of(s: &[u8]) -> usize
-    ensures { result ≡ the.leading_blanks s.now }
-{
-    let mut at = 0;
-    while at < s.len() {
-        if !is_blank(s[at]) {
-            return at;
-        }
-        at += 1;
-    }
-    at
-}
-
-// After the last byte from an offset on that is no blank, or the offset itself.
-fn end_of(s: &[u8], start: usize) -> usize
-    requires { start ≤ length s.now }
-    ensures { result ≡ start + the.untrailed (drop start s.now) }
-{
-    let mut end = s.len();
-    while start < end {
-        if !is_blank(s[end - 1]) {
-            return end;
-        }
-        end -= 1;
-    }
-    end
-}
-
-// Where the value of a text starts and where it ends.
+// Where the value of a text starts and where it ends: after the blanks at its front, before those at its back. In a text of
+// blanks alone both are its end.
 pub fn strip(s: &[u8]) -> Stripped
     ensures { result ≡ the.stripped s.now }
 {
-    let start = start_of(s);
-    let end = end_of(s, start);
+    let start = s.iter().take_while(|b| is_blank(**b)).count();
+    let trailing = s[start..]
+        .iter()
+        .rev()
+        .take_while(|b| is_blank(**b))
+        .count();
+    let end = s.len() - trailing;
     Stripped { start, end }
 }

@@ -1,4 +1,5 @@
 -- The ways through the checks, one law a way out, in the words of the code: what it has in hand for each definition.
+use Rattle.std.specs.Prelude.{None, Option, Some}
 use mathlib.Core.Path.{◌≡◌, refl, ap, sym, ◌∙◌}
 use mathlib.Core.Bool.{Bool, true, false}
 use mathlib.Core.List.{List}
@@ -7,19 +8,16 @@ use native.Mathlib.Omega.{arith}
 use lib.Dec.{eqb, leb}
 use lib.ListN.{length}
 use borrow.Author.Tests.{leb-true, leb-false, lt-leb, le-leb, eq-eqb, ne_eqb, eqb-true}
-use Rattle.basis.specs.Choice.{pick, both, every}
+use Rattle.basis.specs.Choice.{pick, every}
 use Rattle.basis.specs.Answer.{Answer, gives, refuses}
-use Rattle.basis.proofs.Tests.{both_left, both_right, both_end}
+use Rattle.basis.proofs.Tests.{both_left, both_right}
 use Rattle.calendar.specs.Calendar.{GoodDate, day_of, dated_of}
 use Rattle.calendar.specs.declared.Date.{Date}
-use Rattle.calendar.specs.declared.Dated.{Dated}
-use Rattle.calendar.specs.declared.Dated.TheVariants.{On, Later}
 use Rattle.value.specs.Bounds.{max_year, second_ticks, day_ticks}
 use Rattle.value.specs.Clocks.{at_clock}
 use Rattle.value.specs.Refusals.{bad_text, beyond_bounds}
 use Rattle.value.specs.Values.{ok_date}
 use Rattle.value.specs.Rows.{parts_in, layout_of}
-use Rattle.value.specs.declared.Zone.{Zone}
 use Rattle.value.specs.declared.DateTime.{DateTime}
 use Rattle.value.specs.declared.Kind.{Kind}
 use Rattle.value.specs.declared.OwnParts.{OwnParts}
@@ -28,23 +26,23 @@ use Rattle.value.specs.declared.Value.TheVariants as VV
 use Rattle.value.proofs.Good.{good_day, numbered}
 use Rattle.text_scan.specs.declared.FoundDate.{FoundDate}
 use Rattle.text_scan.specs.declared.FoundClock.{FoundClock}
-use Rattle.text_scan.specs.declared.Scan.{Scan}
-use Rattle.text_scan.specs.Scanning.{uncapped, scanned_parts}
+use Rattle.text_scan.specs.Scanning.{Scan, uncapped, scanned_parts}
 use Rattle.text_scan.specs.Carried.{capped}
 use Rattle.text_scan.proofs.Caps.{cut, cut_date, parts_cut}
 use Rattle.text_checks.specs.Reading.{next_day, day_end, max_hour, max_minute, ok_clock, is_day_end, good_clock, clock_ticks, clocked, on_calendar, bounded, judge}
+use Rattle.value.specs.declared.Offset.{Offset}
 
 -- the day after
-module _ (k : Kind) (d : Date) (z : Zone) {own : OwnParts} (ep : own ≡ parts_in (layout_of k)) where
-  module _ (h : own.day ≡ true) {n : ℕ} (en : n ≡ day_of d) {x : Dated} (ex : x ≡ dated_of (n + 1) max_year) where
-    after : {y : Dated} → x ≡ y → dated_of (day_of d + 1) max_year ≡ y
+module _ (k : Kind) (d : Date) (z : Option Offset) {own : OwnParts} (ep : own ≡ parts_in (layout_of k)) where
+  module _ (h : own.day ≡ true) {n : ℕ} (en : n ≡ day_of d) {x : (Option Date)} (ex : x ≡ dated_of (n + 1) max_year) where
+    after : {y : (Option Date)} → x ≡ y → dated_of (day_of d + 1) max_year ≡ y
     after e = sym (ex ∙ ap (λ (m : ℕ). dated_of (m + 1) max_year) en) ∙ e
 
-    pub next_on : (e : Date) → x ≡ On e → gives (VV.Moment k (at_clock e 0 z)) ≡ next_day k d z
+    pub next_on : (e : Date) → x ≡ Some e → gives (VV.Moment k (at_clock e 0 z)) ≡ next_day k d z
     unfolding next_day
     next_on e ee = rw (sym (ap (λ (x : OwnParts). x.day) ep) ∙ h, after ee)
 
-    pub next_beyond : x ≡ Later → refuses beyond_bounds ≡ next_day k d z
+    pub next_beyond : x ≡ None → refuses beyond_bounds ≡ next_day k d z
     unfolding next_day
     next_beyond ee = rw (sym (ap (λ (x : OwnParts). x.day) ep) ∙ h, after ee)
 
@@ -80,17 +78,12 @@ module _ (c : FoundClock) where
     unfolding clock_ticks
     span_within e l = (l, omega (arith, clock_within (within_day e) l))
 
-    pub on_clock : (k : Kind) (d : Date) (z : Zone) {r : DateTime} → r ≡ at_clock d ((c.hour * 3600 + c.minute * 60 + c.second) * second_ticks + c.part) z
+    pub on_clock : (k : Kind) (d : Date) (z : Option Offset) {r : DateTime} → r ≡ at_clock d ((c.hour * 3600 + c.minute * 60 + c.second) * second_ticks + c.part) z
         → gives (VV.Moment k r) ≡ clocked k d c z
     unfolding clocked clock_ticks
     on_clock k d z e = ap (λ (x : DateTime). gives (VV.Moment k x)) e ∙ rw (ne_eqb c.hour day_end n) (ap (λ (t : ℕ). gives (VV.Moment k (at_clock d t z))) (omega arith))
 
-  -- the last of the tests of a day's end
-  pub no_part_left : c.hour ≡ day_end → c.minute ≡ 0 → c.second ≡ 0 → eqb c.part 0 ≡ is_day_end c
-  unfolding is_day_end every both
-  no_part_left h m s = rw (eq-eqb c.hour day_end h, eq-eqb c.minute 0 m, eq-eqb c.second 0 s) (sym (both_end (eqb c.part 0)))
-
-  pub at_end : c.hour ≡ day_end → (k : Kind) (d : Date) (z : Zone) → next_day k d z ≡ clocked k d c z
+  pub at_end : c.hour ≡ day_end → (k : Kind) (d : Date) (z : Option Offset) → next_day k d z ≡ clocked k d c z
   unfolding clocked
   at_end e k d z = rw (eq-eqb c.hour day_end e)
 

@@ -7,11 +7,12 @@ ghost use Rattle.value.specs.Bounds.{second_ticks};
 ghost use Rattle.value.specs.Values.{ok_date};
 ghost use Rattle.value.specs.Kinds.{meaning};
 ghost use Rattle.value.specs.declared.Value.TheVariants as VV;
+ghost use Rattle.text_scan.specs.Carried.{scan_in};
 ghost use Rattle.text_checks.specs.Reading as the;
 
-use calendar::{Date, Dated};
-use text_scan::{FoundClock, FoundDate, FoundZone, Scan};
-use value::{DateTime, Kind, Offset, Outcome, Refusal, Span, Value, Zone};
+use calendar::Date;
+use text_scan::{FoundClock, FoundDate, FoundParts, FoundZone};
+use value::{DateTime, Kind, Offset, Refusal, Span, Value, Zone};
 
 const MAX_HOUR: u8 = 23;
 
@@ -22,52 +23,37 @@ const DAY_END: u8 = Span::DAY_HOURS as u8;
 
 const HOUR_MINUTES: u16 = Span::HOUR_MINUTES as u16;
 
-fn refused(number: u8) -> Outcome
+fn refused(number: u8) -> Result<Value, Refusal>
     ensures { meaning result ≡ refuses number }
 {
-    Outcome::Refused(Refusal::numbered(number))
+    Err(Refusal::numbered(number))
 }
 
-fn moment(kind: Kind, d: DateTime) -> Outcome
+fn moment(kind: Kind, d: DateTime) -> Result<Value, Refusal>
     ensures { meaning result ≡ gives (VV.Moment kind d) }
 {
-    Outcome::Is(Value::Moment(kind, d))
+    Ok(Value::Moment(kind, d))
 }
 
+#[tactic(auto, unfolding(basis::specs::Choice::both, basis::specs::Choice::every, crate::specs::Reading::ok_clock))]
 fn clock_ok(c: FoundClock) -> bool
     ensures { result ≡ the.ok_clock c }
 {
-    if MAX_HOUR < c.hour {
-        return false;
-    }
-    if MAX_MINUTE < c.minute {
-        return false;
-    }
-    c.second <= MAX_MINUTE
+    c.hour <= MAX_HOUR && c.minute <= MAX_MINUTE && c.second <= MAX_MINUTE
 }
 
+#[tactic(auto, unfolding(basis::specs::Choice::both, basis::specs::Choice::every, crate::specs::Reading::is_day_end))]
 fn is_day_end(c: FoundClock) -> bool
     ensures { result ≡ the.is_day_end c }
 {
-    if c.hour != DAY_END {
-        return false;
-    }
-    if c.minute != 0 {
-        return false;
-    }
-    if c.second != 0 {
-        return false;
-    }
-    c.part == 0
+    c.hour == DAY_END && c.minute == 0 && c.second == 0 && c.part == 0
 }
 
+#[tactic(auto, unfolding(crate::specs::Reading::good_clock))]
 fn clock_good(c: FoundClock) -> bool
     ensures { result ≡ the.good_clock c }
 {
-    if clock_ok(c) {
-        return true;
-    }
-    is_day_end(c)
+    clock_ok(c) || is_day_end(c)
 }
 
 fn offset_minutes(z: FoundZone) -> u16
@@ -76,13 +62,11 @@ fn offset_minutes(z: FoundZone) -> u16
     z.hours as u16 * HOUR_MINUTES + z.minutes as u16
 }
 
+#[tactic(auto, unfolding(basis::specs::Choice::both, basis::specs::Choice::every, crate::specs::Reading::ok_parts))]
 fn zone_ok(z: FoundZone) -> bool
     ensures { result ≡ the.ok_parts z }
 {
-    if MAX_MINUTE < z.minutes {
-        return false;
-    }
-    offset_minutes(z) <= DateTime::MAX_ZONE
+    z.minutes <= MAX_MINUTE && offset_minutes(z) <= DateTime::MAX_ZONE
 }
 
 // The zone with a sign, 0 where there is none. West by no minutes is zone 0, which is east.
@@ -91,20 +75,20 @@ fn zone_is(z: FoundZone) -> Zone
 {
     let sign = z.sign;
     if sign == 0 {
-        return Zone::Absent;
+        return None;
     }
     let n = offset_minutes(z);
     if sign == b'-' {
         if n == 0 {
-            return Zone::At(Offset::East(0));
+            return Some(Offset::East(0));
         }
-        return Zone::At(Offset::West(n));
+        return Some(Offset::West(n));
     }
-    Zone::At(Offset::East(n))
+    Some(Offset::East(n))
 }
 
 // 00:00:00 of the day after; of a kind without a day, as time, the date stays.
-fn next_day(kind: Kind, d: Date, zone: Zone) -> Outcome
+fn next_day(kind: Kind, d: Date, zone: Zone) -> Result<Value, Refusal>
     requires { ok_date d.year d.month d.day ≡ true }
     ensures { meaning result ≡ the.next_day kind d zone }
 {
@@ -116,15 +100,15 @@ fn next_day(kind: Kind, d: Date, zone: Zone) -> Outcome
     if own.day {
         let n = calendar::day_number(d);
         return match calendar::date_of(n + 1, DateTime::MAX_YEAR) {
-            Dated::On(e) => moment(kind, value::clocks::at(e, midnight, zone)),
-            Dated::Later => refused(Refusal::BEYOND_BOUNDS),
+            Some(e) => moment(kind, value::clocks::at(e, midnight, zone)),
+            None => refused(Refusal::BEYOND_BOUNDS),
         };
     }
     moment(kind, value::clocks::at(d, midnight, zone))
 }
 
 // What a good date, clock and zone read as.
-fn clock(kind: Kind, d: Date, c: FoundClock, zone: Zone) -> Outcome
+fn clock(kind: Kind, d: Date, c: FoundClock, zone: Zone) -> Result<Value, Refusal>
     requires { (ok_date d.year d.month d.day ≡ true) × (the.good_clock c ≡ true) × (c.part < second_ticks) }
     ensures { meaning result ≡ the.clocked kind d c zone }
 {
@@ -139,7 +123,7 @@ fn clock(kind: Kind, d: Date, c: FoundClock, zone: Zone) -> Outcome
 }
 
 // Month and day first, then hour, minute and second, then the zone.
-fn on_calendar(kind: Kind, d: FoundDate, c: FoundClock, z: FoundZone) -> Outcome
+fn on_calendar(kind: Kind, d: FoundDate, c: FoundClock, z: FoundZone) -> Result<Value, Refusal>
     requires { c.part < second_ticks }
     ensures { meaning result ≡ the.on_calendar kind d c z }
 {
@@ -162,13 +146,14 @@ fn on_calendar(kind: Kind, d: FoundDate, c: FoundClock, z: FoundZone) -> Outcome
 }
 
 // What the parts of a text of n bytes read as. A part of a second is less than a second, as it is in every text.
-pub fn judged(kind: Kind, n: usize, t: Scan) -> Outcome
-    requires { t.clock.part < second_ticks }
-    ensures { meaning result ≡ the.judge kind n t }
+#[tactic(auto, unfolding(crate::specs::Reading::judge, crate::specs::Reading::bounded))]
+pub fn judged(kind: Kind, n: usize, found: Result<FoundParts, FoundParts>) -> Result<Value, Refusal>
+    requires { (scan_in found).clock.part < second_ticks }
+    ensures { meaning result ≡ the.judge kind n (scan_in found) }
 {
-    if !t.good {
+    let Ok(t) = found else {
         return refused(Refusal::BAD_TEXT);
-    }
+    };
     if t.at != n {
         return refused(Refusal::BAD_TEXT);
     }

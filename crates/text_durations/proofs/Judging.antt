@@ -1,4 +1,5 @@
 -- The checks of a shape, one law for each way out, and what a shape that passes them counts.
+use Rattle.std.specs.Prelude.{Err, Ok, Result}
 use mathlib.Core.Path.{◌≡◌, refl, ap, sym, ◌∙◌}
 use mathlib.Core.Bool.{Bool, true, false}
 use Prim.Native.Nat.{ℕ, ◌+◌, ◌*◌, ◌≤◌, ◌<◌}
@@ -13,10 +14,9 @@ use Rattle.value.specs.Refusals.{bad_text, beyond_bounds, long_fraction}
 use Rattle.text_durations.specs.declared.Sums.{Sums}
 use Rattle.text_durations.specs.declared.Shape.{Shape}
 use Rattle.text_durations.specs.declared.Amount.{Amount}
-use Rattle.text_durations.specs.declared.Count.{Count}
-use Rattle.text_durations.specs.declared.Count.TheVariants as NV
 use Rattle.text_durations.specs.Walks.{is_nothing, within_bounds, counted, signed_amount}
 use Rattle.text_durations.specs.Carried.{count_meaning}
+use Rattle.value.specs.declared.Refusal.{Refusal}
 
 -- each part against its bound
 module _ (a : Sums) (ticks : ℕ) where
@@ -67,13 +67,13 @@ module _ (t : Shape) where
         is_some z = sym (λ i. gives (record { negative = pick (z i) false t.negative; sums = t.sums; ticks = t.ticks })) ∙ is_within
 
 -- a count is its meaning
-abbrev count_of : Answer Amount → Count
-count_of (gives a) = NV.Of a
-count_of (refuses_for r) = NV.Refused (refusal_of r)
+abbrev count_of : Answer Amount → Result Amount Refusal
+count_of (gives a) = Ok a
+count_of (refuses_for r) = Err (refusal_of r)
 
-count_back : (c : Count) → count_of (count_meaning c) ≡ c
-count_back (NV.Of a) = refl
-count_back (NV.Refused r) = ap NV.Refused (refusal_back r)
+count_back : (c : Result Amount Refusal) → count_of (count_meaning c) ≡ c
+count_back (Ok a) = refl
+count_back (Err r) = ap Err (refusal_back r)
 
-pub count_determined : (a b : Count) → count_meaning a ≡ count_meaning b → a ≡ b
+pub count_determined : (a b : Result Amount Refusal) → count_meaning a ≡ count_meaning b → a ≡ b
 count_determined a b e = cc (ap count_of e, count_back a, count_back b)

@@ -1,5 +1,5 @@
 -- How long a duration's text can be: never more than the longest text has room for, in any form that passes.
-use mathlib.Core.Path.{◌≡◌, refl, ap, ◌∙◌}
+use mathlib.Core.Path.{◌≡◌, refl, ap}
 use mathlib.Core.Bool.{Bool, true, false}
 use mathlib.Core.List.{List, [], ◌∷◌, ◌++◌}
 use Prim.Native.Nat.{ℕ, zero, suc, ◌+◌, ◌/◌, ◌^◌, ◌≤◌, ◌<◌}
@@ -11,10 +11,8 @@ use borrow.Author.Tests.{ltb-true}
 use Rattle.basis.specs.Choice.{pick}
 use Rattle.value.specs.Kinds.{kind_of, ok_value}
 use Rattle.value.specs.declared.Value.{Value}
-use Rattle.numerals.specs.declared.Text.{Text}
 use Rattle.numerals.specs.Reading.{fraction_digits}
 use Rattle.numerals.specs.Writing.{decimal, fraction_text, longest}
-use Rattle.numerals.specs.Carried.{Holds, Added}
 use Rattle.numerals.proofs.Powers.{few_digits}
 use Rattle.numerals.proofs.Decimals.{decimal_le}
 use Rattle.numerals.proofs.Fractions.{fraction_short, no_fraction}
@@ -129,19 +127,9 @@ module _ (f : Form) (a : Amount) where
   unfolding duration_text
   text_some e = λ i. pick (e i) f.nothing (spelt a.negative (body f.before f.after a.sums a.ticks))
 
-pub holds_zero : (f : Form) (a : Amount) {n r : Text} → is_nothing a.sums a.ticks ≡ true → Holds n.bytes n.len [] → Added n r f.nothing (length f.nothing)
-    → Holds r.bytes r.len (duration_text f a)
-holds_zero f a e z x =
-    rw (text_zero f a e) (record { text = x.text ∙ ap (λ (q : List ℕ). q ++ f.nothing) z.text; size = omega (arith, x.more, z.size) })
-
 spelt_short : (b : Bool) (w : List ℕ) → length (spelt b w) ≤ 1 + length w
 spelt_short true w = omega arith
 spelt_short false w = omega arith
-
-pub holds_some : (f : Form) (a : Amount) (r : Text) → is_nothing a.sums a.ticks ≡ false
-    → Holds r.bytes r.len (spelt a.negative (body f.before f.after a.sums a.ticks))
-    → Holds r.bytes r.len (duration_text f a)
-holds_some f a r e x = rw (text_some f a e) x
 
 -- the length of a text
 text_length : (f : Form) (a : Amount) → length f.nothing ≤ longest → 1 + length (body f.before f.after a.sums a.ticks) ≤ longest → length (duration_text f a) ≤ longest

@@ -13,5 +13,4 @@ pub mod Lengths
 pub mod Cases
 pub mod Round
 pub mod Answers
-pub mod Joining
 pub mod FormRows

@@ -1,5 +1,6 @@
 -- What reads is valid: a fraction's ticks never make a second, what a text of good shape counts is within the bounds,
 -- with no sign on zero, and a form whose components count months alone, or seconds alone, gives no others.
+use Rattle.std.specs.Prelude.{Result}
 use mathlib.Core.Path.{◌≡◌, refl, ap, sym, ◌∙◌}
 use mathlib.Core.Bool.{Bool, true, false, not}
 use mathlib.Core.List.{List, [], ◌∷◌}
@@ -19,11 +20,11 @@ use Rattle.text_durations.specs.declared.Sums.{Sums}
 use Rattle.text_durations.specs.declared.Walk.{Walk}
 use Rattle.text_durations.specs.declared.Shape.{Shape}
 use Rattle.text_durations.specs.declared.Amount.{Amount}
-use Rattle.text_durations.specs.declared.Count.{Count}
 use Rattle.text_forms.specs.Forms.{Form, weight, counts_months, seconds, point, time_mark, start_mark, minus_sign}
 use Rattle.text_durations.specs.Walks.{is_nothing, no_sums, more_of, counting, component, component_of, components, pointed, timed, onward, walk_from, shape_from, shape, within_bounds, counted, signed_amount, read_by}
 use Rattle.text_durations.specs.Carried.{count_meaning, shape_up_to}
 use Rattle.text_durations.proofs.Capping.{counted_cap}
+use Rattle.value.specs.declared.Refusal.{Refusal}
 
 -- what every component keeps of the sums and of the ticks, the shape has
 module _ (s : List ℕ) (Keeps : Sums → ℕ → Type 0) (test : Bool → ℕ → Bool) (begin : Keeps no_sums 0)
@@ -173,6 +174,6 @@ unfolding read_by
 reads_good f s a e = counted_good (shape f.before f.after s) a (shape_ticks s f.before f.after) e
 
 -- what the code counts, with caps beyond the bounds, is what the form gives
-pub of_form : (f : Form) (s : List ℕ) {t : Shape} {r x : Count} → t ≡ shape_up_to (shape f.before f.after s) → count_meaning r ≡ counted t → r ≡ x → count_meaning x ≡ read_by f s
+pub of_form : (f : Form) (s : List ℕ) {t : Shape} {r x : (Result Amount Refusal)} → t ≡ shape_up_to (shape f.before f.after s) → count_meaning r ≡ counted t → r ≡ x → count_meaning x ≡ read_by f s
 unfolding read_by
 of_form f s et er ex = ap count_meaning (sym ex) ∙ er ∙ ap counted et ∙ counted_cap (shape f.before f.after s)

@@ -1,6 +1,6 @@
 -- Carried: the sums of a walk and of a shape as far as a cap each, and what was read with the offset at which its
 -- shape ends. No promise to a caller rests on it: what a text reads as is Walks.antt.
-use Rattle.std.specs.Prelude.{◌≡◌, List, ℕ, ◌+◌, ◌≤◌, min}
+use Rattle.std.specs.Prelude.{◌≡◌, List, ℕ, ◌+◌, ◌≤◌, min, Err, Ok, Result}
 use Rattle.basis.specs.Answer.{Answer, gives, refuses_for}
 use Rattle.value.specs.Bounds.{max_day_time_seconds, max_year_month}
 use Rattle.value.specs.Reasons.{reason_of}
@@ -13,8 +13,7 @@ use Rattle.text_durations.specs.declared.Walk.{Walk}
 use Rattle.text_durations.specs.declared.Shape.{Shape}
 use Rattle.text_durations.specs.declared.Amount.{Amount}
 use Rattle.text_durations.specs.declared.Reading.{Reading}
-use Rattle.text_durations.specs.declared.Count.{Count}
-use Rattle.text_durations.specs.declared.Count.TheVariants as NV
+use Rattle.value.specs.declared.Refusal.{Refusal}
 
 -- a sum is kept as far as one above its bound
 abbrev pub months_cap : ℕ
@@ -49,9 +48,9 @@ abbrev pub shape_end : Form → List ℕ → ℕ
 shape_end f s = (shape f.before f.after s).offset
 
 -- what an answer of the code says
-abbrev pub count_meaning : Count → Answer Amount
-count_meaning (NV.Of a) = gives a
-count_meaning (NV.Refused r) = refuses_for (reason_of r)
+abbrev pub count_meaning : Result Amount Refusal → Answer Amount
+count_meaning (Ok a) = gives a
+count_meaning (Err r) = refuses_for (reason_of r)
 
 -- what a reading is to say: what the text reads as, and the offset at which its shape ends
 abbrev pub Reads : Answer Value → ℕ → Reading → Type 0

@@ -5,14 +5,13 @@ ghost use Rattle.std.specs.Prelude.{◌≡◌, true, ◌<◌};
 ghost use Rattle.basis.specs.Answer.{refuses};
 ghost use Rattle.value.specs.Bounds.{second_ticks};
 ghost use Rattle.value.specs.Kinds.{ok_value};
-ghost use Rattle.numerals.specs.Carried.{Holds};
 ghost use Rattle.text_forms.specs.Forms.{duration_form};
 ghost use Rattle.text_durations.specs.Walks as the;
 ghost use Rattle.text_durations.specs.Carried as carried;
 ghost use Rattle.text_durations.specs.Spelling as its;
 
-use numerals::Text;
-use value::{Kind, Outcome, Refusal, Span, Value, YearMonth, clocks, valid};
+use numerals::ValueText;
+use value::{Kind, Refusal, Span, Value, YearMonth, clocks, valid};
 
 mod scan; // scan.rt: the components of a text, found in order
 mod spell; // spell.rt: the components of an amount, written in order
@@ -55,23 +54,10 @@ pub struct Amount {
     pub ticks: u32,
 }
 
-#[derive(Clone, Copy)]
-pub enum Count {
-    Of(Amount),
-    Refused(Refusal),
-}
-
-// Text that grows, and what is left of the sums to be written into it.
-#[derive(Drop)]
-pub struct Rest {
-    pub text: Text,
-    pub left: Sums,
-}
-
 // What a text reads as, and the offset at which its shape ends.
 #[derive(Clone, Copy)]
 pub struct Reading {
-    pub outcome: Outcome,
+    pub outcome: Result<Value, Refusal>,
     pub offset: usize,
 }
 
@@ -90,14 +76,14 @@ fn within_bounds(sums: Sums, ticks: u32) -> bool
     })
 }
 
-fn refused(number: u8) -> Count
+fn refused(number: u8) -> Result<Amount, Refusal>
     ensures { carried.count_meaning result ≡ refuses number }
 {
-    Count::Refused(Refusal::numbered(number))
+    Err(Refusal::numbered(number))
 }
 
 // The checks of document 01 in their order.
-fn counted(t: Shape) -> Count
+fn counted(t: Shape) -> Result<Amount, Refusal>
     requires { t.ticks < second_ticks }
     ensures { carried.count_meaning result ≡ the.counted t }
 {
@@ -113,13 +99,13 @@ fn counted(t: Shape) -> Count
         return refused(Refusal::BEYOND_BOUNDS);
     }
     if spell::is_nothing(sums, ticks) {
-        return Count::Of(Amount {
+        return Ok(Amount {
             negative: false,
             sums,
             ticks,
         });
     }
-    Count::Of(Amount {
+    Ok(Amount {
         negative: t.negative,
         sums,
         ticks,
@@ -149,21 +135,17 @@ pub fn read(kind: Kind, s: &[u8]) -> Reading
     ensures { carried.Reads (the.read_duration kind s.now) (carried.shape_end (duration_form kind) s.now) result }
 {
     let row = text_forms::row(kind);
-    let before = row.before;
-    let b = row.before_len;
-    let after = row.after;
-    let n = row.after_len;
-    let months = text_forms::has_letter(&before[..b], b'M');
-    let t = scan::shape(s, &before[..b], &after[..n]);
+    let months = text_forms::has_letter(row.before, b'M');
+    let t = scan::shape(s, row.before, row.after);
     let offset = t.offset;
     let c = counted(t);
     match c {
-        Count::Of(a) => Reading {
-            outcome: Outcome::Is(amount_value(months, a)),
+        Ok(a) => Reading {
+            outcome: Ok(amount_value(months, a)),
             offset,
         },
-        Count::Refused(r) => Reading {
-            outcome: Outcome::Refused(r),
+        Err(r) => Reading {
+            outcome: Err(r),
             offset,
         },
     }
@@ -206,22 +188,16 @@ fn amount_of(v: Value) -> Amount
 }
 
 // The text of a duration, by its kind's form.
-pub fn text_of(v: Value) -> Text
+pub fn text_of(v: Value) -> ValueText
     requires { ok_value v ≡ true }
-    ensures { Holds result.bytes result.len (its.duration_text_of v) }
+    ensures { result ≡ its.duration_text_of v }
 {
     let row = text_forms::row(v.kind());
     let a = amount_of(v);
     let sums = a.sums;
     let ticks = a.ticks;
     if spell::is_nothing(sums, ticks) {
-        let nothing = row.nothing;
-        let m = row.nothing_len;
-        return spell::joined(Text::new(), &nothing[..m]);
+        return ValueText::from_slice(row.nothing);
     }
-    let before = row.before;
-    let b = row.before_len;
-    let after = row.after;
-    let n = row.after_len;
-    spell::spelt(a.negative, &before[..b], &after[..n], sums, ticks)
+    spell::spelt(a.negative, row.before, row.after, sums, ticks)
 }

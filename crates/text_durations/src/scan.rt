@@ -92,11 +92,8 @@ fn components(s: &[u8], time: bool, letters: &[u8], start: Walk) -> Walk
     ensures { result ≡ up_to (the.components s.now time letters.now start) }
 {
     let mut t = start;
-    let mut k = 0;
-    while k < letters.len() {
-        let letter = letters[k];
+    for &letter in letters {
         t = component(s, time, letter, t);
-        k += 1;
     }
     t
 }

@@ -1,11 +1,10 @@
 -- A field of a row: of a plain line it is what document 01 says, and rows with the same texts, but for blanks round them, have the same
 -- fields.
 use mathlib.Core.Path.{◌≡◌}
-use mathlib.Core.Bool.{Bool, true, false, not}
+use mathlib.Core.Bool.{true, false}
 use mathlib.Core.List.{List}
 use Prim.Native.Nat.{ℕ, ◌≤◌, ◌<◌}
 use lib.ListN.{length}
-use borrow.Author.Tests.{not-true, not-false}
 use Rattle.basis.specs.Choice.{pick}
 use Rattle.basis.specs.Answer.{Answer, refuses}
 use Rattle.value.specs.Refusals.{no_field}
@@ -31,21 +30,21 @@ same_field k r s n e = rw (alike_has bare r s e n, same_bare_reads k (cell_text 
 
 -- ---- a line with a made text beside it
 
-module _ (k : Kind) (line made : List ℕ) (n : ℕ) {t : Bool} {r : Answer Value} (e : t ≡ has_field line n) where
-  pub no_field_lem : not t ≡ true → r ≡ refuses no_field → r ≡ read_field k (row_with line made) n
+module _ (k : Kind) (line made : List ℕ) (n : ℕ) {r : Answer Value} where
+  pub no_field_lem : has_field line n ≡ false → r ≡ refuses no_field → r ≡ read_field k (row_with line made) n
   unfolding read_field
-  no_field_lem f h = rw (with_has line made n, ← e, not-true t f) h
+  no_field_lem e h = rw (with_has line made n, e) h
 
-  pub made_field : not t ≡ false → n ≡ 2 → 0 < length made → r ≡ read_as k made → r ≡ read_field k (row_with line made) n
-  unfolding read_field
-  made_field f q l h =
-      let e2 : t ≡ has_field line 2 = rw q at e in
-      let there : has_field line 2 ≡ true = rw (← e2) (not-false t f) in
-      rw (q, with_has line made 2, there, with_second_lem line made l there) h
+  module _ (e : has_field line n ≡ true) where
+    pub made_field : n ≡ 2 → 0 < length made → r ≡ read_as k made → r ≡ read_field k (row_with line made) n
+    unfolding read_field
+    made_field q l h =
+        let there : has_field line 2 ≡ true = rw q at e in
+        rw (q, with_has line made 2, there, with_second_lem line made l there) h
 
-  pub other_field : not t ≡ false → (n ≡ 2 → ⊥) → {w : List ℕ} → w ≡ field_at line n → r ≡ read_as k w → r ≡ read_field k (row_with line made) n
-  unfolding read_field
-  other_field f q {w} g h = rw (with_has line made n, ← e, not-false t f, with_other line made n q, ← g) h
+    pub other_field : (n ≡ 2 → ⊥) → {w : List ℕ} → w ≡ field_at line n → r ≡ read_as k w → r ≡ read_field k (row_with line made) n
+    unfolding read_field
+    other_field q {w} g h = rw (with_has line made n, e, with_other line made n q, ← g) h
 
-  pub own_field : not t ≡ false → length made ≤ 0 → {w : List ℕ} → w ≡ field_at line n → r ≡ read_as k w → r ≡ read_field k (row_with line made) n
-  own_field f l {w} g h = rw (with_none line made l, plain_field k line n, ← e, not-false t f, ← g) h
+    pub own_field : length made ≤ 0 → {w : List ℕ} → w ≡ field_at line n → r ≡ read_as k w → r ≡ read_field k (row_with line made) n
+    own_field l {w} g h = rw (with_none line made l, plain_field k line n, e, ← g) h

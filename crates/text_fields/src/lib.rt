@@ -7,24 +7,19 @@ ghost use Rattle.value.specs.Kinds.{meaning};
 ghost use Rattle.timetable.specs.Rows.{row_with};
 ghost use Rattle.text_fields.specs.Fields.{read_field};
 
-use value::{Kind, Outcome, Refusal};
+use value::{Kind, Refusal, Value};
 
 const SECOND: usize = 2;
 
 // The n-th field of the row, read as a kind; 6 where the row has none.
-pub fn read(kind: Kind, line: &[u8], n: usize, made: &[u8]) -> Outcome
+pub fn read(kind: Kind, line: &[u8], n: usize, made: &[u8]) -> Result<Value, Refusal>
     ensures { meaning result ≡ read_field kind (row_with line.now made.now) n }
 {
-    let ends = timetable::fields::find(line, n);
-    if !ends.there {
-        return Outcome::Refused(Refusal::numbered(Refusal::NO_FIELD));
+    let Some(ends) = timetable::fields::find(line, n) else {
+        return Err(Refusal::numbered(Refusal::NO_FIELD));
+    };
+    if n == SECOND && !made.is_empty() {
+        return text::read(kind, made);
     }
-    if n == SECOND {
-        if 0 < made.len() {
-            return text::read(kind, made);
-        }
-    }
-    let start = ends.start;
-    let end = ends.end;
-    text::read(kind, &line[start..end])
+    text::read(kind, &line[ends])
 }

@@ -1,4 +1,3 @@
 pub mod Looking
-pub mod Held
 pub mod Weights
 pub mod RowTests

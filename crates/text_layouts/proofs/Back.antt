@@ -1,5 +1,6 @@
 -- Each part that was written is found again, wherever it stands: what is left of the text from the part's offset on is the
 -- part's text and what follows it.
+use Rattle.std.specs.Prelude.{None, Option, Some}
 use mathlib.Core.Path.{◌≡◌, refl, ap, sym, ◌∙◌}
 use mathlib.Core.Bool.{Bool, true, false}
 use mathlib.Core.List.{List, [], ◌∷◌, ◌++◌, append_assoc, append-nil}
@@ -15,8 +16,6 @@ use Rattle.basis.proofs.Tests.{both_left, both_right}
 use Rattle.value.specs.Bounds.{max_year, max_zone, second_ticks}
 use Rattle.value.specs.Values.{ok_zone}
 use Rattle.value.specs.declared.Offset.TheVariants.{East, West}
-use Rattle.value.specs.declared.Zone.{Zone}
-use Rattle.value.specs.declared.Zone.TheVariants.{Absent, At}
 use Rattle.value_instants.proofs.Within.{east_to, west_to}
 use Rattle.numerals.specs.Reading.{is_digit, number, numeral_at, at, fraction_digits, fraction_at}
 use Rattle.numerals.specs.Writing.{digits}
@@ -25,10 +24,10 @@ use Rattle.numerals.proofs.Stretches.{is_digit_lem}
 use Rattle.numerals.proofs.Decimals.{length_digits, two_cells, four_pairs, digits_stretch}
 use Rattle.numerals.proofs.Stripping.{strip_some}
 use Rattle.numerals.proofs.Fractions.{kept, kept_length, fraction_back}
-use Rattle.text_scan.specs.declared.Scan.{Scan}
-use Rattle.text_scan.specs.Scanning.{uncapped, four_zeros, pair_at, year_at, year_part, fraction_part, zone_part, zone_signed, with_year, with_fraction, with_zone_part}
+use Rattle.text_scan.specs.Scanning.{Scan, uncapped, four_zeros, pair_at, year_at, year_part, fraction_part, zone_part, zone_signed, with_year, with_fraction, with_zone_part}
 use Rattle.text_layouts.specs.Writing.{hhmm, zone_text}
 use Rattle.text_layouts.proofs.Keeping.{zone_kept}
+use Rattle.value.specs.declared.Offset.{Offset}
 
 -- the text that follows begins with no digit and no point
 pub record Quiet (rest : List ℕ) : Type 0 where
@@ -129,14 +128,14 @@ module _ (s : List ℕ) (t : Scan) (le : t.at ≤ length s) where
   signed_zone z n h e (inl y) = rw (ne_eqb (length s) t.at (some_left s t.at le z (hhmm n) e), head s t.at e, y) (rw y at (signed_back z n h e))
   signed_zone z n h e (inr y) = rw (ne_eqb (length s) t.at (some_left s t.at le z (hhmm n) e), head s t.at e, y) (rw y at (signed_back z n h e))
 
-  pub zone_back : (z : Zone) → ok_zone z ≡ true → drop t.at s ≡ zone_text z → zone_part s t ≡ zone_kept z t (t.at + length (zone_text z))
+  pub zone_back : (z : Option Offset) → ok_zone z ≡ true → drop t.at s ≡ zone_text z → zone_part s t ≡ zone_kept z t (t.at + length (zone_text z))
   unfolding zone_part ok_zone digits
-  zone_back Absent g e = rw (eq-eqb (length s) t.at (none_left s t.at le e))
-  zone_back (At (East n)) g e = go (eqb n 0) refl
+  zone_back None g e = rw (eq-eqb (length s) t.at (none_left s t.at le e))
+  zone_back (Some (East n)) g e = go (eqb n 0) refl
     where
-      go : (b : Bool) → eqb n 0 ≡ b → zone_part s t ≡ zone_kept (At (East n)) t (t.at + length (zone_text (At (East n))))
+      go : (b : Bool) → eqb n 0 ≡ b → zone_part s t ≡ zone_kept (Some (East n)) t (t.at + length (zone_text (Some (East n))))
       go true q =
           let f : drop t.at s ≡ code "Z" ∷ [] = rw q at e in
           rw (q, ne_eqb (length s) t.at (some_left s t.at le (code "Z") [] f), head s t.at f)
       go false q = rw q (signed_zone (code "+") n (east_to (East n) g) (rw q at e) (inl refl))
-  zone_back (At (West n)) g e = signed_zone (code "-") n (west_to (West n) g) e (inr refl)
+  zone_back (Some (West n)) g e = signed_zone (code "-") n (west_to (West n) g) e (inr refl)

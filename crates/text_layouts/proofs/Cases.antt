@@ -1,5 +1,6 @@
 -- Worked cases, by computation, beside those of document 01's table (crate `calls_cases`): years, zones and fractions at their
 -- bounds, and texts in which several checks fail, where the first of document 01's order decides.
+use Rattle.std.specs.Prelude.{None, Some}
 use mathlib.Core.Path.{◌≡◌, refl}
 use Prim.Native.Nat.{◌+◌, ◌*◌, ◌/◌}
 use Rattle.basis.specs.Choice.{both, every}
@@ -13,7 +14,6 @@ use Rattle.value.specs.Clocks.{clock_of, at_clock}
 use Rattle.value.specs.Values.{ok_date, date_in}
 use Rattle.value.specs.Rows.{is_moment, has, template_of}
 use Rattle.value.specs.declared.Offset.TheVariants.{East, West}
-use Rattle.value.specs.declared.Zone.TheVariants.{Absent, At}
 use Rattle.value.specs.declared.Kind.TheVariants as KV
 use Rattle.value.specs.declared.Value.TheVariants as VV
 use Rattle.numerals.specs.Reading.{is_digit, number, fraction_at}
@@ -45,7 +45,7 @@ unfolding is_digit number fraction_at pair_at four_zeros year_at year_part fract
 many_digits = refl
 
 -- 13. Zones and fractions.
-farthest_zone : read_layout KV.Date (bytes "2000-01-01+14:00") ≡ gives (VV.Moment KV.Date (at_clock (record { year = 2000; month = 1; day = 1 }) 0 (At (East max_zone))))
+farthest_zone : read_layout KV.Date (bytes "2000-01-01+14:00") ≡ gives (VV.Moment KV.Date (at_clock (record { year = 2000; month = 1; day = 1 }) 0 (Some (East max_zone))))
 unfolding is_digit number fraction_at pair_at four_zeros year_at year_part fraction_part zone_part zone_signed is_pair with_pair part_at scanned read_layout is_moment judge bounded on_calendar ok_parts zone_is clocked ok_clock is_day_end good_clock clock_ticks next_day has clock_of ok_date every both dated_of date_of total period_of
 farthest_zone = refl
 
@@ -53,19 +53,19 @@ too_far_zone : read_layout KV.Date (bytes "2000-01-01+14:01") ≡ refuses 1
 unfolding is_digit number fraction_at pair_at four_zeros year_at year_part fraction_part zone_part zone_signed is_pair with_pair part_at scanned read_layout is_moment judge bounded on_calendar ok_parts zone_is clocked ok_clock is_day_end good_clock clock_ticks next_day has clock_of ok_date every both dated_of date_of total period_of
 too_far_zone = refl
 
-seven_zeros : read_layout KV.Time (bytes "12:00:00.0000000") ≡ gives (VV.Moment KV.Time (at_clock reference (12 * hour_ticks) Absent))
+seven_zeros : read_layout KV.Time (bytes "12:00:00.0000000") ≡ gives (VV.Moment KV.Time (at_clock reference (12 * hour_ticks) None))
 unfolding is_digit number fraction_at pair_at four_zeros year_at year_part fraction_part zone_part zone_signed is_pair with_pair part_at scanned read_layout is_moment judge bounded on_calendar ok_parts zone_is clocked ok_clock is_day_end good_clock clock_ticks next_day has clock_of ok_date every both dated_of date_of total period_of
 seven_zeros = refl
 
-six_digits : read_layout KV.Time (bytes "12:00:00.000001") ≡ gives (VV.Moment KV.Time (at_clock reference (12 * hour_ticks + 1_000) Absent))
+six_digits : read_layout KV.Time (bytes "12:00:00.000001") ≡ gives (VV.Moment KV.Time (at_clock reference (12 * hour_ticks + 1_000) None))
 unfolding is_digit number fraction_at pair_at four_zeros year_at year_part fraction_part zone_part zone_signed is_pair with_pair part_at scanned read_layout is_moment judge bounded on_calendar ok_parts zone_is clocked ok_clock is_day_end good_clock clock_ticks next_day has clock_of ok_date every both dated_of date_of total period_of
 six_digits = refl
 
-nine_digits : read_layout KV.Time (bytes "12:00:00.000000001") ≡ gives (VV.Moment KV.Time (at_clock reference (12 * hour_ticks + 1) Absent))
+nine_digits : read_layout KV.Time (bytes "12:00:00.000000001") ≡ gives (VV.Moment KV.Time (at_clock reference (12 * hour_ticks + 1) None))
 unfolding is_digit number fraction_at pair_at four_zeros year_at year_part fraction_part zone_part zone_signed is_pair with_pair part_at scanned read_layout is_moment judge bounded on_calendar ok_parts zone_is clocked ok_clock is_day_end good_clock clock_ticks next_day has clock_of ok_date every both dated_of date_of total period_of
 nine_digits = refl
 
-last_nanosecond : read_layout KV.Time (bytes "23:59:59.999999999") ≡ gives (VV.Moment KV.Time (at_clock reference max_clock Absent))
+last_nanosecond : read_layout KV.Time (bytes "23:59:59.999999999") ≡ gives (VV.Moment KV.Time (at_clock reference max_clock None))
 unfolding is_digit number fraction_at pair_at four_zeros year_at year_part fraction_part zone_part zone_signed is_pair with_pair part_at scanned read_layout is_moment judge bounded on_calendar ok_parts zone_is clocked ok_clock is_day_end good_clock clock_ticks next_day has clock_of ok_date every both dated_of date_of total period_of
 last_nanosecond = refl
 
@@ -95,7 +95,7 @@ unfolding is_digit number fraction_at pair_at four_zeros year_at year_part fract
 bad_zone_after_the_end = refl
 
 -- Of a time hour 24 is 00:00:00 of the same reference day; with a fraction it is bad.
-time_ends : read_layout KV.Time (bytes "24:00:00") ≡ gives (VV.Moment KV.Time (at_clock reference 0 Absent))
+time_ends : read_layout KV.Time (bytes "24:00:00") ≡ gives (VV.Moment KV.Time (at_clock reference 0 None))
 unfolding is_digit number fraction_at pair_at four_zeros year_at year_part fraction_part zone_part zone_signed is_pair with_pair part_at scanned read_layout is_moment judge bounded on_calendar ok_parts zone_is clocked ok_clock is_day_end good_clock clock_ticks next_day has clock_of ok_date every both dated_of date_of total period_of
 time_ends = refl
 
@@ -104,15 +104,15 @@ unfolding is_digit number fraction_at pair_at four_zeros year_at year_part fract
 time_ends_late = refl
 
 -- Zone -00:00 is zone 0, and that is written Z.
-minus_zero : read_layout KV.Time (bytes "12:00:00-00:00") ≡ gives (VV.Moment KV.Time (at_clock reference (12 * hour_ticks) (At (East 0))))
+minus_zero : read_layout KV.Time (bytes "12:00:00-00:00") ≡ gives (VV.Moment KV.Time (at_clock reference (12 * hour_ticks) (Some (East 0))))
 unfolding is_digit number fraction_at pair_at four_zeros year_at year_part fraction_part zone_part zone_signed is_pair with_pair part_at scanned read_layout is_moment judge bounded on_calendar ok_parts zone_is clocked ok_clock is_day_end good_clock clock_ticks next_day has clock_of ok_date every both dated_of date_of total period_of
 minus_zero = refl
 
-written_z : kind_text KV.Time (at_clock reference (12 * hour_ticks) (At (East 0))) ≡ bytes "12:00:00Z"
+written_z : kind_text KV.Time (at_clock reference (12 * hour_ticks) (Some (East 0))) ≡ bytes "12:00:00Z"
 unfolding layout_text part_text pair_of is_pair digits kept_digits fraction_text clock_of
 written_z = refl
 
-written_west : kind_text KV.DateTime (at_clock (record { year = 33; month = 4; day = 3 }) (15 * hour_ticks + second_ticks / 2) (At (West 90))) ≡ bytes "0033-04-03T15:00:00.5-01:30"
+written_west : kind_text KV.DateTime (at_clock (record { year = 33; month = 4; day = 3 }) (15 * hour_ticks + second_ticks / 2) (Some (West 90))) ≡ bytes "0033-04-03T15:00:00.5-01:30"
 unfolding layout_text part_text pair_of is_pair digits kept_digits fraction_text clock_of
 written_west = refl
 

@@ -1,5 +1,6 @@
 -- What a layout keeps of a record: its parts put over those of a template, one letter after the other. Reading a written
 -- text finds exactly these.
+use Rattle.std.specs.Prelude.{None, Option, Some}
 use mathlib.Core.Path.{◌≡◌}
 use mathlib.Core.Bool.{Bool, true, false}
 use mathlib.Core.List.{List, [], ◌∷◌}
@@ -15,21 +16,19 @@ use Rattle.value.specs.Bounds.{max_year, second_ticks, day_ticks}
 use Rattle.value.specs.Clocks.{clock_of, at_clock}
 use Rattle.value.specs.Values.{ok_date_time, ok_zone}
 use Rattle.value.specs.declared.Offset.TheVariants.{East, West}
-use Rattle.value.specs.declared.Zone.{Zone}
-use Rattle.value.specs.declared.Zone.TheVariants.{Absent, At}
 use Rattle.value.specs.declared.DateTime.{DateTime}
 use Rattle.value.proofs.Good.{Good, good}
 use Rattle.value.proofs.ClockLaws.{clock_to}
 use Rattle.numerals.specs.Reading.{is_digit}
-use Rattle.text_scan.specs.declared.Scan.{Scan}
-use Rattle.text_scan.specs.Scanning.{is_pair, with_pair, reached, with_year, with_fraction, with_zone_part, clock_fields}
+use Rattle.text_scan.specs.Scanning.{Scan, is_pair, with_pair, reached, with_year, with_fraction, with_zone_part, clock_fields}
 use Rattle.text_checks.specs.Reading.{clock_ticks, zone_is, day_found}
 use Rattle.text_layouts.specs.Writing.{pair_of, part_text}
+use Rattle.value.specs.declared.Offset.{Offset}
 
-abbrev pub zone_kept : Zone → Scan → ℕ → Scan
-zone_kept Absent t i = t
-zone_kept (At (East n)) t i = pick (eqb n 0) (with_zone_part t (record { sign = code "Z"; hours = 0; minutes = 0 }) i) (with_zone_part t (record { sign = code "+"; hours = n / 60; minutes = n % 60 }) i)
-zone_kept (At (West n)) t i = with_zone_part t (record { sign = code "-"; hours = n / 60; minutes = n % 60 }) i
+abbrev pub zone_kept : Option Offset → Scan → ℕ → Scan
+zone_kept None t i = t
+zone_kept (Some (East n)) t i = pick (eqb n 0) (with_zone_part t (record { sign = code "Z"; hours = 0; minutes = 0 }) i) (with_zone_part t (record { sign = code "+"; hours = n / 60; minutes = n % 60 }) i)
+zone_kept (Some (West n)) t i = with_zone_part t (record { sign = code "-"; hours = n / 60; minutes = n % 60 }) i
 
 -- one part of d, put over what t has; i is the offset after it
 abbrev pub kept_to : ℕ → DateTime → Scan → ℕ → Scan

@@ -1,5 +1,6 @@
 -- What a layout keeps of a record, field by field and by one induction over the letters: each letter sets one field and
 -- leaves the others, so that a field is the record's where the layout has its letter, and else the template's.
+use Rattle.std.specs.Prelude.{None, Option, Some}
 use mathlib.Core.Path.{◌≡◌, refl, ap, sym, ◌∙◌}
 use mathlib.Core.Bool.{Bool, true, false}
 use mathlib.Core.List.{List, [], ◌∷◌}
@@ -16,20 +17,18 @@ use Rattle.value.specs.Clocks.{clock_of, at_clock}
 use Rattle.value.specs.Values.{ok_offset, ok_zone, ok_time_part, ok_date_time, date_in}
 use Rattle.value.specs.Rows.{has, kept_by}
 use Rattle.value.specs.declared.Offset.TheVariants.{East, West}
-use Rattle.value.specs.declared.Zone.{Zone}
-use Rattle.value.specs.declared.Zone.TheVariants.{Absent, At}
 use Rattle.value.specs.declared.DateTime.{DateTime}
 use Rattle.value.proofs.Good.{good}
 use Rattle.value.proofs.ClockLaws.{own_clock}
 use Rattle.value.proofs.RowTests.{ok_row}
 use Rattle.value.proofs.RowLaws.{row_start, kept_good}
 use Rattle.text_scan.specs.declared.FoundClock.{FoundClock}
-use Rattle.text_scan.specs.declared.Scan.{Scan}
-use Rattle.text_scan.specs.Scanning.{is_pair, with_pair, with_fraction, clock_fields, start_of}
+use Rattle.text_scan.specs.Scanning.{Scan, is_pair, with_pair, with_fraction, clock_fields, start_of}
 use Rattle.text_checks.specs.Reading.{clock_ticks, zone_is}
 use Rattle.text_layouts.specs.Writing.{pair_of, part_text}
 use Rattle.text_layouts.proofs.Keeping.{zone_kept, part_kept, all_kept, record_of, ticks_shown, small}
 use Rattle.value.proofs.ClockLetters.{with_minute, with_second_lem, with_fraction_lem}
+use Rattle.value.specs.declared.Offset.{Offset}
 
 -- which letter it is
 data Letter : ℕ → Type 0 where
@@ -69,9 +68,9 @@ record Fields : Type 0 where
   minute : ℕ
   second : ℕ
   part : ℕ
-  zone : Zone
+  zone : Option Offset
 
-abbrev zoned : Scan → Zone → Fields
+abbrev zoned : Scan → Option Offset → Fields
 zoned t z =
     record {
       year = t.date.year;
@@ -91,9 +90,9 @@ fields_of t = zoned t (zone_is t.zone)
 abbrev over : ℕ → ℕ → ℕ
 over u x = pick (eqb u 0) x u
 
-abbrev over_zone : Zone → Zone → Zone
-over_zone Absent y = y
-over_zone (At o) y = At o
+abbrev over_zone : Option Offset → Option Offset → Option Offset
+over_zone None y = y
+over_zone (Some o) y = Some o
 
 -- what one letter does to the fields
 abbrev after : ℕ → DateTime → Fields → Fields
@@ -114,17 +113,17 @@ unfolding ok_offset every
 west_from n e = leb-true 1 n (both_left _ _ e)
 
 -- a zone is what its text says, over none
-zone_ends : (z : Zone) (t : Scan) (i : ℕ) → ok_zone z ≡ true → fields_of (zone_kept z t i) ≡ zoned t (over_zone z (zone_is t.zone))
+zone_ends : (z : Option Offset) (t : Scan) (i : ℕ) → ok_zone z ≡ true → fields_of (zone_kept z t i) ≡ zoned t (over_zone z (zone_is t.zone))
 unfolding zone_is ok_zone
-zone_ends Absent t i g = refl
-zone_ends (At (East n)) t i g = go (eqb n 0) refl
+zone_ends None t i g = refl
+zone_ends (Some (East n)) t i g = go (eqb n 0) refl
   where
-    go : (b : Bool) → eqb n 0 ≡ b → fields_of (zone_kept (At (East n)) t i) ≡ zoned t (At (East n))
-    go true q = rw q (λ j. zoned t (At (East (sym (eqb-true n 0 q) j))))
+    go : (b : Bool) → eqb n 0 ≡ b → fields_of (zone_kept (Some (East n)) t i) ≡ zoned t (Some (East n))
+    go true q = rw q (λ j. zoned t (Some (East (sym (eqb-true n 0 q) j))))
     go false q =
         let v : n / 60 * 60 + n % 60 ≡ n = omega arith in
-        rw q (λ j. zoned t (At (East (v j))))
-zone_ends (At (West n)) t i g =
+        rw q (λ j. zoned t (Some (East (v j))))
+zone_ends (Some (West n)) t i g =
     let v : n / 60 * 60 + n % 60 ≡ n = omega arith in
     rw (v, ne_eqb n 0 (λ q. omega (arith, west_from n g)))
 
@@ -182,9 +181,9 @@ module _ (v : DateTime) (o : ok_date_time v ≡ true) where
       go true = refl
       go false = refl
 
-  zone_twice : (z x : Zone) → over_zone z (over_zone z x) ≡ over_zone z x
-  zone_twice Absent x = refl
-  zone_twice (At q) x = refl
+  zone_twice : (z x : Option Offset) → over_zone z (over_zone z x) ≡ over_zone z x
+  zone_twice None x = refl
+  zone_twice (Some q) x = refl
 
   over_none : (n : ℕ) → over n 0 ≡ n
   over_none n = go (eqb n 0) refl
@@ -232,11 +231,11 @@ module _ (ps : List ℕ) (t v : DateTime) (r : ok_row ps t ≡ true) (o : ok_dat
 
   zone_is_lem : has ps (code "z") ≡ true → zone_is found.zone ≡ v.zone
   unfolding zone_is
-  zone_is_lem z = zone_kept_lem v o ps (start_of t) ∙ (λ i. pick (z i) (over_zone v.zone Absent) Absent) ∙ whole v.zone
+  zone_is_lem z = zone_kept_lem v o ps (start_of t) ∙ (λ i. pick (z i) (over_zone v.zone None) None) ∙ whole v.zone
     where
-      whole : (x : Zone) → over_zone x Absent ≡ x
-      whole Absent = refl
-      whole (At q) = refl
+      whole : (x : Option Offset) → over_zone x None ≡ x
+      whole None = refl
+      whole (Some q) = refl
 
   abbrev shows : ℕ → ℕ → ℕ → ℕ → FoundClock
   shows h m s u = record { hour = h; minute = m; second = s; part = u; long = found.clock.long; point = found.clock.point }

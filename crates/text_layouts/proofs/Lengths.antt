@@ -1,4 +1,5 @@
 -- No text of a kind is longer than the longest, and one is as long.
+use Rattle.std.specs.Prelude.{Some}
 use mathlib.Core.Path.{◌≡◌, refl}
 use mathlib.Core.List.{List, [], ◌∷◌}
 use Prim.Native.Nat.{ℕ, ◌≤◌}
@@ -13,7 +14,6 @@ use Rattle.value.specs.Clocks.{clock_of, at_clock}
 use Rattle.value.specs.Rows.{layout_of}
 use Rattle.value.specs.Values.{ok_date, ok_offset, ok_zone, ok_time_part, ok_date_time}
 use Rattle.value.specs.declared.Offset.TheVariants.{East}
-use Rattle.value.specs.declared.Zone.TheVariants.{At}
 use Rattle.value.specs.declared.DateTime.{DateTime}
 use Rattle.value.specs.declared.Kind.{Kind}
 use Rattle.value.specs.declared.Kind.TheVariants as KV
@@ -33,7 +33,7 @@ text_fits k d = omega (arith, by_widths (layout_of k) d, wide k)
 
 -- 9999-12-31T23:59:59.999999999+14:00
 abbrev last : DateTime
-last = at_clock (record { year = max_year; month = 12; day = 31 }) max_clock (At (East max_zone))
+last = at_clock (record { year = max_year; month = 12; day = 31 }) max_clock (Some (East max_zone))
 
 pub last_text : kind_text KV.DateTime last ≡ bytes "9999-12-31T23:59:59.999999999+14:00"
 unfolding layout_text part_text pair_of is_pair digits kept_digits fraction_text clock_of

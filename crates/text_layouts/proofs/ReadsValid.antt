@@ -21,9 +21,7 @@ use Rattle.value.proofs.RowTests.{ok_row, rows_pass}
 use Rattle.value.proofs.RowLaws.{row_start}
 use Rattle.text_scan.specs.declared.FoundDate.{FoundDate}
 use Rattle.text_scan.specs.declared.FoundClock.{FoundClock}
-use Rattle.text_scan.specs.declared.Scan.{Scan}
-use Rattle.text_scan.specs.declared.Pair.{Pair}
-use Rattle.text_scan.specs.Scanning.{uncapped, with_pair, scanned, start_of, scanned_parts}
+use Rattle.text_scan.specs.Scanning.{Scan, Pair, uncapped, with_pair, scanned, start_of, scanned_parts}
 use Rattle.text_scan.proofs.Lasting.{Leaves, Everywhere, ended, letter, lasts}
 use Rattle.text_scan.proofs.BelowSecond.{part_below}
 use Rattle.text_checks.specs.Reading.{clock_ticks, day_found, bounded, judge}

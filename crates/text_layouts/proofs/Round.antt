@@ -1,5 +1,6 @@
 -- What was written by a layout is found by it: a part after the other, each as the part that the layout keeps, and the
 -- texts of a layout can be told apart where after a year or a fraction comes no digit and no point, after a zone nothing.
+use Rattle.std.specs.Prelude.{None, Option, Some}
 use mathlib.Core.Path.{◌≡◌, refl, ap, sym, ◌∙◌}
 use mathlib.Core.Bool.{Bool, true, false}
 use mathlib.Core.List.{List, [], ◌∷◌, ◌++◌, append-nil}
@@ -14,20 +15,18 @@ use Rattle.basis.proofs.Tests.{never, both_left, both_right}
 use Rattle.value.specs.Bounds.{second_ticks}
 use Rattle.value.specs.Clocks.{clock_of}
 use Rattle.value.specs.declared.Offset.TheVariants.{East, West}
-use Rattle.value.specs.declared.Zone.{Zone}
-use Rattle.value.specs.declared.Zone.TheVariants.{Absent, At}
 use Rattle.value.specs.declared.DateTime.{DateTime}
 use Rattle.numerals.specs.Reading.{is_digit, at}
 use Rattle.numerals.specs.Writing.{digits, fraction_text}
 use Rattle.numerals.proofs.Positions.{head, beyond}
 use Rattle.numerals.proofs.Fractions.{kept, no_fraction, a_fraction}
-use Rattle.text_scan.specs.declared.Scan.{Scan}
-use Rattle.text_scan.specs.Scanning.{uncapped, is_pair, with_pair, scanned_part, scanned, with_year, with_fraction, reached}
+use Rattle.text_scan.specs.Scanning.{Scan, uncapped, is_pair, with_pair, scanned_part, scanned, with_year, with_fraction, reached}
 use Rattle.text_scan.proofs.Ways.{the_year, the_fraction, the_zone, a_pair, a_mark}
 use Rattle.text_layouts.specs.Writing.{zone_text, pair_of, part_text, layout_text}
 use Rattle.text_layouts.proofs.Pieces.{text_year, text_fraction, text_zone, text_pair, text_mark}
 use Rattle.text_layouts.proofs.Keeping.{zone_kept, part_kept, all_kept, quiet_head, is_nil, follows, sane, Small}
 use Rattle.text_layouts.proofs.Back.{Quiet, pair_back, year_back, no_fraction_back, a_fraction_back, zone_back}
+use Rattle.value.specs.declared.Offset.{Offset}
 
 -- what may follow a part
 pub record After (p : ℕ) (rest : List ℕ) : Type 0 where
@@ -125,22 +124,22 @@ module _ (p : ℕ) (v : DateTime) (t : Scan) (g : t.good ≡ true) where
   unfolding with_pair
   placed_next n i = (refl, refl)
 
-  zone_next : (z : Zone) (i : ℕ) → (z ≡ Absent → t.at ≡ i) → Next (zone_kept z t i) i
-  zone_next Absent i h = (g, h refl)
-  zone_next (At (East n)) i h = go (eqb n 0) refl
+  zone_next : (z : Option Offset) (i : ℕ) → (z ≡ None → t.at ≡ i) → Next (zone_kept z t i) i
+  zone_next None i h = (g, h refl)
+  zone_next (Some (East n)) i h = go (eqb n 0) refl
     where
-      go : (b : Bool) → eqb n 0 ≡ b → Next (zone_kept (At (East n)) t i) i
+      go : (b : Bool) → eqb n 0 ≡ b → Next (zone_kept (Some (East n)) t i) i
       go true e = rw e (refl, refl)
       go false e = rw e (refl, refl)
-  zone_next (At (West n)) i h = (refl, refl)
+  zone_next (Some (West n)) i h = (refl, refl)
 
   pub next : Next (part_kept p v t) (t.at + length (part_text p v))
   unfolding part_kept
   next = go (eqb p (code "Y")) (eqb p (code "f")) (eqb p (code "z")) (is_pair p) refl refl refl refl
     where
-      absent : eqb p (code "Y") ≡ false → eqb p (code "f") ≡ false → eqb p (code "z") ≡ true → v.zone ≡ Absent → t.at ≡ t.at + length (part_text p v)
+      absent : eqb p (code "Y") ≡ false → eqb p (code "f") ≡ false → eqb p (code "z") ≡ true → v.zone ≡ None → t.at ≡ t.at + length (part_text p v)
       absent x y z e =
-          let l : length (part_text p v) ≡ 0 = ap length (text_zone p v (eqb-false p (code "Y") x) (eqb-false p (code "f") y) (eqb-true p (code "z") z)).0 ∙ ap (λ (q : Zone). length (zone_text q)) e in
+          let l : length (part_text p v) ≡ 0 = ap length (text_zone p v (eqb-false p (code "Y") x) (eqb-false p (code "f") y) (eqb-true p (code "z") z)).0 ∙ ap (λ (q : Option Offset). length (zone_text q)) e in
           omega arith
 
       uncapped : eqb p (code "Y") ≡ false → eqb p (code "f") ≡ true → eqb (clock_of v % second_ticks) 0 ≡ true → t.at ≡ t.at + length (part_text p v)
@@ -161,15 +160,15 @@ module _ (p : ℕ) (v : DateTime) (t : Scan) (g : t.good ≡ true) where
       go false false false false x y z w = rw (x, y, z, w) (refl, refl)
 
 -- the texts of a sane layout can be told apart
-zone_quiet : (z : Zone) → Quiet (zone_text z)
+zone_quiet : (z : Option Offset) → Quiet (zone_text z)
 unfolding is_digit both
-zone_quiet Absent = record { no_digit = refl; no_point = λ e. omega arith }
-zone_quiet (At (East n)) = go (eqb n 0) refl
+zone_quiet None = record { no_digit = refl; no_point = λ e. omega arith }
+zone_quiet (Some (East n)) = go (eqb n 0) refl
   where
-    go : (b : Bool) → eqb n 0 ≡ b → Quiet (zone_text (At (East n)))
+    go : (b : Bool) → eqb n 0 ≡ b → Quiet (zone_text (Some (East n)))
     go true e = rw e (record { no_digit = refl; no_point = λ q. omega arith })
     go false e = rw e (record { no_digit = refl; no_point = λ q. omega arith })
-zone_quiet (At (West n)) = record { no_digit = refl; no_point = λ e. omega arith }
+zone_quiet (Some (West n)) = record { no_digit = refl; no_point = λ e. omega arith }
 
 pub none : (ps : List ℕ) → is_nil ps ≡ true → ps ≡ []
 unfolding is_nil

@@ -1,5 +1,6 @@
 -- The round trip over the layouts: what a layout writes of a record within the bounds, it reads as what it keeps of the
 -- record. The parts that it finds are within document 01's checks, so that the record is judged good.
+use Rattle.std.specs.Prelude.{None, Option, Some}
 use mathlib.Core.Path.{◌≡◌, refl, ap, sym, ◌∙◌}
 use mathlib.Core.Bool.{Bool, true, false}
 use mathlib.Core.List.{List, [], ◌∷◌}
@@ -15,8 +16,6 @@ use Rattle.value.specs.Bounds.{max_year, max_zone, second_ticks}
 use Rattle.value.specs.Clocks.{clock_of, at_clock}
 use Rattle.value.specs.Values.{ok_date, ok_zone, ok_date_time}
 use Rattle.value.specs.declared.Offset.TheVariants.{East, West}
-use Rattle.value.specs.declared.Zone.{Zone}
-use Rattle.value.specs.declared.Zone.TheVariants.{Absent, At}
 use Rattle.value.specs.declared.DateTime.{DateTime}
 use Rattle.value.specs.declared.Kind.{Kind}
 use Rattle.value.specs.declared.Value.TheVariants as VV
@@ -24,13 +23,13 @@ use Rattle.value_instants.proofs.Within.{east_to, west_to}
 use Rattle.text_scan.specs.declared.FoundDate.{FoundDate}
 use Rattle.text_scan.specs.declared.FoundClock.{FoundClock}
 use Rattle.text_scan.specs.declared.FoundZone.{FoundZone}
-use Rattle.text_scan.specs.declared.Scan.{Scan}
-use Rattle.text_scan.specs.Scanning.{uncapped, is_pair, with_pair, scanned}
+use Rattle.text_scan.specs.Scanning.{Scan, uncapped, is_pair, with_pair, scanned}
 use Rattle.text_checks.specs.Reading.{max_hour, max_minute, day_end, ok_clock, good_clock, clock_ticks, clocked, offset_minutes, ok_parts, zone_is, day_found, on_calendar, judge}
 use Rattle.text_layouts.specs.Writing.{pair_of, part_text, layout_text}
 use Rattle.text_checks.proofs.Ways.{past_checks}
 use Rattle.text_layouts.proofs.Keeping.{zone_kept, part_kept, all_kept, record_of, sane, Small, small}
 use Rattle.text_layouts.proofs.Round.{Through, through}
+use Rattle.value.specs.declared.Offset.{Offset}
 
 -- the bounds that hold of what was found
 pub record SoundDate (d : FoundDate) : Type 0 where
@@ -61,15 +60,15 @@ field_to p q bound n old f h = by (eqb p q) refl
     by false e = h
 
 module _ (p : ℕ) (v : DateTime) (m : Small v) (t : Scan) (b : Sound t) where
-  zone_sound : (z : Zone) (i : ℕ) → ok_zone z ≡ true → Sound (zone_kept z t i)
+  zone_sound : (z : Option Offset) (i : ℕ) → ok_zone z ≡ true → Sound (zone_kept z t i)
   unfolding ok_zone
-  zone_sound Absent i g = b
-  zone_sound (At (East n)) i g = go (eqb n 0) refl
+  zone_sound None i g = b
+  zone_sound (Some (East n)) i g = go (eqb n 0) refl
     where
-      go : (x : Bool) → eqb n 0 ≡ x → Sound (zone_kept (At (East n)) t i)
+      go : (x : Bool) → eqb n 0 ≡ x → Sound (zone_kept (Some (East n)) t i)
       go true e = rw e (record { date = b.date; clock = b.clock; zone = record { minutes = omega arith; offset = omega arith } })
       go false e = rw e (record { date = b.date; clock = b.clock; zone = record { minutes = omega arith; offset = omega (arith, east_to (East n) g) } })
-  zone_sound (At (West n)) i g = record { date = b.date; clock = b.clock; zone = record { minutes = omega arith; offset = omega (arith, west_to (West n) g) } }
+  zone_sound (Some (West n)) i g = record { date = b.date; clock = b.clock; zone = record { minutes = omega arith; offset = omega (arith, west_to (West n) g) } }
 
   placed_sound : (i : ℕ) → Sound (with_pair p t (record { value = pair_of p v; at = i; good = true }))
   unfolding with_pair pair_of

@@ -1,5 +1,6 @@
 -- What reads is valid: a value that is read is of its kind and within the bounds. The checks of the calendar, the clock
 -- and the zone say so of the parts; the parts that the kind has not are still the template's.
+use Rattle.std.specs.Prelude.{None, Option, Some}
 use mathlib.Core.Path.{◌≡◌, refl, sym, ◌∙◌}
 use mathlib.Core.Bool.{Bool, true, false}
 use mathlib.Core.List.{List}
@@ -13,8 +14,6 @@ use Rattle.basis.specs.Answer.{Answer, gives, refuses}
 use Rattle.basis.proofs.Tests.{never, both_left, both_right, both_true}
 use Rattle.calendar.specs.Calendar.{day_of, date_of, dated_of, total, year_days}
 use Rattle.calendar.specs.declared.Date.{Date}
-use Rattle.calendar.specs.declared.Dated.{Dated}
-use Rattle.calendar.specs.declared.Dated.TheVariants.{On, Later}
 use Rattle.calendar.proofs.Years.{years_grow, year_starts, year_ends}
 use Rattle.calendar.proofs.Dates.{date_good, day_date}
 use Rattle.calendar.proofs.Answers.{OnTime, on_says}
@@ -25,8 +24,6 @@ use Rattle.value.specs.Values.{ok_date, ok_offset, ok_zone, ok_date_time}
 use Rattle.value.specs.Rows.{is_moment, has, has_part, layout_of, template_of, kept}
 use Rattle.value.specs.Kinds.{ok_value, kind_of}
 use Rattle.value.specs.declared.Offset.TheVariants.{East, West}
-use Rattle.value.specs.declared.Zone.{Zone}
-use Rattle.value.specs.declared.Zone.TheVariants.{Absent, At}
 use Rattle.value.specs.declared.DateTime.{DateTime}
 use Rattle.value.specs.declared.Kind.{Kind}
 use Rattle.value.specs.declared.Value.{Value}
@@ -42,6 +39,7 @@ use Rattle.text_scan.specs.declared.FoundZone.{FoundZone}
 use Rattle.text_checks.specs.Reading.{start_of_day, next_day, day_end, good_clock, clock_ticks, clocked, offset_minutes, ok_parts, zone_is, day_found, on_calendar}
 use Rattle.text_checks.proofs.Ways.{clock_within, within_day}
 use Rattle.value.proofs.ClockLetters.{with_month, with_day}
+use Rattle.value.specs.declared.Offset.{Offset}
 
 -- a value within the bounds, of a kind
 pub record Valid (k : Kind) (v : Value) : Type 0 where
@@ -75,7 +73,7 @@ own : {A : Type 0} (b : Bool) (x y : A) → (b ≡ false → x ≡ y) → pick b
 own true x y f = refl
 own false x y f = sym (f refl)
 
-fine_value : (k : Kind) (d : Date) (u : ℕ) (z : Zone) → is_moment k ≡ true → ok_date_time (at_clock d u z) ≡ true → Suits (layout_of k) (template_of k) d u
+fine_value : (k : Kind) (d : Date) (u : ℕ) (z : Option Offset) → is_moment k ≡ true → ok_date_time (at_clock d u z) ≡ true → Suits (layout_of k) (template_of k) d u
     → Fine k (gives (VV.Moment k (at_clock d u z)))
 fine_value k d u z m o e v q =
     let w : v ≡ VV.Moment k (at_clock d u z) = cc in
@@ -100,7 +98,7 @@ fine_value k d u z m o e v q =
         ∙ clock (has_part k (code "h")) e.clock
 
 -- a good date, a time below a day and a good zone are a record within the bounds
-record_good : (d : Date) (u : ℕ) (z : Zone) → ok_date d.year d.month d.day ≡ true → u ≤ max_clock → ok_zone z ≡ true → ok_date_time (at_clock d u z) ≡ true
+record_good : (d : Date) (u : ℕ) (z : Option Offset) → ok_date d.year d.month d.day ≡ true → u ≤ max_clock → ok_zone z ≡ true → ok_date_time (at_clock d u z) ≡ true
 record_good d u z e h g = record_ok (at_clock d u z) (record { day = good_day d e; time = time_part_at d u z h; zone = g })
 
 zone_good : (z : FoundZone) → offset_minutes z ≤ max_zone → ok_zone (zone_is z) ≡ true
@@ -110,7 +108,7 @@ zone_good z h = go (eqb z.sign 0) (eqb z.sign (code "-")) (eqb (offset_minutes z
     n : ℕ
     n = offset_minutes z
 
-    go : (a b c : Bool) → eqb n 0 ≡ c → ok_zone (pick a Absent (At (pick b (pick c (East 0) (West n)) (East n)))) ≡ true
+    go : (a b c : Bool) → eqb n 0 ≡ c → ok_zone (pick a None (Some (pick b (pick c (East 0) (West n)) (East n)))) ≡ true
     go true b c e = refl
     go false true true e = refl
     go false true false e = both_true _ _ (le-leb 1 n (more n (eqb-false n 0 e))) (both_true _ _ (le-leb n max_zone h) refl)
@@ -121,7 +119,7 @@ zone_good z h = go (eqb z.sign 0) (eqb z.sign (code "-")) (eqb (offset_minutes z
     go false false c e = le-leb n max_zone h
 
 -- the day after a good day, where its year is not beyond the greatest
-after_good : (d e : Date) → ok_date d.year d.month d.day ≡ true → dated_of (day_of d + 1) max_year ≡ On e → ok_date e.year e.month e.day ≡ true
+after_good : (d e : Date) → ok_date d.year d.month d.day ≡ true → dated_of (day_of d + 1) max_year ≡ Some e → ok_date e.year e.month e.day ≡ true
 after_good d e o q =
     let w : OnTime (day_of d + 1) max_year e = on_says (day_of d + 1) max_year e q in
     let g : GoodDay d = good_day d o in
@@ -138,20 +136,20 @@ after_good d e o q =
             omega (arith, year_ends x (date_good (day_of d + 1)), day_date (day_of d + 1), year_starts d)
 
 -- hour 24: a clock stands with the whole date or with none of it
-fine_next : (k : Kind) (d : Date) (z : Zone) (u : ℕ) → is_moment k ≡ true → has_part k (code "h") ≡ true → ok_date d.year d.month d.day ≡ true → ok_zone z ≡ true
+fine_next : (k : Kind) (d : Date) (z : Option Offset) (u : ℕ) → is_moment k ≡ true → has_part k (code "h") ≡ true → ok_date d.year d.month d.day ≡ true → ok_zone z ≡ true
     → Suits (layout_of k) (template_of k) d u → Fine k (next_day k d z)
 unfolding next_day
 fine_next k d z u m c o g e =
     fine_pick k (has_part k (code "D")) _ _ (λ a. moved a (dated_of (day_of d + 1) max_year) refl)
     (λ a. fine_value k d 0 z m (record_good d 0 z o (omega arith) g) (record { year = e.year; month = e.month; day = e.day; clock = λ b. refl }))
   where
-    moved : has_part k (code "D") ≡ true → (x : Dated) → dated_of (day_of d + 1) max_year ≡ x → Fine k (start_of_day k z x)
-    moved a (On x) q =
+    moved : has_part k (code "D") ≡ true → (x : Option Date) → dated_of (day_of d + 1) max_year ≡ x → Fine k (start_of_day k z x)
+    moved a (Some x) q =
         let y : has_part k (code "Y") ≡ true = with_day (layout_of k) (template_of k) (rows_pass k) c ∙ a in
         let n : has_part k (code "M") ≡ true = sym (with_month (layout_of k) (template_of k) (rows_pass k) c) ∙ y in
         fine_value k x 0 z m (record_good x 0 z (after_good d x o q) (omega arith) g)
         (record { year = λ b. absurd (never (sym b ∙ y)); month = λ b. absurd (never (sym b ∙ n)); day = λ b. absurd (never (sym b ∙ a)); clock = λ b. refl })
-    moved a Later q = fine_refusal k 2
+    moved a None q = fine_refusal k 2
 
 -- hour 24 was read: the layout has a clock
 end_read : (c : FoundClock) (b : Bool) → c.hour ≡ day_end → (b ≡ false → clock_ticks c ≡ 0) → b ≡ true

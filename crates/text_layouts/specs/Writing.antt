@@ -1,6 +1,6 @@
 -- Document 01, "Writing text": the text of a date, a time or a dateTime. Local fields and zone are kept; zone 0 is Z; a
 -- fraction loses its final zeros and vanishes if zero. The text is that of the parts of the kind's layout, in order.
-use Rattle.std.specs.Prelude.{List, [], ◌∷◌, ◌++◌, ℕ, ◌/◌, ◌%◌, eqb}
+use Rattle.std.specs.Prelude.{List, [], ◌∷◌, ◌++◌, ℕ, ◌/◌, ◌%◌, eqb, None, Option, Some}
 use Prim.Native.Char.{code}
 use Rattle.basis.specs.Choice.{pick}
 use Rattle.value.specs.Bounds.{hour_minutes}
@@ -8,8 +8,6 @@ use Rattle.value.specs.Clocks.{clock_of}
 use Rattle.value.specs.Rows.{layout_of}
 use Rattle.value.specs.declared.Offset.{Offset}
 use Rattle.value.specs.declared.Offset.TheVariants.{East, West}
-use Rattle.value.specs.declared.Zone.{Zone}
-use Rattle.value.specs.declared.Zone.TheVariants.{Absent, At}
 use Rattle.value.specs.declared.DateTime.{DateTime}
 use Rattle.value.specs.declared.Kind.{Kind}
 use Rattle.numerals.specs.Writing.{digits, fraction_text}
@@ -22,9 +20,9 @@ abbrev pub offset_text : Offset → List ℕ
 offset_text (East n) = pick (eqb n 0) (code "Z" ∷ []) (code "+" ∷ hhmm n)
 offset_text (West n) = code "-" ∷ hhmm n
 
-abbrev pub zone_text : Zone → List ℕ
-zone_text Absent = []
-zone_text (At o) = offset_text o
+abbrev pub zone_text : Option Offset → List ℕ
+zone_text None = []
+zone_text (Some o) = offset_text o
 
 -- the number of a part of two digits
 unfoldable pub pair_of : ℕ → DateTime → ℕ

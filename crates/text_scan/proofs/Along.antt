@@ -1,8 +1,8 @@
 -- Going through a layout: a letter a step, each from within the text to within the text. Then the way of a kind, along
 -- its row, and where it starts.
 use mathlib.Core.Path.{◌≡◌, refl, ap, sym, ◌∙◌}
-use mathlib.Core.Bool.{true, false}
-use mathlib.Core.List.{List}
+use mathlib.Core.Bool.{Bool, true, false}
+use mathlib.Core.List.{List, [], ◌∷◌}
 use Prim.Native.Nat.{ℕ, suc, ◌+◌, ◌≤◌, ◌<◌}
 use native.Mathlib.Omega.{arith}
 use native.Mathlib.Numerals.{add-one}
@@ -18,9 +18,10 @@ use Rattle.value.specs.declared.Kind.{Kind}
 use Rattle.value.specs.declared.Kind.TheVariants as KV
 use Rattle.numerals.specs.Carried.{without_zero}
 use Rattle.numerals.proofs.Positions.{nonzero}
-use Rattle.text_scan.specs.declared.Scan.{Scan}
-use Rattle.text_scan.specs.Scanning.{clock_fields, scanned_part, scanned, start_of, scanned_parts}
-use Rattle.text_scan.specs.Carried.{capped}
+use Rattle.text_scan.specs.Scanning.{Scan, clock_fields, part_at, scanned, start_of, scanned_parts}
+use Rattle.text_scan.specs.Carried.{capped, scan}
+use Rattle.text_scan.specs.declared.FoundParts.{FoundParts}
+use Rattle.text_scan.proofs.Ways.{on, off}
 use Rattle.text_scan.proofs.Ends.{part_le}
 
 pub record Going (layout s : List ℕ) (t₀ t : Scan) (k : ℕ) : Type 0 where
@@ -28,14 +29,34 @@ pub record Going (layout s : List ℕ) (t₀ t : Scan) (k : ℕ) : Type 0 where
   pub within : t.at ≤ length s
   pub rest : scanned capped (drop k layout) s t ≡ scanned capped layout s t₀
 
-pub step : (layout s : List ℕ) (t₀ t : Scan) (k : ℕ) → without_zero layout ≡ true → Going layout s t₀ t k → k < length layout → {r : Scan} → r ≡ scanned_part capped (get_or layout k 0) s t → Going layout s t₀ r (k + 1)
+-- from a letter on: with its part, whether that is found or not
+letter_on : (layout s : List ℕ) (t₀ t : Scan) (k : ℕ) → Going layout s t₀ t k → k < length layout → t.good ≡ true
+    → scanned capped (drop (suc k) layout) s (part_at capped (get_or layout k 0) s t) ≡ scanned capped layout s t₀
 unfolding scanned
-step layout s t₀ t k m g h {r} e =
-    record {
-      to = omega arith;
-      within = rw e (part_le capped s t g.within (get_or layout k 0) (nonzero layout k m h));
-      rest = rw add-one (ap (scanned capped (drop (suc k) layout) s) e ∙ ap (λ (q : List ℕ). scanned capped q s t) (sym (drop-cons layout k 0 h)) ∙ g.rest);
-    }
+letter_on layout s t₀ t k g h q =
+    ap (scanned capped (drop (suc k) layout) s) (sym (on capped (get_or layout k 0) s t q))
+    ∙ ap (λ (r : List ℕ). scanned capped r s t) (sym (drop-cons layout k 0 h))
+    ∙ g.rest
+
+-- after a part that is not there nothing more is looked for
+stays : (ps s : List ℕ) (t : Scan) → t.good ≡ false → scanned capped ps s t ≡ t
+unfolding scanned
+stays [] s t e = refl
+stays (p ∷ ps) s t e = ap (scanned capped ps s) (off capped p s t e) ∙ stays ps s t e
+
+module _ (layout s : List ℕ) (t₀ : Scan) (t : FoundParts) (k : ℕ) (g : Going layout s t₀ (scan true t) k) (h : k < length layout)
+    {b : Bool} {r : FoundParts} (e : scan b r ≡ part_at capped (get_or layout k 0) s (scan true t)) where
+  rest_on : scanned capped (drop (suc k) layout) s (scan b r) ≡ scanned capped layout s t₀
+  rest_on = ap (scanned capped (drop (suc k) layout) s) e ∙ letter_on layout s t₀ (scan true t) k g h refl
+
+  pub step : b ≡ true → without_zero layout ≡ true → Going layout s t₀ (scan true r) (k + 1)
+  step q m =
+      let within : r.at ≤ length s = rw (ap (λ (x : Scan). x.at) e) (part_le capped s (scan true t) g.within (get_or layout k 0) (nonzero layout k m h)) in
+      rw add-one (record { to = omega arith; within = within; rest = ap (λ (x : Bool). scanned capped (drop (suc k) layout) s (scan x r)) (sym q) ∙ rest_on })
+
+  pub stopped : b ≡ false → scan false r ≡ scanned capped layout s t₀
+  stopped q =
+      sym (stays (drop (suc k) layout) s (scan false r) refl) ∙ ap (λ (x : Bool). scanned capped (drop (suc k) layout) s (scan x r)) (sym q) ∙ rest_on
 
 pub finish : (layout s : List ℕ) (t₀ t : Scan) (k : ℕ) → Going layout s t₀ t k → length layout ≤ k → t ≡ scanned capped layout s t₀
 unfolding scanned

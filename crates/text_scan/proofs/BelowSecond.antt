@@ -6,8 +6,7 @@ use Rattle.value.specs.Bounds.{second_ticks}
 use Rattle.value.specs.Rows.{layout_of, template_of}
 use Rattle.value.specs.declared.Kind.{Kind}
 use Rattle.numerals.proofs.Fractions.{fraction_lt}
-use Rattle.text_scan.specs.declared.Scan.{Scan}
-use Rattle.text_scan.specs.Scanning.{with_pair, start_of, scanned_parts}
+use Rattle.text_scan.specs.Scanning.{Scan, with_pair, start_of, scanned_parts}
 use Rattle.text_scan.proofs.Lasting.{Everywhere, ended, letter, lasts}
 
 abbrev Below : Scan → Type 0

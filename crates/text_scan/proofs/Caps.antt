@@ -15,10 +15,7 @@ use Rattle.value.proofs.RowTests.{rows_pass}
 use Rattle.value.proofs.RowLaws.{row_day}
 use Rattle.numerals.specs.Reading.{at, numeral_at, fraction_at}
 use Rattle.text_scan.specs.declared.FoundDate.{FoundDate}
-use Rattle.text_scan.specs.declared.Scan.{Scan}
-use Rattle.text_scan.specs.declared.Pair.{Pair}
-use Rattle.text_scan.specs.declared.Year.{Year}
-use Rattle.text_scan.specs.Scanning.{uncapped, four_zeros, pair_at, year_at, year_part, fraction_part, zone_part, zone_signed, zone_hours, zone_minutes, with_pair, part_at, scanned_part, is_pair, scanned, start_of, scanned_parts, with_year}
+use Rattle.text_scan.specs.Scanning.{Scan, Pair, Year, uncapped, four_zeros, pair_at, year_at, year_part, fraction_part, zone_part, zone_signed, zone_hours, zone_minutes, with_pair, part_at, scanned_part, is_pair, scanned, start_of, scanned_parts, with_year}
 use Rattle.text_scan.specs.Carried.{capped}
 
 abbrev pub cut_date : FoundDate → FoundDate

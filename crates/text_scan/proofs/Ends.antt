@@ -14,9 +14,7 @@ use Rattle.numerals.specs.declared.Fraction.{Fraction}
 use Rattle.numerals.proofs.Positions.{within}
 use Rattle.numerals.proofs.Stretches.{digit_within, stretch_le}
 use Rattle.numerals.proofs.Fractions.{fraction_le}
-use Rattle.text_scan.specs.declared.Scan.{Scan}
-use Rattle.text_scan.specs.declared.Pair.{Pair}
-use Rattle.text_scan.specs.Scanning.{four_zeros, pair_at, year_at, year_is, year_part, fraction_part, fraction_is, zone_part, zone_signed, zone_hours, zone_minutes, with_pair, part_at, scanned_part, is_pair}
+use Rattle.text_scan.specs.Scanning.{Scan, Pair, four_zeros, pair_at, year_at, year_is, year_part, fraction_part, fraction_is, zone_part, zone_signed, zone_hours, zone_minutes, with_pair, part_at, scanned_part, is_pair}
 use Rattle.text_scan.proofs.Ways.{on, off}
 
 module _ (s : List ℕ) (i : ℕ) where

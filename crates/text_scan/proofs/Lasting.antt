@@ -12,10 +12,7 @@ use borrow.Author.Tests.{eqb-true}
 use Rattle.basis.specs.Choice.{pick}
 use Rattle.numerals.specs.Reading.{at, fraction_at}
 use Rattle.text_scan.specs.declared.FoundZone.{FoundZone}
-use Rattle.text_scan.specs.declared.Scan.{Scan}
-use Rattle.text_scan.specs.declared.Pair.{Pair}
-use Rattle.text_scan.specs.declared.Year.{Year}
-use Rattle.text_scan.specs.Scanning.{pair_at, year_at, year_part, fraction_part, zone_part, zone_signed, zone_hours, zone_minutes, with_pair, part_at, scanned_part, is_pair, reached, scanned, with_year, with_fraction, with_zone_part}
+use Rattle.text_scan.specs.Scanning.{Scan, Pair, Year, pair_at, year_at, year_part, fraction_part, zone_part, zone_signed, zone_hours, zone_minutes, with_pair, part_at, scanned_part, is_pair, reached, scanned, with_year, with_fraction, with_zone_part}
 
 -- the offset does not matter to a fact
 abbrev pub Steady : (Scan → Type 0) → Type 0

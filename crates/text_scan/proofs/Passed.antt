@@ -17,9 +17,7 @@ use Rattle.value.specs.declared.Kind.TheVariants as KV
 use Rattle.numerals.specs.Reading.{is_digit, numeral_at, at, fraction_at}
 use Rattle.numerals.proofs.Passed.{Passed, passed_none, passed_byte, passed_mark, passed_digits}
 use Rattle.numerals.proofs.Fractions.{fraction_end}
-use Rattle.text_scan.specs.declared.Scan.{Scan}
-use Rattle.text_scan.specs.declared.Pair.{Pair}
-use Rattle.text_scan.specs.Scanning.{start_of, pair_at, four_zeros, leading_zero, year_digits, year_at, year_part, fraction_part, zone_part, zone_signed, zone_hours, zone_minutes, with_pair, with_year, with_fraction, with_zone_part, part_at, scanned_part, is_pair, reached, scanned, scanned_parts}
+use Rattle.text_scan.specs.Scanning.{Scan, Pair, start_of, pair_at, four_zeros, leading_zero, year_digits, year_at, year_part, fraction_part, zone_part, zone_signed, zone_hours, zone_minutes, with_pair, with_year, with_fraction, with_zone_part, part_at, scanned_part, is_pair, reached, scanned, scanned_parts}
 
 -- the bytes that stand in the text of a date, a time or a dateTime
 abbrev pub moment_byte : ℕ → Bool

@@ -18,8 +18,7 @@ use Rattle.value.specs.declared.Kind.TheVariants as KV
 use Rattle.numerals.specs.Reading.{is_digit, numeral_at, at}
 use Rattle.numerals.proofs.Powers.{widened}
 use Rattle.numerals.proofs.Stretches.{stretch_from}
-use Rattle.text_scan.specs.declared.Scan.{Scan}
-use Rattle.text_scan.specs.Scanning.{pair_at, is_pair, with_pair, four_zeros, leading_zero, year_digits, year_at, year_part, part_at, scanned_part, scanned, start_of, scanned_parts}
+use Rattle.text_scan.specs.Scanning.{Scan, pair_at, is_pair, with_pair, four_zeros, leading_zero, year_digits, year_at, year_part, part_at, scanned_part, scanned, start_of, scanned_parts}
 use Rattle.text_scan.specs.Carried.{width, widths}
 use Rattle.text_scan.proofs.Ways.{on}
 use Rattle.text_scan.proofs.Lasting.{Everywhere, ended, letter, lasts}

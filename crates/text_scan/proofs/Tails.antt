@@ -16,9 +16,7 @@ use Rattle.value.specs.Rows.{template_of}
 use Rattle.value.specs.declared.Kind.TheVariants as KV
 use Rattle.numerals.specs.Reading.{is_digit, at, fraction_digits, fraction_at}
 use Rattle.numerals.proofs.Fractions.{digit_too_many}
-use Rattle.text_scan.specs.declared.Scan.{Scan}
-use Rattle.text_scan.specs.declared.Pair.{Pair}
-use Rattle.text_scan.specs.Scanning.{pair_at, is_pair, with_pair, fraction_part, reached, with_fraction, with_zone_part, zone_part, zone_signed, zone_hours, zone_minutes, part_at, scanned_part, scanned, start_of, scanned_parts}
+use Rattle.text_scan.specs.Scanning.{Scan, Pair, pair_at, is_pair, with_pair, fraction_part, reached, with_fraction, with_zone_part, zone_part, zone_signed, zone_hours, zone_minutes, part_at, scanned_part, scanned, start_of, scanned_parts}
 use Rattle.text_scan.specs.Carried.{signed_width, width, widths}
 use Rattle.text_scan.proofs.Lasting.{Everywhere, ended, letter, lasts}
 use Rattle.text_scan.proofs.Starts.{is_not, in_two, good_before, pair_width, plain_widths}

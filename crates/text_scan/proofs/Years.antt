@@ -1,14 +1,13 @@
 -- A year from the stretch of digits that the code has found, with no more of its number than one above the greatest year.
 use mathlib.Core.Path.{◌≡◌, sym, ◌∙◌}
 use mathlib.Core.Bool.{Bool, true, false}
-use mathlib.Core.List.{List, [], ◌∷◌}
+use mathlib.Core.List.{List}
 use Prim.Native.Nat.{ℕ, suc, ◌+◌, ◌-◌, ◌≤◌, ◌<◌, min}
 use Prim.Native.Char.{code}
 use native.Mathlib.Omega.{arith}
 use lib.Dec.{eqb, ltb}
-use borrow.Author.Tests.{le-ltb, lt-ltb, eq-eqb}
-use Rattle.basis.specs.Choice.{both, every}
-use Rattle.basis.proofs.Tests.{every_goes, every_ends}
+use borrow.Author.Tests.{le-ltb, lt-ltb}
+use Rattle.basis.specs.Choice.{both}
 use Rattle.value.specs.Bounds.{max_year}
 use Rattle.numerals.specs.Reading.{numeral_at, at}
 use Rattle.numerals.specs.Carried.{Found}
@@ -43,17 +42,3 @@ module _ (s : List ℕ) (i : ℕ) (r : DigitsRead) (d : Found s i (max_year + 1)
           let f : r.value ≡ min (suc max_year) (numeral_at s i).value = omega (arith, d.capped) in
           let c : both (ltb 4 (numeral_at s i).count) (eqb (at s i) (code "0")) ≡ false = rw count at (sym el ∙ b) in
           rw (le-ltb (numeral_at s i).count 4 (omega (arith, count)), ← ez, z0, c, f, d.ends)
-
--- the last of four bytes, after three that are 0
-module _ (s : List ℕ) (i : ℕ) {a b c d : ℕ} (ea : a ≡ at s i) (eb : b ≡ at s (i + 1)) (ec : c ≡ at s (i + 2)) (ed : d ≡ at s (i + 3)) where
-  four_by : every (eqb a (code "0") ∷ eqb b (code "0") ∷ eqb c (code "0") ∷ eqb d (code "0") ∷ []) ≡ four_zeros s i
-  unfolding four_zeros
-  four_by = λ j. every (eqb (ea j) (code "0") ∷ eqb (eb j) (code "0") ∷ eqb (ec j) (code "0") ∷ eqb (ed j) (code "0") ∷ [])
-
-  pub last_zero : a ≡ code "0" → b ≡ code "0" → c ≡ code "0" → eqb d (code "0") ≡ four_zeros s i
-  last_zero x y z =
-      sym (every_goes (eqb a (code "0")) (eqb b (code "0") ∷ eqb c (code "0") ∷ eqb d (code "0") ∷ []) (eq-eqb a (code "0") x)
-      ∙ every_goes (eqb b (code "0")) (eqb c (code "0") ∷ eqb d (code "0") ∷ []) (eq-eqb b (code "0") y)
-      ∙ every_goes (eqb c (code "0")) (eqb d (code "0") ∷ []) (eq-eqb c (code "0") z)
-      ∙ every_ends (eqb d (code "0")))
-      ∙ four_by

@@ -14,13 +14,27 @@ use Rattle.numerals.specs.declared.Fraction.{Fraction}
 use Rattle.text_scan.specs.declared.FoundDate.{FoundDate}
 use Rattle.text_scan.specs.declared.FoundClock.{FoundClock}
 use Rattle.text_scan.specs.declared.FoundZone.{FoundZone}
-use Rattle.text_scan.specs.declared.Scan.{Scan}
-use Rattle.text_scan.specs.declared.Pair.{Pair}
-use Rattle.text_scan.specs.declared.Year.{Year}
 
 -- What is found in a text is a date, a clock and a zone, each a record; the zone's sign is 0 where there is none.
 -- With them go the offset that is reached and whether every part up to there was found; where not, the offset is that
 -- of the first byte at which no text of good shape could go on.
+pub record Scan : Type 0 where
+  pub date : FoundDate
+  pub clock : FoundClock
+  pub zone : FoundZone
+  pub at : ℕ
+  pub good : Bool
+
+-- two digits, and a year, with the offset after them; or the offset of the first byte that they could not have there
+pub record Pair : Type 0 where
+  pub value : ℕ
+  pub at : ℕ
+  pub good : Bool
+
+pub record Year : Type 0 where
+  pub value : ℕ
+  pub at : ℕ
+  pub good : Bool
 
 -- a time of day in ticks, as the clock that shows it
 abbrev pub clock_fields : ℕ → FoundClock

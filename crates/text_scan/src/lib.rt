@@ -5,30 +5,14 @@ ghost use Rattle.std.specs.Prelude.{◌≡◌, true, false, ◌+◌, ◌-◌, �
 ghost use Rattle.basis.specs.Choice.{pick};
 ghost use Rattle.value.specs.Rows.{template_of};
 ghost use Rattle.numerals.specs.Carried.{without_zero};
-ghost use Rattle.text_scan.specs.Scanning.{four_zeros, leading_zero, pair_at, year_at, year_part, fraction_part, zone_part, zone_signed, is_pair, with_pair, scanned_part, scanned, reached, start_of, scanned_parts};
-ghost use Rattle.text_scan.specs.Carried.{capped};
+ghost use Rattle.text_scan.specs.Scanning.{four_zeros, leading_zero, pair_at, year_at, year_part, fraction_part, zone_part, zone_signed, is_pair, with_pair, part_at, scanned, reached, start_of, scanned_parts};
+ghost use Rattle.text_scan.specs.Carried.{capped, pair_in, year_in, scan, scan_in};
 
 use numerals::{byte, digit, digits, fraction_at};
 use value::{DateTime, Kind};
 
 // A year has so many digits, or more.
 pub const YEAR_DIGITS: usize = 4;
-
-// Two digits, and the offset after them; or the offset at which there is no digit.
-#[derive(Clone, Copy)]
-pub struct Pair {
-    pub value: u8,
-    pub at: usize,
-    pub good: bool,
-}
-
-// A year, and the offset after it; or the offset of the first byte that no year could have there.
-#[derive(Clone, Copy)]
-pub struct Year {
-    pub value: u16,
-    pub at: usize,
-    pub good: bool,
-}
 
 // The date that was found in a text. Of a year no more is kept than one above the greatest.
 #[derive(Clone, Copy)]
@@ -59,328 +43,241 @@ pub struct FoundZone {
     pub minutes: u8,
 }
 
-// The parts found so far, the offset that is reached, and whether every part up to there was found. Where not, the
-// offset is that of the first byte at which no text of good shape could go on.
+// The parts found so far, and the offset that is reached. What is not found is an error with the parts found before it:
+// its offset is that of the first byte at which no text of good shape could go on.
 #[derive(Clone, Copy)]
-pub struct Scan {
+pub struct FoundParts {
     pub date: FoundDate,
     pub clock: FoundClock,
     pub zone: FoundZone,
     pub at: usize,
-    pub good: bool,
 }
 
-// Two digits at an offset.
-fn pair_at(s: &[u8], at: usize) -> Pair
-    requires { at ≤ length s.now + 8 }
-    ensures { result ≡ pair_at s.now at }
+// Two digits at an offset, which moves past them; or none, and it moves to where there is no digit.
+#[tactic(auto, using(numerals::proofs::Stretches::a_digit), unfolding(crate::specs::Scanning::pair_at))]
+fn pair_at(s: &[u8], at: &mut usize) -> Option<u8>
+    requires { at.old ≤ length s.now + 8 }
+    ensures { pair_in result at.new ≡ pair_at s.now at.old }
 {
-    let a = byte(s, at);
+    let a = byte(s, *at);
     if !digit(a) {
-        return Pair {
-            value: 0,
-            at,
-            good: false,
-        };
+        return None;
     }
-    let b = byte(s, at + 1);
+    *at += 1;
+    let b = byte(s, *at);
     if !digit(b) {
-        return Pair {
-            value: 0,
-            at: at + 1,
-            good: false,
-        };
+        return None;
     }
-    Pair {
-        value: (a - b'0') * 10 + (b - b'0'),
-        at: at + 2,
-        good: true,
-    }
+    *at += 1;
+    Some((a - b'0') * 10 + (b - b'0'))
 }
 
-// A year at an offset: four digits, or more with no leading zero; not 0000. However many digits it has, no more than one
-// above the greatest year is kept of it.
-fn year_at(s: &[u8], at: usize) -> Year
-    requires { at ≤ length s.now }
-    ensures { result ≡ year_at capped s.now at }
+// A year at an offset, which moves past it: four digits, or more with no leading zero; not 0000. However many digits it
+// has, no more than one above the greatest year is kept of it. Or none, and the offset moves to the first byte that no
+// year could have there.
+fn year_at(s: &[u8], at: &mut usize) -> Option<u16>
+    requires { at.old ≤ length s.now }
+    ensures { year_in result at.new ≡ year_at capped s.now at.old }
 {
-    let n = digits(s, at, DateTime::MAX_YEAR as u64 + 1);
+    let from = *at;
+    let n = digits(s, from, DateTime::MAX_YEAR as u64 + 1);
     let end = n.end;
-    if end - at < YEAR_DIGITS {
-        return Year {
-            value: 0,
-            at: end,
-            good: false,
-        };
+    *at = end;
+    if end - from < YEAR_DIGITS {
+        return None;
     }
-    if zeros(s, at) {
-        return Year {
-            value: 0,
-            at: at + 3,
-            good: false,
-        };
+    if zeros(s, from) {
+        *at = from + 3;
+        return None;
     }
-    if leading(s, at, end) {
-        return Year {
-            value: 0,
-            at: at + 4,
-            good: false,
-        };
+    if leading(s, from, end) {
+        *at = from + 4;
+        return None;
     }
-    Year {
-        value: n.value as u16,
-        at: end,
-        good: true,
-    }
+    Some(n.value as u16)
 }
 
 // Whether four bytes from an offset on are all 0.
+#[tactic(auto, unfolding(basis::specs::Choice::both, basis::specs::Choice::every, crate::specs::Scanning::four_zeros))]
 fn zeros(s: &[u8], at: usize) -> bool
     requires { at ≤ length s.now }
     ensures { result ≡ four_zeros s.now at }
 {
-    if byte(s, at) != b'0' {
-        return false;
-    }
-    if byte(s, at + 1) != b'0' {
-        return false;
-    }
-    if byte(s, at + 2) != b'0' {
-        return false;
-    }
-    byte(s, at + 3) == b'0'
+    byte(s, at) == b'0'
+        && byte(s, at + 1) == b'0'
+        && byte(s, at + 2) == b'0'
+        && byte(s, at + 3) == b'0'
 }
 
 // Whether a year of more than four digits begins with 0.
+#[tactic(auto, unfolding(basis::specs::Choice::both))]
 fn leading(s: &[u8], at: usize, end: usize) -> bool
     requires { at ≤ end }
     ensures { result ≡ leading_zero s.now at (end - at) }
 {
-    if end - at <= YEAR_DIGITS {
-        return false;
-    }
-    byte(s, at) == b'0'
+    YEAR_DIGITS < end - at && byte(s, at) == b'0'
 }
 
-// A year, after an optional minus.
-fn year_part(s: &[u8], mut t: Scan) -> Scan
-    requires { t.at ≤ length s.now }
-    ensures { result ≡ year_part capped s.now t }
+// A year, after an optional minus. This and the next look for a part, and say whether it is there. The offset is then past
+// it, or at the first byte that it could not have.
+#[tactic(auto, unfolding(crate::specs::Scanning::year_part))]
+fn year_part(s: &[u8], t: &mut FoundParts) -> bool
+    requires { t.old.at ≤ length s.now }
+    ensures { scan result t.new ≡ year_part capped s.now (scan true t.old) }
 {
-    let at = t.at;
-    if byte(s, at) == b'-' {
-        let y = year_at(s, at + 1);
-        t.date.negative = true;
-        t.date.year = y.value;
-        t.at = y.at;
-        t.good = y.good;
-        return t;
+    t.date.negative = byte(s, t.at) == b'-';
+    if t.date.negative {
+        t.at += 1;
     }
-    let y = year_at(s, at);
-    t.date.negative = false;
-    t.date.year = y.value;
-    t.at = y.at;
-    t.good = y.good;
-    t
+    let year = year_at(s, &mut t.at);
+    t.date.year = year.unwrap_or(0);
+    year.is_some()
 }
 
 // Nothing, or a point and at least one digit.
-fn fraction_part(s: &[u8], mut t: Scan) -> Scan
-    requires { t.at ≤ length s.now }
-    ensures { result ≡ fraction_part s.now t }
+#[tactic(auto, unfolding(crate::specs::Scanning::fraction_part))]
+fn fraction_part(s: &[u8], t: &mut FoundParts) -> bool
+    requires { t.old.at ≤ length s.now }
+    ensures { scan result t.new ≡ fraction_part s.now (scan true t.old) }
 {
-    let at = t.at;
-    if byte(s, at) != b'.' {
-        return t;
+    let point = t.at;
+    if byte(s, point) != b'.' {
+        return true;
     }
-    let from = at + 1;
-    let f = fraction_at(s, from);
-    let end = f.end;
-    if end == from {
-        t.at = from;
-        t.good = false;
-        return t;
+    let f = fraction_at(s, point + 1);
+    t.at = f.end;
+    if f.end == point + 1 {
+        return false;
     }
     t.clock.part = f.ticks;
     t.clock.long = f.long;
-    t.clock.point = at;
-    t.at = end;
-    t.good = true;
-    t
+    t.clock.point = point;
+    true
 }
 
 // A sign with hh:mm.
-fn zone_signed(s: &[u8], mut t: Scan, sign: u8) -> Scan
-    requires { t.at < length s.now }
-    ensures { result ≡ zone_signed s.now t sign }
+#[tactic(auto, unfolding(crate::specs::Scanning::zone_signed))]
+fn zone_signed(s: &[u8], t: &mut FoundParts, sign: u8) -> bool
+    requires { t.old.at < length s.now }
+    ensures { scan result t.new ≡ zone_signed s.now (scan true t.old) sign }
 {
-    let at = t.at;
-    let h = pair_at(s, at + 1);
-    let p = h.at;
-    t.at = p;
-    if !h.good {
-        t.good = false;
-        return t;
+    t.at += 1;
+    let Some(hours) = pair_at(s, &mut t.at) else {
+        return false;
+    };
+    if byte(s, t.at) != b':' {
+        return false;
     }
-    if byte(s, p) != b':' {
-        t.good = false;
-        return t;
-    }
-    let m = pair_at(s, p + 1);
-    t.at = m.at;
-    if !m.good {
-        t.good = false;
-        return t;
-    }
-    t.zone.sign = sign;
-    t.zone.hours = h.value;
-    t.zone.minutes = m.value;
-    t.good = true;
-    t
+    t.at += 1;
+    let Some(minutes) = pair_at(s, &mut t.at) else {
+        return false;
+    };
+    t.zone = FoundZone {
+        sign,
+        hours,
+        minutes,
+    };
+    true
 }
 
 // The text's end, or Z, or a sign with hh:mm.
-fn zone_part(s: &[u8], mut t: Scan) -> Scan
-    requires { t.at ≤ length s.now }
-    ensures { result ≡ zone_part s.now t }
+#[tactic(auto, unfolding(crate::specs::Scanning::zone_part))]
+fn zone_part(s: &[u8], t: &mut FoundParts) -> bool
+    requires { t.old.at ≤ length s.now }
+    ensures { scan result t.new ≡ zone_part s.now (scan true t.old) }
 {
-    let at = t.at;
-    if s.len() == at {
-        return t;
+    if t.at == s.len() {
+        return true;
     }
-    let b = byte(s, at);
-    if b == b'Z' {
-        t.zone.sign = b'Z';
-        t.zone.hours = 0;
-        t.zone.minutes = 0;
-        t.at = at + 1;
-        t.good = true;
-        return t;
+    match byte(s, t.at) {
+        b'Z' => {
+            t.zone = FoundZone {
+                sign: b'Z',
+                hours: 0,
+                minutes: 0,
+            };
+            t.at += 1;
+            true
+        }
+        b'+' => zone_signed(s, t, b'+'),
+        b'-' => zone_signed(s, t, b'-'),
+        _ => false,
     }
-    if b == b'+' {
-        return zone_signed(s, t, b'+');
-    }
-    if b == b'-' {
-        return zone_signed(s, t, b'-');
-    }
-    t.good = false;
-    t
 }
 
 // Whether a letter stands for two digits.
+#[tactic(auto, unfolding(crate::specs::Scanning::is_pair))]
 pub fn is_pair(p: u8) -> bool
     ensures { result ≡ is_pair p }
 {
-    if p == b'M' {
-        return true;
-    }
-    if p == b'D' {
-        return true;
-    }
-    if p == b'h' {
-        return true;
-    }
-    if p == b'm' {
-        return true;
-    }
-    p == b's'
+    matches!(p, b'M' | b'D' | b'h' | b'm' | b's')
 }
 
-// Two digits as the part that a letter stands for.
-fn with_pair(p: u8, mut t: Scan, g: Pair) -> Scan
-    requires { is_pair p ≡ true }
-    ensures { result ≡ with_pair p t g }
+// Two digits as the part that a letter stands for, 0 where there are none.
+#[tactic(auto, unfolding(crate::specs::Scanning::is_pair, crate::specs::Scanning::with_pair))]
+fn pair_part(p: u8, s: &[u8], t: &mut FoundParts) -> bool
+    requires { (t.old.at ≤ length s.now) × (is_pair p ≡ true) }
+    ensures { scan result t.new ≡ with_pair p (scan true t.old) (pair_at s.now t.old.at) }
 {
-    t.at = g.at;
-    t.good = g.good;
-    if p == b'M' {
-        t.date.month = g.value;
-        return t;
+    let pair = pair_at(s, &mut t.at);
+    let n = pair.unwrap_or(0);
+    match p {
+        b'M' => t.date.month = n,
+        b'D' => t.date.day = n,
+        b'h' => t.clock.hour = n,
+        b'm' => t.clock.minute = n,
+        _ => t.clock.second = n,
     }
-    if p == b'D' {
-        t.date.day = g.value;
-        return t;
-    }
-    if p == b'h' {
-        t.clock.hour = g.value;
-        return t;
-    }
-    if p == b'm' {
-        t.clock.minute = g.value;
-        return t;
-    }
-    t.clock.second = g.value;
-    t
-}
-
-fn pair_part(p: u8, s: &[u8], t: Scan) -> Scan
-    requires { (t.at ≤ length s.now) × (is_pair p ≡ true) }
-    ensures { result ≡ with_pair p t (pair_at s.now t.at) }
-{
-    let at = t.at;
-    let g = pair_at(s, at);
-    with_pair(p, t, g)
+    pair.is_some()
 }
 
 // A byte that stands for itself.
-fn mark(p: u8, s: &[u8], mut t: Scan) -> Scan
-    requires { t.at ≤ length s.now }
-    ensures { result ≡ pick (eqb (get_or s.now t.at 0) p) (reached t (t.at + 1) true) (reached t t.at false) }
+fn mark(p: u8, s: &[u8], t: &mut FoundParts) -> bool
+    requires { t.old.at ≤ length s.now }
+    ensures { scan result t.new ≡ pick (eqb (get_or s.now t.old.at 0) p) (reached (scan true t.old) (t.old.at + 1) true) (reached (scan true t.old) t.old.at false) }
 {
-    let at = t.at;
-    if byte(s, at) == p {
-        t.at = at + 1;
-        t.good = true;
-        return t;
+    if byte(s, t.at) != p {
+        return false;
     }
-    t.good = false;
-    t
+    t.at += 1;
+    true
 }
 
-// One letter of a layout. After a part that is not there nothing more is looked for.
-fn part(p: u8, s: &[u8], t: Scan) -> Scan
-    requires { t.at ≤ length s.now }
-    ensures { result ≡ scanned_part capped p s.now t }
+// One letter of a layout.
+#[tactic(auto, unfolding(crate::specs::Scanning::part_at))]
+fn part(p: u8, s: &[u8], t: &mut FoundParts) -> bool
+    requires { t.old.at ≤ length s.now }
+    ensures { scan result t.new ≡ part_at capped p s.now (scan true t.old) }
 {
-    if !t.good {
-        return t;
+    match p {
+        b'Y' => year_part(s, t),
+        b'f' => fraction_part(s, t),
+        b'z' => zone_part(s, t),
+        _ if is_pair(p) => pair_part(p, s, t),
+        _ => mark(p, s, t),
     }
-    if p == b'Y' {
-        return year_part(s, t);
-    }
-    if p == b'f' {
-        return fraction_part(s, t);
-    }
-    if p == b'z' {
-        return zone_part(s, t);
-    }
-    if is_pair(p) {
-        return pair_part(p, s, t);
-    }
-    mark(p, s, t)
 }
 
-// The parts of a text by a layout, from a template.
-fn scan_all(layout: &[u8], s: &[u8], template: Scan) -> Scan
+// The parts of a text by a layout, from a template. After a part that is not there nothing more is looked for.
+fn scan_all(layout: &[u8], s: &[u8], template: FoundParts) -> Result<FoundParts, FoundParts>
     requires { (template.at ≤ length s.now) × (without_zero layout.now ≡ true) }
-    ensures { result ≡ scanned capped layout.now s.now template }
+    ensures { scan_in result ≡ scanned capped layout.now s.now (scan true template) }
 {
     let mut t = template;
-    let mut k = 0;
-    while k < layout.len() {
-        let p = layout[k];
-        t = part(p, s, t);
-        k += 1;
+    for &p in layout {
+        if !part(p, s, &mut t) {
+            return Err(t);
+        }
     }
-    t
+    Ok(t)
 }
 
 // Before the first byte. A template is at 00:00:00.
-fn start(kind: Kind) -> Scan
-    ensures { result ≡ start_of (template_of kind) }
+fn start(kind: Kind) -> FoundParts
+    ensures { scan true result ≡ start_of (template_of kind) }
 {
     let d = value::kinds::template(kind);
-    Scan {
+    FoundParts {
         date: FoundDate {
             negative: false,
             year: d.year,
@@ -401,17 +298,12 @@ fn start(kind: Kind) -> Scan
             minutes: 0,
         },
         at: 0,
-        good: true,
     }
 }
 
 // The parts of a text, along the layout of a kind.
-pub fn parts_of(kind: Kind, s: &[u8]) -> Scan
-    ensures { result ≡ scanned_parts capped kind s.now }
+pub fn parts_of(kind: Kind, s: &[u8]) -> Result<FoundParts, FoundParts>
+    ensures { scan_in result ≡ scanned_parts capped kind s.now }
 {
-    let t = start(kind);
-    let l = value::kinds::layout(kind);
-    let letters = l.letters;
-    let n = l.len;
-    scan_all(&letters[..n], s, t)
+    scan_all(value::kinds::layout(kind), s, start(kind))
 }

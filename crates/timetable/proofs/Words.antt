@@ -1,120 +1,85 @@
--- A field compared with a word: it is the word where each byte up to the word's end is the word's and no tab, and a tab or the line's
--- end follows. The laws of `Comparing` are what a loop learns byte by byte.
+-- A field compared with a word: it is the word where what is left of the line begins with the word, the word has no tab, and a tab or
+-- the line's end follows.
 use mathlib.Core.Path.{◌≡◌, refl, ap, sym, ◌∙◌}
-use mathlib.Core.Bool.{Bool, true, false, true≢false}
-use mathlib.Core.List.{List, [], ◌∷◌}
-use Prim.Native.Nat.{ℕ, ◌+◌, ◌-◌, ◌≤◌, ◌<◌}
-use native.Mathlib.Numerals.{add-one}
+use mathlib.Core.Bool.{Bool, true, false, not, ◌||◌}
+use mathlib.Core.List.{List, [], ◌∷◌, ◌++◌}
+use Prim.Native.Nat.{ℕ, suc}
 use native.Mathlib.Omega.{arith}
 use lib.Dec.{eqb}
-use lib.ListN.{length, get_or, drop, length-drop, drop_of_length-le}
-use lib.Seq.{drop-cons}
-use borrow.Author.Tests.{eq-eqb, ne_eqb, eqb-true, eqb-false}
+use lib.ListN.{length, take, drop, take-append-drop}
+use borrow.Author.Tests.{eq-eqb, eqb-true}
+use Rattle.std.specs.List.{list_any}
 use Rattle.basis.specs.Exactly.{Exactly}
+use Rattle.basis.specs.Choice.{pick, both}
+use Rattle.basis.proofs.Tests.{both_end}
 use Rattle.timetable.specs.Parted.{bytes_before}
-use Rattle.timetable.specs.Fields.{tab, field_at}
-use Rattle.timetable.specs.Carried.{up_to_tab}
-use Rattle.timetable.proofs.Parting.{before_stop}
-use Rattle.timetable.proofs.Tabs.{AfterTabs, field_from_lem, up_to_end}
+use Rattle.timetable.specs.Fields.{tab, has_field, field_at}
+use Rattle.timetable.specs.Carried.{StartsAt, up_to_tab, ends_field}
+use Rattle.timetable.proofs.Counting.{no_field_empty}
+use Rattle.timetable.proofs.Tabs.{field_from_lem}
 
--- what a test tells of one statement it tells of any that holds exactly where that does
-module _ {A B : Type 0} (x : Exactly A B) where
-  holds : B → Exactly (true ≡ true) A
-  holds b = record { only = λ e. x.always b; always = λ a. refl }
+-- whether a word has a tab
+abbrev tabbed : List ℕ → Bool
+tabbed w = list_any (λ y. eqb y tab) w
 
-  fails : (B → ⊥) → Exactly (false ≡ true) A
-  fails n = record { only = λ e. absurd (true≢false (sym e)); always = λ a. absurd (n (x.only a)) }
+-- what stands up to the first tab is the word, where the bytes begin with it
+abbrev IsWord : List ℕ → List ℕ → Type 0
+IsWord w a = Exactly (both (not (tabbed w)) (ends_field a) ≡ true) (up_to_tab (w ++ a) ≡ w)
 
-  tells : {t : Bool} → Exactly (t ≡ true) B → Exactly (t ≡ true) A
-  tells y = record { only = λ e. x.always (y.only e); always = λ a. y.always (x.only a) }
+word_is : (w a : List ℕ) → IsWord w a
+unfolding both bytes_before
+word_is [] [] = record { only = λ e. refl; always = λ e. refl }
+word_is [] (b ∷ bs) = go (eqb b tab)
+  where
+    go : (t : Bool) → Exactly (t ≡ true) (take (pick t 0 (suc (bytes_before tab bs))) (b ∷ bs) ≡ [])
+    go true = record { only = λ e. refl; always = λ e. refl }
+    go false = record { only = λ e. cc; always = λ e. absurd (omega (arith, ap length e)) }
+word_is (x ∷ w) a = go (eqb x tab) (word_is w a)
+  where
+    go : (t : Bool) → IsWord w a
+        → Exactly (both (not (t || tabbed w)) (ends_field a) ≡ true) (take (pick t 0 (suc (bytes_before tab (w ++ a)))) (x ∷ (w ++ a)) ≡ x ∷ w)
+    go true h = record { only = λ e. cc; always = λ e. absurd (omega (arith, ap length e)) }
+    go false h = record { only = λ e. ap (λ l. x ∷ l) (h.only e); always = λ e. h.always (ap (drop 1) e) }
 
--- ---- the bytes up to a tab, byte by byte
+module _ (line : List ℕ) (at n : ℕ) (s : StartsAt at line n) (word : List ℕ) where
+  -- the rest of the line begins with the word: a test of what follows it, and of the word
+  by_word : (after : List ℕ) → drop at line ≡ word ++ after → {t : Bool} → t ≡ both (not (tabbed word)) (ends_field after)
+      → Exactly (t ≡ true) (field_at line n ≡ word)
+  by_word after e q =
+      let f : field_at line n ≡ up_to_tab (word ++ after) = field_from_lem line at n s ∙ ap up_to_tab e in
+      let w : IsWord word after = word_is word after in
+      record { only = λ h. f ∙ w.only (sym q ∙ h); always = λ h. q ∙ w.always (sym f ∙ h) }
 
-up_to_tab_lem : (s : List ℕ) (p : ℕ) → p < length s → get_or s p 0 ≡ tab → up_to_tab (drop p s) ≡ []
-up_to_tab_lem s p l e = rw (before_stop tab s p l e)
+  pub word_ends : (after : List ℕ) → drop at line ≡ word ++ after → ends_field after ≡ true → {r : Bool} → r ≡ tabbed word
+      → Exactly (not r ≡ true) (field_at line n ≡ word)
+  word_ends after e p q = by_word after e (rw p (ap not q ∙ sym (both_end (not (tabbed word)))))
 
-up_to_other : (s : List ℕ) (p : ℕ) → p < length s → (get_or s p 0 ≡ tab → ⊥) → up_to_tab (drop p s) ≡ get_or s p 0 ∷ up_to_tab (drop (p + 1) s)
-unfolding bytes_before
-up_to_other s p l e = rw (add-one, drop-cons s p 0, ne_eqb (get_or s p 0) tab e)
-
-word_on : (w : List ℕ) (i : ℕ) → i < length w → drop i w ≡ get_or w i 0 ∷ drop (i + 1) w
-word_on w i l = rw (add-one, drop-cons w i 0)
-
-word_left : (w : List ℕ) (i : ℕ) → i < length w → [] ≡ drop i w → ⊥
-word_left w i l e =
-    let k = ap length e in
-    let d = length-drop i w in
-    omega arith
-
--- a reader of the line at p and of the word at i
-pub record Comparing (line : List ℕ) (at : ℕ) (word : List ℕ) (p i : ℕ) : Type 0 where
-  pub within : i ≤ length word
-  pub rest : Exactly (up_to_tab (drop at line) ≡ word) (up_to_tab (drop p line) ≡ drop i word)
-
-pub at_first : (line : List ℕ) (at : ℕ) (word : List ℕ) → Comparing line at word at 0
-at_first line at word = record { within = omega arith; rest = record { only = λ e. e; always = λ e. e } }
-
-module _ (line : List ℕ) (at : ℕ) (word : List ℕ) (p i : ℕ) (c : Comparing line at word p i) where
-  pub line_short : length line ≤ p → i < length word → Exactly (false ≡ true) (up_to_tab (drop at line) ≡ word)
-  line_short h k = fails c.rest (λ e. word_left word i k (sym (up_to_end line p h) ∙ e))
-
-  pub field_short : p < length line → i < length word → get_or line p 0 ≡ tab → Exactly (false ≡ true) (up_to_tab (drop at line) ≡ word)
-  field_short h k t = fails c.rest (λ e. word_left word i k (sym (up_to_tab_lem line p h t) ∙ e))
-
-  pub byte_differs : p < length line → i < length word → (get_or line p 0 ≡ get_or word i 0 → ⊥) → Exactly (false ≡ true) (up_to_tab (drop at line) ≡ word)
-  byte_differs h k n = go (eqb (get_or line p 0) tab) refl
+  pub word_goes_on : (after : List ℕ) → drop at line ≡ word ++ after → ends_field after ≡ false → Exactly (false ≡ true) (field_at line n ≡ word)
+  unfolding both
+  word_goes_on after e p = by_word after e (rw p (go (tabbed word)))
     where
-      go : (b : Bool) → eqb (get_or line p 0) tab ≡ b → Exactly (false ≡ true) (up_to_tab (drop at line) ≡ word)
-      go true t = field_short h k (eqb-true (get_or line p 0) tab t)
-      go false t =
-          fails c.rest
-          (λ e. n (ap (λ (l : List ℕ). get_or l 0 0) (sym (up_to_other line p h (eqb-false (get_or line p 0) tab t)) ∙ e ∙ word_on word i k)))
+      go : (t : Bool) → false ≡ both (not t) false
+      go true = refl
+      go false = refl
 
-  pub byte_same : p < length line → i < length word → get_or line p 0 ≡ get_or word i 0 → (get_or line p 0 ≡ tab → ⊥) → Comparing line at word (p + 1) (i + 1)
-  byte_same h k q t =
-      let a = up_to_other line p h t in
-      let b = word_on word i k in
+  -- it does not begin with the word
+  pub not_begun : ((after : List ℕ) → drop at line ≡ word ++ after → ⊥) → Exactly (false ≡ true) (field_at line n ≡ word)
+  not_begun none =
+      let b = bytes_before tab (drop at line) in
       record {
-        within = omega arith;
-        rest =
-            record {
-              only = λ e. ap (drop 1) (sym a ∙ c.rest.only e ∙ b);
-              always = λ e. c.rest.always (a ∙ (λ j. q j ∷ e j) ∙ sym b);
-            };
+        only = λ e. cc;
+        always = λ e. absurd (none (drop b (drop at line)) (sym (take-append-drop b (drop at line)) ∙ ap (λ l. l ++ drop b (drop at line)) (sym (field_from_lem line at n s) ∙ e)));
       }
-
-  word_done : length word ≤ i → drop i word ≡ []
-  word_done h = drop_of_length-le word h
-
-  pub line_done : length word ≤ i → length line ≤ p → Exactly (true ≡ true) (up_to_tab (drop at line) ≡ word)
-  line_done k h = holds c.rest (up_to_end line p h ∙ sym (word_done k))
-
-  pub field_done : length word ≤ i → p < length line → Exactly (eqb (get_or line p 0) tab ≡ true) (up_to_tab (drop at line) ≡ word)
-  field_done k h = go (eqb (get_or line p 0) tab) refl
-    where
-      go : (b : Bool) → eqb (get_or line p 0) tab ≡ b → Exactly (b ≡ true) (up_to_tab (drop at line) ≡ word)
-      go true t = holds c.rest (up_to_tab_lem line p h (eqb-true (get_or line p 0) tab t) ∙ sym (word_done k))
-      go false t =
-          fails c.rest
-          (λ e. let l = ap length (sym (up_to_other line p h (eqb-false (get_or line p 0) tab t)) ∙ e ∙ word_done k) in omega arith)
-
--- ---- the field
 
 no_bytes : (w : List ℕ) → length w ≡ 0 → [] ≡ w
 no_bytes [] e = refl
 no_bytes (b ∷ bs) e = absurd (omega arith)
 
--- an empty field is the empty word
-pub none_is : (f word : List ℕ) → f ≡ [] → Exactly (eqb (length word) 0 ≡ true) (f ≡ word)
-none_is f word e =
+-- a field that is not there is the empty word
+pub none_is : (line : List ℕ) (n : ℕ) (word : List ℕ) → has_field line n ≡ false → Exactly (eqb (length word) 0 ≡ true) (field_at line n ≡ word)
+none_is line n word e =
+    let f : field_at line n ≡ [] = no_field_empty line n e in
     record {
-      only = λ t. e ∙ no_bytes word (eqb-true (length word) 0 t);
-      always = λ q. eq-eqb (length word) 0 (ap length (sym q ∙ e));
+      only = λ t. f ∙ no_bytes word (eqb-true (length word) 0 t);
+      always = λ q. eq-eqb (length word) 0 (ap length (sym q ∙ f));
     }
-
--- the field starts after its tabs
-pub field_is : (line : List ℕ) (n r : ℕ) (word : List ℕ) → 0 < n → AfterTabs line (n - 1) r → {t : Bool}
-    → Exactly (t ≡ true) (up_to_tab (drop r line) ≡ word) → Exactly (t ≡ true) (field_at line n ≡ word)
-field_is line n r word h found x =
-    let q = field_from_lem line n r h found in
-    record { only = λ e. q ∙ x.only e; always = λ e. x.always (sym q ∙ e) }

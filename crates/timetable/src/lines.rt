@@ -17,10 +17,7 @@ pub fn line_end(t: &[u8], at: usize) -> usize
 pub fn after_end(t: &[u8], end: usize) -> usize
     ensures { result ≡ after_end t.now end }
 {
-    if end < t.len() {
-        return end + 1;
-    }
-    end
+    if end < t.len() { end + 1 } else { end }
 }
 
 // Where the line after the one at `at` starts; the timetable's end after the last one, and past that end `at` itself.

@@ -6,12 +6,11 @@ ghost use Rattle.timetable.specs.Parted.{bytes_before};
 pub fn offset_of(c: u8, s: &[u8], at: usize) -> usize
     ensures { result ≡ at + bytes_before c (drop at s.now) }
 {
-    let mut i = at;
-    while i < s.len() {
-        if s[i] == c {
-            return i;
-        }
-        i += 1;
+    let Some(rest) = s.get(at..) else {
+        return at;
+    };
+    match rest.iter().position(|b| *b == c) {
+        Some(i) => at + i,
+        None => s.len(),
     }
-    i // none: the end, or `at` itself past it
 }

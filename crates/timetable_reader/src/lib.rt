@@ -1,18 +1,27 @@
 // Document 01, "Timetable, seats and turns": the work reads the timetable "through a line reader that carries the timetable
-// and its own place in it". The functions over it are thin: the work is done by `line_at`, which takes a slice and a
-// number, and others read through `read_line`, which does so too.
+// and its own place in it". It is an iterator over the lines that are left to read. A turn reads one line at an offset,
+// through a reader that is made for it: `read_line`.
 #![tactic(auto)]
 
 ghost use Rattle.std.specs.Prelude.{◌≡◌};
+ghost use Rattle.std.specs.Iterator.{item_count};
 ghost use Rattle.timetable.specs.Lines.{line_end, next_line};
+ghost use Rattle.timetable_reader.specs.Left.{lines_left, ReadsOn};
 
-use timetable::lines::{after_end, line_end, next_line};
+use timetable::lines::{after_end, line_end};
 
 // The timetable, and the offset at which the next line starts.
 #[derive(Clone, Copy)]
 pub struct LineReader<'a> {
     pub timetable: &'a [u8],
     pub at: usize,
+}
+
+// A line that was read: the offset at which it starts, and its bytes.
+#[derive(Clone, Copy)]
+pub struct OffsetLine<'a> {
+    pub offset: usize,
+    pub text: &'a [u8],
 }
 
 // Where a line ends, and where the one after it starts.
@@ -31,28 +40,38 @@ pub fn line_at(t: &[u8], at: usize) -> LineAt
     LineAt { end, next }
 }
 
-// A reader of a timetable, placed at an offset.
-pub fn new<'a>(timetable: &'a [u8], at: usize) -> LineReader<'a>
-    ensures { (result.timetable ≡ timetable.entry) × (result.at ≡ at) }
-{
-    LineReader { timetable, at }
+impl<'a> LineReader<'a> {
+    // A reader of a timetable, placed at an offset.
+    pub fn new(timetable: &'a [u8], at: usize) -> LineReader<'a>
+        ensures { (result.timetable ≡ timetable.entry) × (result.at ≡ at) }
+    {
+        LineReader { timetable, at }
+    }
+
+    // The line at the reader's offset.
+    pub fn line(&self) -> LineAt
+        ensures { (result.end ≡ line_end self.now.timetable.now self.now.at) × (result.next ≡ next_line self.now.timetable.now self.now.at) }
+    {
+        line_at(self.timetable, self.at)
+    }
 }
 
-// The line at the reader's offset.
-pub fn next<'a>(r: LineReader<'a>) -> LineAt
-    ensures { (result.end ≡ line_end r.entry.timetable.now r.entry.at) × (result.next ≡ next_line r.entry.timetable.now r.entry.at) }
-{
-    line_at(r.timetable, r.at)
-}
+impl<'a> Iterator for LineReader<'a> {
+    type Item = OffsetLine<'a>;
 
-// The reader moved on to the line after the one at its offset.
-pub fn moved<'a>(r: LineReader<'a>) -> LineReader<'a>
-    ensures { (result.timetable ≡ r.entry.timetable) × (result.at ≡ next_line r.entry.timetable.now r.entry.at) }
-{
-    let at = next_line(r.timetable, r.at);
-    LineReader {
-        timetable: r.timetable,
-        at,
+    ghost next_gives = { ReadsOn };
+
+    ghost remaining = { item_count lines_left };
+
+    fn next(&mut self) -> Option<OffsetLine<'a>> {
+        let offset = self.at;
+        if self.timetable.len() <= offset {
+            return None;
+        }
+        let line = self.line();
+        self.at = line.next;
+        let text = &self.timetable[offset..line.end];
+        Some(OffsetLine { offset, text })
     }
 }
 
@@ -60,5 +79,26 @@ pub fn moved<'a>(r: LineReader<'a>) -> LineReader<'a>
 pub fn read_line(t: &[u8], at: usize) -> LineAt
     ensures { (result.end ≡ line_end t.now at) × (result.next ≡ next_line t.now at) }
 {
-    next(new(t, at))
+    LineReader::new(t, at).line()
+}
+
+// A reader of a timetable, placed at an offset.
+pub fn new<'a>(timetable: &'a [u8], at: usize) -> LineReader<'a>
+    ensures { (result.timetable ≡ timetable.entry) × (result.at ≡ at) }
+{
+    LineReader::new(timetable, at)
+}
+
+// The line at the reader's offset.
+pub fn next<'a>(r: LineReader<'a>) -> LineAt
+    ensures { (result.end ≡ line_end r.entry.timetable.now r.entry.at) × (result.next ≡ next_line r.entry.timetable.now r.entry.at) }
+{
+    r.line()
+}
+
+// The reader moved on to the line after the one at its offset.
+pub fn moved<'a>(r: LineReader<'a>) -> LineReader<'a>
+    ensures { (result.timetable ≡ r.entry.timetable) × (result.at ≡ next_line r.entry.timetable.now r.entry.at) }
+{
+    LineReader::new(r.timetable, r.line().next)
 }

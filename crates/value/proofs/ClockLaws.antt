@@ -1,6 +1,7 @@
 -- What there is to know of a record's time of day and of a duration's size: that they come back as they were put in,
 -- and that within the bounds a record is told by its date, its time of day and its zone, a duration by its sign and
 -- its size.
+use Rattle.std.specs.Prelude.{Option}
 use mathlib.Core.Path.{◌≡◌, refl, ap, sym, ◌∙◌}
 use mathlib.Core.Bool.{Bool, true}
 use Prim.Native.Nat.{ℕ, ◌+◌, ◌-◌, ◌*◌, ◌/◌, ◌%◌, ◌≤◌, ◌<◌}
@@ -14,19 +15,19 @@ use Rattle.value.specs.Bounds.{second_ticks, max_second, max_nanosecond, max_day
 use Rattle.value.specs.Clocks.{clock_of, with_time, at_clock, at_clock_of, same_clock, ticks_in, with_size, duration_of}
 use Rattle.value.specs.Values.{ok_time_part, ok_signed, ok_day_time, date_in}
 use Rattle.value.specs.Durations.{plus_half, minus_half, plus_ticks, minus_ticks, apart, less_ticks}
-use Rattle.value.specs.declared.Zone.{Zone}
 use Rattle.value.specs.declared.DateTime.{DateTime}
 use Rattle.value.specs.declared.DayTime.{DayTime}
 use Rattle.value.specs.Carried.{span_of, max_clock}
 use Rattle.value.proofs.Spans.{span_is}
 use Rattle.value.proofs.Signs.{signed_within, plus_apart, minus_apart, difference_ok}
+use Rattle.value.specs.declared.Offset.{Offset}
 
 -- a time of day that was put in comes back
-pub clock_at : (e : Date) (t : ℕ) (z : Zone) → clock_of (at_clock e t z) ≡ t
+pub clock_at : (e : Date) (t : ℕ) (z : Option Offset) → clock_of (at_clock e t z) ≡ t
 unfolding clock_of
 clock_at e t z = omega arith
 
-pub clock_kept : (e : Date) (d : DateTime) (z : Zone) → clock_of (at_clock_of e d z) ≡ clock_of d
+pub clock_kept : (e : Date) (d : DateTime) (z : Option Offset) → clock_of (at_clock_of e d z) ≡ clock_of d
 unfolding clock_of
 clock_kept e d z = refl
 
@@ -44,7 +45,7 @@ pub clock_span : (d : DateTime) → ok_time_part d ≡ true → record { seconds
 unfolding clock_of
 clock_span d g = span_is d.second d.nanosecond (clock_of d) (nanosecond_below d g) refl
 
-pub at_span : (e : Date) (s p : ℕ) (z : Zone) → p < second_ticks → with_time e s p z ≡ at_clock e (s * second_ticks + p) z
+pub at_span : (e : Date) (s p : ℕ) (z : Option Offset) → p < second_ticks → with_time e s p z ≡ at_clock e (s * second_ticks + p) z
 at_span e s p z h =
     let x = span_is s p (s * second_ticks + p) h refl in
     λ i. with_time e (x i).seconds (x i).part z
@@ -75,7 +76,7 @@ pub same_clock_self : (d : DateTime) → same_clock d d ≡ true
 unfolding same_clock
 same_clock_self d = both_true _ _ (eq-eqb d.second d.second refl) (eq-eqb d.nanosecond d.nanosecond refl)
 
-pub same_clock_one : (a b : DateTime) (e : Date) (z : Zone) → same_clock a b ≡ true → at_clock_of e a z ≡ at_clock_of e b z
+pub same_clock_one : (a b : DateTime) (e : Date) (z : Option Offset) → same_clock a b ≡ true → at_clock_of e a z ≡ at_clock_of e b z
 unfolding same_clock
 same_clock_one a b e z h =
     let s = eqb-true _ _ (both_left _ _ h) in
@@ -90,19 +91,19 @@ clock_to d g =
     let hn = nanosecond_below d g in
     omega arith
 
-pub time_part_at : (e : Date) (t : ℕ) (z : Zone) → t ≤ max_clock → ok_time_part (at_clock e t z) ≡ true
+pub time_part_at : (e : Date) (t : ℕ) (z : Option Offset) → t ≤ max_clock → ok_time_part (at_clock e t z) ≡ true
 unfolding ok_time_part every
 time_part_at e t z h =
     let hs : t / second_ticks ≤ max_second = omega arith in
     let hn : t % second_ticks ≤ max_nanosecond = omega arith in
     both_true _ _ (le-leb _ _ hs) (both_true _ _ (le-leb _ _ hn) refl)
 
-pub time_part_kept : (e : Date) (d : DateTime) (z : Zone) → ok_time_part d ≡ true → ok_time_part (at_clock_of e d z) ≡ true
+pub time_part_kept : (e : Date) (d : DateTime) (z : Option Offset) → ok_time_part d ≡ true → ok_time_part (at_clock_of e d z) ≡ true
 unfolding ok_time_part
 time_part_kept e d z g = g
 
 -- the time of day of a record, put into another, is its time part
-pub own_clock : (e : Date) (d : DateTime) (z : Zone) → ok_time_part d ≡ true → at_clock e (clock_of d) z ≡ at_clock_of e d z
+pub own_clock : (e : Date) (d : DateTime) (z : Option Offset) → ok_time_part d ≡ true → at_clock e (clock_of d) z ≡ at_clock_of e d z
 own_clock e d z g =
     one_record (at_clock e (clock_of d) z) (at_clock_of e d z) (time_part_at e (clock_of d) z (clock_to d g)) (time_part_kept e d z g) refl (clock_at e (clock_of d) z ∙ sym (clock_kept e d z)) refl
 

@@ -7,47 +7,55 @@ use Prim.Native.Nat.{ℕ, ◌≤◌}
 use Prim.Native.Char.{code}
 use lib.Dec.{eqb}
 use borrow.Author.Tests.{eq-eqb, eqb-true}
+use Rattle.std.specs.Prelude.{◌&&◌, None, Option, Some}
 use Rattle.basis.specs.Choice.{pick, both, every}
-use Rattle.basis.proofs.Tests.{both_left, both_right, both_true, both_end}
+use Rattle.basis.proofs.Tests.{both_left, both_right, both_true}
 use Rattle.calendar.specs.declared.Date.{Date}
 use Rattle.value.specs.Bounds.{max_year_month}
 use Rattle.value.specs.Clocks.{at_clock_of, same_clock}
-use Rattle.value.specs.Rows.{parts_in, is_moment, is_dated, has, layout_of, template_of, kept_by, kept, of_kind}
+use Rattle.value.specs.Rows.{is_moment, has, kept_by, kept, of_kind}
 use Rattle.value.specs.Values.{ok_date_time, ok_day_time, ok_year_month, date_in}
 use Rattle.value.specs.Kinds.{ok_value}
+use Rattle.value.specs.declared.Offset.TheVariants.{East, West}
 use Rattle.value.specs.declared.DateTime.{DateTime}
+use Rattle.value.specs.contracts.OffsetPartialEq.TheImpl.{eq-value as offset_eq}
+use Rattle.std.specs.Option.{option_eq}
+use Rattle.value.specs.contracts.DateTimePartialEq.TheImpl.{eq-value as record_eq}
 use Rattle.value.specs.declared.DayTime.{DayTime}
 use Rattle.value.specs.declared.YearMonth.{YearMonth}
 use Rattle.value.specs.declared.Kind.{Kind}
-use Rattle.value.specs.declared.OwnParts.{OwnParts}
 use Rattle.value.specs.declared.Value.{Value}
 use Rattle.value.specs.declared.Value.TheVariants as VV
 use Rattle.value.proofs.Signs.{signed_within}
 use Rattle.value.proofs.ClockLaws.{same_clock_self, same_clock_one}
+use Rattle.value.specs.declared.Offset.{Offset}
 
--- as the code makes it: the parts that a kind has, its template, and the record whose clock is kept
-module _ (k : Kind) (d t : DateTime) (own : OwnParts) (ep : own ≡ parts_in (layout_of k)) (et : t ≡ template_of k) where
-  abbrev dated : ℕ → ℕ → ℕ → Date
-  dated y m g = record { year = y; month = m; day = g }
+-- the test that a record is what the kind keeps of it: the zone is kept
+zone_kept : (z : Option Offset) → option_eq offset_eq.it z z ≡ true
+zone_kept None = refl
+zone_kept (Some (East m)) = eq-eqb m m refl
+zone_kept (Some (West m)) = eq-eqb m m refl
 
-  pub kept_by_lem : {y m g : ℕ} (b : Bool) → own.clock ≡ b → y ≡ pick own.year d.year t.year → m ≡ pick own.month d.month t.month
-      → g ≡ pick own.day d.day t.day → at_clock_of (dated y m g) (pick b d t) d.zone ≡ kept k d
-  kept_by_lem b eb ey em eg =
-      (λ i. at_clock_of (dated (ey i) (em i) (eg i)) (pick (sym eb i) d t) d.zone)
-      ∙ (λ i. at_clock_of
-      (dated (pick (ep i).year d.year (et i).year) (pick (ep i).month d.month (et i).month) (pick (ep i).day d.day (et i).day))
-      (pick (ep i).clock d (et i))
-      d.zone)
+but_the_zone : (y m g s n : Bool) {z : Bool} → z ≡ true → (y && (m && (g && (s && (n && z))))) ≡ every (y ∷ m ∷ g ∷ both s n ∷ [])
+unfolding every both
+but_the_zone false m g s n e = refl
+but_the_zone true false g s n e = refl
+but_the_zone true true false s n e = refl
+but_the_zone true true true false n e = refl
+but_the_zone true true true true false e = refl
+but_the_zone true true true true true e = e
 
-pub dated_by : (k : Kind) (own : OwnParts) → own ≡ parts_in (layout_of k) → every (own.year ∷ own.month ∷ own.day ∷ []) ≡ is_dated k
-unfolding is_dated
-dated_by k own e = λ i. every ((e i).year ∷ (e i).month ∷ (e i).day ∷ [])
-
-pub of_kind_by : (k : Kind) (d x : DateTime) → x ≡ kept k d
-    → every (eqb d.year x.year ∷ eqb d.month x.month ∷ eqb d.day x.day ∷ same_clock d x ∷ []) ≡ of_kind k d
-unfolding of_kind
+pub of_kind_by : (k : Kind) (d x : DateTime) → x ≡ kept k d → record_eq.it d x ≡ of_kind k d
+unfolding of_kind same_clock
 of_kind_by k d x e =
-    λ i. every (eqb d.year (e i).year ∷ eqb d.month (e i).month ∷ eqb d.day (e i).day ∷ same_clock d (e i) ∷ [])
+    (λ i. record_eq.it d (e i))
+    ∙ but_the_zone
+    (eqb d.year (kept k d).year)
+    (eqb d.month (kept k d).month)
+    (eqb d.day (kept k d).day)
+    (eqb d.second (kept k d).second)
+    (eqb d.nanosecond (kept k d).nanosecond)
+    (zone_kept d.zone)
 
 -- a record is of a kind exactly where the kind keeps all of it
 pub of_kind_kept : (k : Kind) (d : DateTime) → of_kind k d ≡ true → kept k d ≡ d
@@ -90,23 +98,10 @@ kept_again ps t d =
     d.zone)
     ∙ clock_again (has ps (code "h")) (date_in (kept_by ps t d)) d t (date_in (kept_by ps t d))
 
--- the tests of a moment, as the code makes them
-module _ {v : Value} {k : Kind} {d : DateTime} (e : v ≡ VV.Moment k d) where
-  pub moment_bad : is_moment k ≡ false → false ≡ ok_value v
-  unfolding ok_value every both
-  moment_bad p = sym (ap ok_value e ∙ rw p refl)
-
-  module _ (p : is_moment k ≡ true) where
-    pub moment_out : ok_date_time d ≡ false → false ≡ ok_value v
-    unfolding ok_value every both
-    moment_out q = sym (ap ok_value e ∙ rw (p, q) refl)
-
-    pub moment_is : ok_date_time d ≡ true → {r : Bool} → r ≡ of_kind k d → r ≡ ok_value v
-    unfolding ok_value every both
-    moment_is q f = f ∙ sym (ap ok_value e ∙ rw (p, q) (both_end (of_kind k d)))
-
+-- a moment that passes each test is within the bounds
 pub moment_ok : (k : Kind) (d : DateTime) → is_moment k ≡ true → ok_date_time d ≡ true → of_kind k d ≡ true → ok_value (VV.Moment k d) ≡ true
-moment_ok k d p q f = sym (moment_is refl p q (sym f))
+unfolding ok_value every both
+moment_ok k d p q f = rw (p, q, f) refl
 
 -- what a value within the bounds has, by its variant
 module _ (v : Value) (g : ok_value v ≡ true) where

@@ -2,7 +2,6 @@ pub mod Answers
 pub mod Signs
 pub mod Spans
 pub mod ClockLaws
-pub mod Sizes
 pub mod Good
 pub mod KindParts
 pub mod RowTests

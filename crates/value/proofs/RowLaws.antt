@@ -1,29 +1,29 @@
 -- The laws of rows, once for every layout and template that pass the test of a row: what a row keeps of a date is a
 -- date. Then over the kinds, whose rows pass.
+use Rattle.std.specs.Prelude.{Option}
 use mathlib.Core.Path.{◌≡◌, refl, ap, sym, ◌∙◌}
-use mathlib.Core.Bool.{Bool, true, false}
+use mathlib.Core.Bool.{Bool, true, false, not}
 use mathlib.Core.List.{List, [], ◌∷◌}
 use Prim.Native.Nat.{ℕ, suc, ◌-◌, ◌≤◌}
 use Prim.Native.Char.{code}
 use native.Mathlib.Omega.{arith}
-use lib.Dec.{ltb}
+use lib.Dec.{eqb, ltb}
 use lib.ListN.{length}
-use lib.Seq.{length-take-le}
-use borrow.Author.Tests.{leb-true, eqb-true, eq-eqb, lt-ltb}
+use borrow.Author.Tests.{leb-true, eqb-true, eq-eqb, lt-ltb, not-true, not-false}
 use Rattle.basis.specs.Choice.{pick, both, every}
 use Rattle.basis.proofs.Tests.{both_left, both_right, never}
 use Rattle.calendar.specs.declared.Date.{Date}
 use Rattle.calendar.specs.Calendar.{month_days, month_count, leap_row}
 use Rattle.calendar.proofs.Months.{month_le}
 use Rattle.value.specs.Bounds.{min_year, max_year}
-use Rattle.value.specs.Carried.{letters_of}
 use Rattle.value.specs.Clocks.{clock_of, at_clock, at_clock_of}
 use Rattle.value.specs.Values.{ok_time_part, ok_date_time, date_in}
 use Rattle.value.specs.Rows.{has, has_part, is_moment, is_dated, is_clocked, layout_of, template_of, kind_number, same_kind, kept_by, kept, of_kind}
 use Rattle.value.specs.Kinds.{ok_value}
-use Rattle.value.specs.declared.Zone.{Zone}
 use Rattle.value.specs.declared.DateTime.{DateTime}
-use Rattle.value.specs.declared.Layout.{Layout}
+use denote.Enum.Declared.{tag_of}
+use denote.Enum.Bare.{sameb}
+use Rattle.value.specs.contracts.Kind.{the_type}
 use Rattle.value.specs.declared.Kind.{Kind}
 use Rattle.value.specs.declared.Kind.TheVariants as KV
 use Rattle.value.specs.declared.Value.TheVariants as VV
@@ -32,6 +32,7 @@ use Rattle.value.proofs.Good.{GoodDay, good_day, Good, good, record_ok}
 use Rattle.value.proofs.KindParts.{kept_again, kept_of_kind, of_kind_kept, moment_ok}
 use Rattle.calendar.proofs.MonthRows.{february_shortest, ordinary_shortest, leap_longest}
 use Rattle.value.proofs.RowTests.{meets, clock_whole, ok_row, rows_pass, kind_at, numbered}
+use Rattle.value.specs.declared.Offset.{Offset}
 
 -- the date of a record where a, b, c say which of year, month and day are its own
 abbrev mixed : Bool → Bool → Bool → DateTime → DateTime → Date
@@ -122,11 +123,6 @@ module _ (ps : List ℕ) (t : DateTime) (r : ok_row ps t ≡ true) where
       time true h = time_part_kept (date_in (kept_by ps t v)) v v.zone h
       time false h = time_part_kept (date_in (kept_by ps t v)) t v.zone row_time
 
--- whether a layout has letters, as the code tells it
-pub moment_by_lem : (k : Kind) (l : Layout) → letters_of l ≡ layout_of k → l.len ≤ length l.letters → ltb 0 l.len ≡ is_moment k
-unfolding is_moment
-moment_by_lem k l e h = ap (ltb 0) (sym (length-take-le l.len l.letters h) ∙ ap length e)
-
 -- a kind that is a moment has a zone, and one that has a part is a moment
 pub moment_zone : (k : Kind) → is_moment k ≡ true → has_part k (code "z") ≡ true
 unfolding is_moment
@@ -154,7 +150,7 @@ cast_good k v o = kept_good (layout_of k) (template_of k) (rows_pass k) v o
 
 -- A RECORD OF A KIND WITH ANOTHER PART OF ITS OWN IS OF THAT KIND
 -- with another date, of a kind with a whole date
-pub of_kind_dated : (k : Kind) (d : DateTime) (e : Date) (z : Zone) → is_dated k ≡ true → of_kind k d ≡ true → of_kind k (at_clock_of e d z) ≡ true
+pub of_kind_dated : (k : Kind) (d : DateTime) (e : Date) (z : Option Offset) → is_dated k ≡ true → of_kind k d ≡ true → of_kind k (at_clock_of e d z) ≡ true
 unfolding is_dated every
 of_kind_dated k d e z p o =
     let y : has_part k (code "Y") ≡ true = both_left _ _ p in
@@ -172,14 +168,14 @@ of_kind_dated k d e z p o =
     clock false = refl
 
 -- with another time of day, of a kind with a clock
-pub of_kind_clocked : (k : Kind) (d : DateTime) (u : ℕ) (z : Zone) → is_clocked k ≡ true → of_kind k d ≡ true → of_kind k (at_clock (date_in d) u z) ≡ true
+pub of_kind_clocked : (k : Kind) (d : DateTime) (u : ℕ) (z : Option Offset) → is_clocked k ≡ true → of_kind k d ≡ true → of_kind k (at_clock (date_in d) u z) ≡ true
 unfolding is_clocked
 of_kind_clocked k d u z p o =
     kept_of_kind k (at_clock (date_in d) u z)
     ((λ i. at_clock_of (date_in (of_kind_kept k d o i)) (pick (p i) (at_clock (date_in d) u z) (template_of k)) z))
 
 -- in another zone
-pub of_kind_zoned : (k : Kind) (d : DateTime) (z : Zone) → of_kind k d ≡ true → of_kind k (at_clock_of (date_in d) d z) ≡ true
+pub of_kind_zoned : (k : Kind) (d : DateTime) (z : Option Offset) → of_kind k d ≡ true → of_kind k (at_clock_of (date_in d) d z) ≡ true
 of_kind_zoned k d z o =
     kept_of_kind k (at_clock_of (date_in d) d z)
     (clock (has_part k (code "h")) ∙ (λ i. at_clock_of (date_in (of_kind_kept k d o i)) (of_kind_kept k d o i) z))
@@ -196,6 +192,27 @@ date_time_ok d o = moment_ok KV.DateTime d refl o (kept_of_kind KV.DateTime d re
 -- kinds with one number are one
 pub same_kind_lem : (j k : Kind) → same_kind j k ≡ true → j ≡ k
 same_kind_lem j k e = sym (numbered j) ∙ ap kind_at (eqb-true (kind_number j) (kind_number k) e) ∙ numbered k
+
+-- what `==` and `!=` of kinds say: whether their numbers are one
+told : (k : Kind) → tag_of the_type k ≡ kind_number k
+told KV.Date = refl
+told KV.Time = refl
+told KV.DateTime = refl
+told KV.DayTimeDuration = refl
+told KV.YearMonthDuration = refl
+
+pub kinds_same : (j k : Kind) {r : Bool} → r ≡ sameb the_type j k → r ≡ same_kind j k
+kinds_same j k e = e ∙ (λ i. eqb (told j i) (told k i))
+
+module _ (j k : Kind) {r : Bool} (e : r ≡ not (sameb the_type j k)) where
+  differ : r ≡ not (same_kind j k)
+  differ = e ∙ (λ i. not (eqb (told j i) (told k i)))
+
+  pub kinds_apart : r ≡ true → same_kind j k ≡ false
+  kinds_apart t = not-true (same_kind j k) (sym differ ∙ t)
+
+  pub kinds_one : r ≡ false → same_kind j k ≡ true
+  kinds_one f = not-false (same_kind j k) (sym differ ∙ f)
 
 -- a moment's kind is none of a duration's
 pub moment_apart : (k j : Kind) → is_moment k ≡ true → is_moment j ≡ false → same_kind k j ≡ false

@@ -1,6 +1,6 @@
 -- Document 01, "Values and their bounds": a value is a date, time or dateTime as its kind with its record, or a
 -- duration; which values are within their kind's bounds.
-use Rattle.std.specs.Prelude.{Bool, [], ◌∷◌}
+use Rattle.std.specs.Prelude.{Bool, [], ◌∷◌, Err, Ok, Result}
 use Rattle.basis.specs.Choice.{pick, every}
 use Rattle.basis.specs.Answer.{Answer, gives, refuses_for, refuses}
 use Rattle.value.specs.Reasons.{reason_of}
@@ -11,8 +11,7 @@ use Rattle.value.specs.declared.Kind.{Kind}
 use Rattle.value.specs.declared.Kind.TheVariants as KV
 use Rattle.value.specs.declared.Value.{Value}
 use Rattle.value.specs.declared.Value.TheVariants as VV
-use Rattle.value.specs.declared.Outcome.{Outcome}
-use Rattle.value.specs.declared.Outcome.TheVariants as OV
+use Rattle.value.specs.declared.Refusal.{Refusal}
 
 abbrev pub kind_of : Value → Kind
 kind_of (VV.Moment k d) = k
@@ -26,9 +25,9 @@ ok_value (VV.DayTime t) = ok_day_time t
 ok_value (VV.YearMonth m) = ok_year_month m
 
 -- what an answer says: a value, or the number of a refusal
-abbrev pub meaning : Outcome → Answer Value
-meaning (OV.Is v) = gives v
-meaning (OV.Refused r) = refuses_for (reason_of r)
+abbrev pub meaning : Result Value Refusal → Answer Value
+meaning (Ok v) = gives v
+meaning (Err r) = refuses_for (reason_of r)
 
 -- a value that was given, or 16 where it is outside the bounds
 unfoldable pub made : Value → Answer Value

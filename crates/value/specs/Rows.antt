@@ -2,12 +2,11 @@
 -- template. The layout's letters are the parts that the kind has, in the order of its text; the template stands for
 -- the parts that it has not. So a date is a DateTime at 00:00:00 and a time is one on 1972-12-31: they are ordered,
 -- subtracted and adjusted as such.
-use Rattle.std.specs.Prelude.{Bool, true, false, List, [], ◌∷◌, ℕ, eqb, ltb, length}
+use Rattle.std.specs.Prelude.{Bool, true, false, List, [], ◌∷◌, ℕ, eqb, ltb, length, None}
 use Prim.Native.Char.{code}
 use Rattle.basis.specs.Choice.{pick, every}
 use Rattle.basis.specs.Letters.{bytes}
 use Rattle.value.specs.Clocks.{at_clock, at_clock_of, same_clock}
-use Rattle.value.specs.declared.Zone.TheVariants.{Absent}
 use Rattle.value.specs.declared.DateTime.{DateTime}
 use Rattle.value.specs.declared.OwnParts.{OwnParts}
 use Rattle.value.specs.declared.Kind.{Kind}
@@ -24,7 +23,7 @@ layout_of KV.YearMonthDuration = []
 
 -- the start of a day, without zone
 abbrev pub day_start : ℕ → ℕ → ℕ → DateTime
-day_start y m d = at_clock (record { year = y; month = m; day = d }) 0 Absent
+day_start y m d = at_clock (record { year = y; month = m; day = d }) 0 None
 
 -- 1972-12-31T00:00:00, the reference day of document 01
 abbrev pub template_of : Kind → DateTime

@@ -61,13 +61,11 @@ pub fn at_clock_of(e: Date, d: DateTime, zone: Zone) -> DateTime
     with_time(e, d.second, d.nanosecond, zone)
 }
 
+#[tactic(auto, unfolding(basis::specs::Choice::both, crate::specs::Clocks::same_clock))]
 pub fn same(a: DateTime, b: DateTime) -> bool
     ensures { result ≡ the.same_clock a b }
 {
-    if a.second != b.second {
-        return false;
-    }
-    a.nanosecond == b.nanosecond
+    a.second == b.second && a.nanosecond == b.nanosecond
 }
 
 // The size of a duration within the bounds.

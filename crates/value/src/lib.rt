@@ -19,20 +19,17 @@ pub mod kinds; // kinds.rt: the rows, and which parts a kind has
 pub mod valid; // valid.rt: which records are within the bounds
 
 // Minutes from UTC. Zero minutes are east.
-#[derive(Clone, Copy)]
+#[derive(Clone, Copy, Debug, PartialEq, Eq)]
 pub enum Offset {
     East(u16),
     West(u16),
 }
 
-#[derive(Clone, Copy)]
-pub enum Zone {
-    Absent,
-    At(Offset),
-}
+// A zone: an offset from UTC, or none.
+pub type Zone = Option<Offset>;
 
 // A date, a time and a dateTime: a date is at 00:00:00, a time is on 1972-12-31. The second is that of the day.
-#[derive(Clone, Copy)]
+#[derive(Clone, Copy, Debug, PartialEq, Eq)]
 pub struct DateTime {
     pub year: u16,
     pub month: u8,
@@ -57,20 +54,13 @@ pub struct YearMonth {
     pub months: u32,
 }
 
-#[derive(Clone, Copy)]
+#[derive(Clone, Copy, Debug, PartialEq, Eq)]
 pub enum Kind {
     Date,
     Time,
     DateTime,
     DayTimeDuration,
     YearMonthDuration,
-}
-
-// The letters of a kind's layout with spaces after them, and how many letters there are.
-#[derive(Clone, Copy)]
-pub struct Layout {
-    pub letters: [u8; 13],
-    pub len: usize,
 }
 
 // Which of the parts of a date a kind has, and whether it has a clock.
@@ -95,13 +85,6 @@ pub enum Value {
 #[derive(Clone, Copy)]
 pub struct Refusal {
     pub number: u8,
-}
-
-// What a call that makes a value answers.
-#[derive(Clone, Copy)]
-pub enum Outcome {
-    Is(Value),
-    Refused(Refusal),
 }
 
 // Whole seconds, and a part of a second in ticks.
@@ -185,7 +168,14 @@ impl DateTime {
 
     pub const MAX_ZONE: u16 = 840;
 
-    pub fn new(year: u16, month: u8, day: u8, second: u32, nanosecond: u32, zone: Zone) -> Outcome
+    pub fn new(
+        year: u16,
+        month: u8,
+        day: u8,
+        second: u32,
+        nanosecond: u32,
+        zone: Zone,
+    ) -> Result<Value, Refusal>
         ensures { meaning result ≡ made (VV.Moment KV.DateTime (with_time (record { year = year; month = month; day = day }) second nanosecond zone)) }
     {
         let e = Date { year, month, day };
@@ -193,7 +183,7 @@ impl DateTime {
         valid::checked(Value::Moment(Kind::DateTime, d))
     }
 
-    pub fn date(year: u16, month: u8, day: u8, zone: Zone) -> Outcome
+    pub fn date(year: u16, month: u8, day: u8, zone: Zone) -> Result<Value, Refusal>
         ensures { meaning result ≡ made (VV.Moment KV.Date (with_time (record { year = year; month = month; day = day }) 0 0 zone)) }
     {
         let e = Date { year, month, day };
@@ -201,7 +191,7 @@ impl DateTime {
         valid::checked(Value::Moment(Kind::Date, d))
     }
 
-    pub fn time(second: u32, nanosecond: u32, zone: Zone) -> Outcome
+    pub fn time(second: u32, nanosecond: u32, zone: Zone) -> Result<Value, Refusal>
         ensures { meaning result ≡ made (VV.Moment KV.Time (with_time (date_in (template_of KV.Time)) second nanosecond zone)) }
     {
         let t = kinds::template(Kind::Time);
@@ -221,7 +211,7 @@ impl DayTime {
 
     pub const MAX_NANOSECONDS: u32 = Span::TICKS - 1;
 
-    pub fn new(negative: bool, seconds: u64, nanoseconds: u32) -> Outcome
+    pub fn new(negative: bool, seconds: u64, nanoseconds: u32) -> Result<Value, Refusal>
         ensures { meaning result ≡ made (VV.DayTime (with_size negative seconds nanoseconds)) }
     {
         valid::checked(Value::DayTime(clocks::with_size(negative, seconds, nanoseconds)))
@@ -231,7 +221,7 @@ impl DayTime {
 impl YearMonth {
     pub const MAX: u32 = 1_000_000;
 
-    pub fn new(negative: bool, months: u32) -> Outcome
+    pub fn new(negative: bool, months: u32) -> Result<Value, Refusal>
         ensures { meaning result ≡ made (VV.YearMonth (record { negative = negative; months = months })) }
     {
         valid::checked(Value::YearMonth(YearMonth { negative, months }))

@@ -1,4 +1,5 @@
 -- The fields that a kind has, by the parts that its layout's letters tell.
+use Rattle.std.specs.Prelude.{Option, ℕ}
 use mathlib.Core.Path.{◌≡◌, ap, ◌∙◌}
 use Rattle.value.specs.Rows.{parts_in, layout_of}
 use Rattle.value.specs.Clocks.{clock_of}
@@ -7,11 +8,9 @@ use Rattle.value.specs.declared.Kind.{Kind}
 use Rattle.value.specs.declared.OwnParts.{OwnParts}
 use Rattle.value_components.specs.Components.{clock_in, date_field, clock_field, fields_in}
 use Rattle.value_components.specs.declared.Clock.{Clock}
-use Rattle.value_components.specs.declared.DateField.{DateField}
-use Rattle.value_components.specs.declared.ClockField.{ClockField}
 
 module _ (k : Kind) (d : DateTime) {own : OwnParts} (e : own ≡ parts_in (layout_of k)) where
-  pub fields_by : {y m g : DateField} {c : Clock} {t : ClockField} → y ≡ date_field own.year d.year → m ≡ date_field own.month d.month → g ≡ date_field own.day d.day
+  pub fields_by : {y m g : (Option ℕ)} {c : Clock} {t : (Option Clock)} → y ≡ date_field own.year d.year → m ≡ date_field own.month d.month → g ≡ date_field own.day d.day
       → c ≡ clock_in (clock_of d) → t ≡ clock_field own.clock c → record { year = y; month = m; day = g; clock = t; zone = d.zone } ≡ fields_in k d
   fields_by ey em eg ec et =
       λ i. record {

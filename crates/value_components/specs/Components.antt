@@ -1,7 +1,7 @@
 -- Document 01, "Operations", components for library callers: each field and the zone, or that there is none; of a
 -- duration its normalised parts, none above zero if it is negative. F&O 10.5. Which fields there are is said by the
 -- letters of the kind's layout.
-use Rattle.std.specs.Prelude.{Bool, true, false, ℕ, ◌/◌, ◌%◌, ℤ, pos, neg_ℤ}
+use Rattle.std.specs.Prelude.{Bool, true, false, ℕ, ◌/◌, ◌%◌, ℤ, pos, neg_ℤ, None, Option, Some, Result, Ok, Err}
 use Rattle.basis.specs.Choice.{pick}
 use Rattle.basis.specs.Answer.{Answer, gives, refuses_for, refuses}
 use Rattle.calendar.specs.Calendar.{month_count}
@@ -14,38 +14,39 @@ use Rattle.value.specs.Kinds.{ok_value}
 use Rattle.value.specs.declared.DateTime.{DateTime}
 use Rattle.value.specs.declared.Kind.{Kind}
 use Rattle.value_components.specs.declared.Clock.{Clock}
-use Rattle.value_components.specs.declared.DateField.{DateField}
-use Rattle.value_components.specs.declared.DateField.TheVariants as DV
-use Rattle.value_components.specs.declared.ClockField.{ClockField}
-use Rattle.value_components.specs.declared.ClockField.TheVariants as TV
 use Rattle.value_components.specs.declared.OwnFields.{OwnFields}
 use Rattle.value_components.specs.declared.Lasting.{Lasting}
 use Rattle.value.specs.declared.Value.{Value}
 use Rattle.value.specs.declared.Value.TheVariants as VV
 use Rattle.value_components.specs.declared.Components.{Components}
 use Rattle.value_components.specs.declared.Components.TheVariants as CV
+use Rattle.value.specs.declared.Refusal.{Refusal}
 
 -- the parts of a value: the fields that its kind has, and the zone; of either duration kind all six
 pub data ComponentParts : Type 0 where
   of_moment : OwnFields → ComponentParts
   of_duration : Lasting → ComponentParts
 
+-- the parts that the code's record says
+abbrev pub parts_said : Components → ComponentParts
+parts_said (CV.Moment f) = of_moment f
+parts_said (CV.Duration l) = of_duration l
+
 -- what an answer says: the parts, or the number of a refusal
-abbrev pub components_meaning : Components → Answer ComponentParts
-components_meaning (CV.Moment f) = gives (of_moment f)
-components_meaning (CV.Duration l) = gives (of_duration l)
-components_meaning (CV.Refused r) = refuses_for (reason_of r)
+abbrev pub components_meaning : Result Components Refusal → Answer ComponentParts
+components_meaning (Ok x) = gives (parts_said x)
+components_meaning (Err r) = refuses_for (reason_of r)
 
 -- hours, minutes, seconds and the part of a second
 abbrev pub clock_in : ℕ → Clock
 clock_in t = record { hours = t / hour_ticks; minutes = t / minute_ticks % hour_minutes; seconds = t / second_ticks % minute_seconds; part = t % second_ticks }
 
 -- a field that a kind has, or that it has none
-abbrev pub date_field : Bool → ℕ → DateField
-date_field own n = pick own (DV.Is n) DV.Absent
+abbrev pub date_field : Bool → ℕ → Option ℕ
+date_field own n = pick own (Some n) None
 
-abbrev pub clock_field : Bool → Clock → ClockField
-clock_field own c = pick own (TV.Is c) TV.Absent
+abbrev pub clock_field : Bool → Clock → Option Clock
+clock_field own c = pick own (Some c) None
 
 -- the fields of a record that a kind has, and the zone
 abbrev pub fields_in : Kind → DateTime → OwnFields

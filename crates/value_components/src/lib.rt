@@ -31,27 +31,13 @@ pub struct Lasting {
     pub part: i32,
 }
 
-// The year, the month or the day of a value, or that its kind has none.
-#[derive(Clone, Copy)]
-pub enum DateField {
-    Absent,
-    Is(u16),
-}
-
-// The time of day of a value, or that its kind has none.
-#[derive(Clone, Copy)]
-pub enum ClockField {
-    Absent,
-    Is(Clock),
-}
-
 // The fields that the kind of a date, time or dateTime has, and its zone.
 #[derive(Clone, Copy)]
 pub struct OwnFields {
-    pub year: DateField,
-    pub month: DateField,
-    pub day: DateField,
-    pub clock: ClockField,
+    pub year: Option<u16>,
+    pub month: Option<u16>,
+    pub day: Option<u16>,
+    pub clock: Option<Clock>,
     pub zone: Zone,
 }
 
@@ -60,27 +46,26 @@ pub struct OwnFields {
 pub enum Components {
     Moment(OwnFields),
     Duration(Lasting),
-    Refused(Refusal),
 }
 
 const MONTHS: u32 = calendar::MONTH_COUNT as u32;
 
-fn date_field(own: bool, n: u16) -> DateField
+fn date_field(own: bool, n: u16) -> Option<u16>
     ensures { result ≡ the.date_field own n }
 {
     if own {
-        return DateField::Is(n);
+        return Some(n);
     }
-    DateField::Absent
+    None
 }
 
-fn clock_field(own: bool, c: Clock) -> ClockField
+fn clock_field(own: bool, c: Clock) -> Option<Clock>
     ensures { result ≡ the.clock_field own c }
 {
     if own {
-        return ClockField::Is(c);
+        return Some(c);
     }
-    ClockField::Absent
+    None
 }
 
 fn clock_in(t: Span) -> Clock
@@ -147,19 +132,19 @@ fn fields_in(kind: Kind, d: DateTime) -> OwnFields
     }
 }
 
-pub fn of_value(v: Value) -> Components
+pub fn of_value(v: Value) -> Result<Components, Refusal>
     ensures { the.components_meaning result ≡ the.components_of v }
 {
     if !valid::value_ok(v) {
-        return Components::Refused(Refusal::numbered(Refusal::OUTSIDE));
+        return Err(Refusal::numbered(Refusal::OUTSIDE));
     }
     match v {
-        Value::Moment(kind, d) => Components::Moment(fields_in(kind, d)),
-        Value::DayTime(d) => Components::Duration(six_parts(d.negative, 0, clocks::size(d))),
-        Value::YearMonth(d) => Components::Duration(six_parts(
+        Value::Moment(kind, d) => Ok(Components::Moment(fields_in(kind, d))),
+        Value::DayTime(d) => Ok(Components::Duration(six_parts(d.negative, 0, clocks::size(d)))),
+        Value::YearMonth(d) => Ok(Components::Duration(six_parts(
             d.negative,
             d.months,
             clocks::span(0),
-        )),
+        ))),
     }
 }

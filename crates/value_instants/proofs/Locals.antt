@@ -1,4 +1,5 @@
 -- The record at a local time has that local time, and the local time of a record gives the record back.
+use Rattle.std.specs.Prelude.{None, Option, Some}
 use mathlib.Core.Path.{◌≡◌, refl, ap, sym, ◌∙◌}
 use mathlib.Core.Bool.{Bool, true, false}
 use Prim.Native.Nat.{ℕ, ◌+◌, ◌*◌, ◌/◌, ◌%◌, ◌≤◌}
@@ -13,17 +14,16 @@ use Rattle.value.specs.Carried.{max_clock}
 use Rattle.value.specs.Clocks.{clock_of, at_clock}
 use Rattle.value.specs.Values.{ok_zone, ok_date_time, date_in}
 use Rattle.value_instants.specs.Ticks.{local_of, at_local, in_years, placed_at}
-use Rattle.value.specs.declared.Zone.{Zone}
 use Rattle.value.specs.declared.DateTime.{DateTime}
-use Rattle.value_instants.specs.declared.Placed.TheVariants as PV
 use Rattle.value.proofs.ClockLaws.{clock_at, at_its_clock, clock_to, time_part_at}
 use Rattle.value.proofs.Good.{good, record_ok}
+use Rattle.value.specs.declared.Offset.{Offset}
 
-pub local_of_placed : (t : ℕ) (z : Zone) → local_of (at_local t z) ≡ t
+pub local_of_placed : (t : ℕ) (z : Option Offset) → local_of (at_local t z) ≡ t
 unfolding local_of
 local_of_placed t z = omega (arith, day_date (t / day_ticks), clock_at (date_of (t / day_ticks)) (t % day_ticks) z)
 
-pub placed_ok : (t : ℕ) (z : Zone) → in_years t ≡ true → ok_zone z ≡ true → ok_date_time (at_local t z) ≡ true
+pub placed_ok : (t : ℕ) (z : Option Offset) → in_years t ≡ true → ok_zone z ≡ true → ok_date_time (at_local t z) ≡ true
 unfolding in_years
 placed_ok t z e h =
     record_ok (at_local t z)
@@ -39,22 +39,22 @@ placed_ok t z e h =
     })
 
 -- a local time within the years has its record
-pub placed_there : (t : ℕ) (z : Zone) → in_years t ≡ true → placed_at t z ≡ PV.At (at_local t z)
+pub placed_there : (t : ℕ) (z : Option Offset) → in_years t ≡ true → placed_at t z ≡ Some (at_local t z)
 unfolding placed_at
-placed_there t z e = λ i. pick (e i) (PV.At (at_local t z)) PV.Beyond
+placed_there t z e = λ i. pick (e i) (Some (at_local t z)) None
 
 -- and a record that a local time has is within the bounds, where its zone is
-pub placed_good : (t : ℕ) (z : Zone) (d : DateTime) → PV.At d ≡ placed_at t z → ok_zone z ≡ true → ok_date_time d ≡ true
+pub placed_good : (t : ℕ) (z : Option Offset) (d : DateTime) → Some d ≡ placed_at t z → ok_zone z ≡ true → ok_date_time d ≡ true
 unfolding placed_at
 placed_good t z d e h = go (in_years t) refl
   where
     go : (b : Bool) → in_years t ≡ b → ok_date_time d ≡ true
     go true y =
-        let q : PV.At d ≡ PV.At (at_local t z) = e ∙ placed_there t z y in
+        let q : Some d ≡ Some (at_local t z) = e ∙ placed_there t z y in
         let k : d ≡ at_local t z = cc in
         ap ok_date_time k ∙ placed_ok t z y h
     go false y =
-        let q : PV.At d ≡ PV.Beyond = e ∙ (λ i. pick (y i) (PV.At (at_local t z)) PV.Beyond) in
+        let q : Some d ≡ None = e ∙ (λ i. pick (y i) (Some (at_local t z)) None) in
         absurd (let n : ◌≡◌ {A = ℕ} 0 1 = cc in omega arith)
 
 -- the day and the time of day of a local time

@@ -1,12 +1,12 @@
 -- Whether the year of a local time passes the last one: by the calendar's answer for its day, and of a later time than one that does.
+use Rattle.std.specs.Prelude.{None, Option, Some, is_some}
 use mathlib.Core.Path.{◌≡◌, ap, sym, ◌∙◌}
-use mathlib.Core.Bool.{true, false}
+use mathlib.Core.Bool.{Bool, true, false, not}
 use Prim.Native.Nat.{ℕ, ◌+◌, ◌*◌, ◌/◌, ◌≤◌, ◌<◌}
 use native.Mathlib.Omega.{arith}
 use borrow.Author.Tests.{le-leb, leb-true, lt-ltb, le-ltb, ltb-false}
 use Rattle.basis.proofs.Tests.{both_left, both_true}
 use Rattle.calendar.specs.declared.Date.{Date}
-use Rattle.calendar.specs.declared.Dated.TheVariants.{On, Later}
 use Rattle.calendar.specs.Calendar.{date_of, dated_of}
 use Rattle.calendar.proofs.Answers.{on_says, later_says, OnTime}
 use Rattle.calendar.proofs.Years.{years_le, days_up_to, years_in_order}
@@ -17,19 +17,26 @@ module _ (s p : ℕ) (small : p < second_ticks) where
   same_day : s / 86400 ≡ (s * second_ticks + p) / day_ticks
   same_day = omega arith
 
-  pub not_past : (d : Date) → On d ≡ dated_of (s / 86400) max_year → false ≡ past_years (s * second_ticks + p)
+  not_past : (d : Date) → Some d ≡ dated_of (s / 86400) max_year → false ≡ past_years (s * second_ticks + p)
   unfolding past_years
   not_past d e =
       let o : OnTime (s / 86400) max_year d = on_says (s / 86400) max_year d (sym e) in
       let y : d.year ≡ (date_of ((s * second_ticks + p) / day_ticks)).year = ap (λ (x : Date). x.year) (o.date ∙ ap date_of same_day) in
       sym (le-ltb max_year (date_of ((s * second_ticks + p) / day_ticks)).year (omega (arith, o.year_to)))
 
-  pub is_past : Later ≡ dated_of (s / 86400) max_year → true ≡ past_years (s * second_ticks + p)
+  is_past : None ≡ dated_of (s / 86400) max_year → true ≡ past_years (s * second_ticks + p)
   unfolding past_years
   is_past e =
       let h : max_year < (date_of (s / 86400)).year = later_says (s / 86400) max_year (sym e) in
       let y : (date_of (s / 86400)).year ≡ (date_of ((s * second_ticks + p) / day_ticks)).year = ap (λ (n : ℕ). (date_of n).year) same_day in
       sym (lt-ltb max_year (date_of ((s * second_ticks + p) / day_ticks)).year (omega arith))
+
+  -- by whether the calendar answers a date
+  pub past_where_none : (x : Option Date) (b : Bool) → x ≡ dated_of (s / 86400) max_year → is_some x ≡ not b → b ≡ past_years (s * second_ticks + p)
+  past_where_none None true e f = is_past e
+  past_where_none (Some d) false e f = not_past d e
+  past_where_none None false e f = cc
+  past_where_none (Some d) true e f = cc
 
 module _ (t u : ℕ) (later : t ≤ u) where
   in_order : (date_of (t / day_ticks)).year ≤ (date_of (u / day_ticks)).year

@@ -7,8 +7,7 @@ ghost use Rattle.value_instants.specs.Ticks.{local_of, offset_in, instant_at, in
 ghost use Rattle.value.specs.Carried.{ticks_of, span_of};
 ghost use Rattle.value_instants.specs.Ticks as the;
 
-use crate::Placed;
-use calendar::{Date, Dated};
+use calendar::Date;
 use value::{DateTime, Offset, Span, Value, Zone, clocks};
 
 pub fn local(d: DateTime) -> Span
@@ -38,10 +37,7 @@ pub fn utc() -> Offset
 pub fn offset_in(given: Offset, z: Zone) -> Offset
     ensures { result ≡ offset_in given z }
 {
-    match z {
-        Zone::Absent => given,
-        Zone::At(o) => o,
-    }
+    z.unwrap_or(given)
 }
 
 // The local time t at an offset from UTC, as an instant.
@@ -74,25 +70,19 @@ pub fn instant(d: DateTime, given: Offset) -> Span
 }
 
 // The record with the local time t, where that lies within the years.
-pub fn placed(t: Span, zone: Zone) -> Placed
+pub fn placed(t: Span, zone: Zone) -> Option<DateTime>
     requires { t.part < second_ticks }
     ensures { result ≡ placed_at (ticks_of t) zone }
 {
-    let seconds = t.seconds;
-    let found = calendar::date_of(seconds / Span::DAY, DateTime::MAX_YEAR);
-    match found {
-        Dated::Later => Placed::Beyond,
-        Dated::On(d) => {
-            if d.year < DateTime::MIN_YEAR {
-                return Placed::Beyond;
-            }
-            let time = Span {
-                seconds: seconds % Span::DAY,
-                part: t.part,
-            };
-            Placed::At(clocks::at(d, time, zone))
-        }
+    let d = calendar::date_of(t.seconds / Span::DAY, DateTime::MAX_YEAR)?;
+    if d.year < DateTime::MIN_YEAR {
+        return None;
     }
+    let time = Span {
+        seconds: t.seconds % Span::DAY,
+        part: t.part,
+    };
+    Some(clocks::at(d, time, zone))
 }
 
 // Whether the year of the local time t passes the last one.
@@ -100,12 +90,7 @@ pub fn past_years(t: Span) -> bool
     requires { t.part < second_ticks }
     ensures { result ≡ past_years (ticks_of t) }
 {
-    let seconds = t.seconds;
-    let found = calendar::date_of(seconds / Span::DAY, DateTime::MAX_YEAR);
-    match found {
-        Dated::Later => true,
-        Dated::On(_) => false,
-    }
+    calendar::date_of(t.seconds / Span::DAY, DateTime::MAX_YEAR).is_none()
 }
 
 // A dayTimeDuration as the span by which it leads forward, none where it is not above zero; a value of another kind leads nowhere.

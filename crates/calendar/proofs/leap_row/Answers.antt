@@ -1,14 +1,12 @@
-use borrow.Author.Tests.{eq-eqb, ne_eqb}
+use native.Mathlib.Omega.{arith}
+use Rattle.std.proofs.lemmas.Bool.Decides.{nat_tests}
 use Rattle.calendar.proofs.leap_row.Goals as goal
+use Rattle.calendar.proofs.leap_row.Goals.{then-year-eq0+then-year-ne0, then-year-eq0+else-year-ne0, else-year-eq0}
 
-pub returns-then-year-eq0 : goal.returns-then-year-eq0
-returns-then-year-eq0 c = simp (eq-eqb _ _ c.if-year-eq0.true)
-
-pub returns-then-year-eq0-2 : goal.returns-then-year-eq0-2
-returns-then-year-eq0-2 c = simp (ne_eqb _ _ c.if-year-eq0.false, eq-eqb _ _ c.if-year-eq0-2.true)
-
-pub returns-then-year-eq0-3 : goal.returns-then-year-eq0-3
-returns-then-year-eq0-3 c = simp (ne_eqb _ _ c.if-year-eq0.false, ne_eqb _ _ c.if-year-eq0-2.false, eq-eqb _ _ c.if-year-eq0-3.true)
-
-pub returns-else-year-eq0-3 : goal.returns-else-year-eq0-3
-returns-else-year-eq0-3 c = simp (ne_eqb _ _ c.if-year-eq0.false, ne_eqb _ _ c.if-year-eq0-2.false, ne_eqb _ _ c.if-year-eq0-3.false)
+pub returns : goal.returns
+returns c =
+    elim c.if-year-eq0.branch [
+      | then-year-eq0+then-year-ne0 w ↦ grind (arith, nat_tests)
+      | then-year-eq0+else-year-ne0 w ↦ grind (arith, nat_tests)
+      | else-year-eq0 w ↦ grind (arith, nat_tests)
+    ]

@@ -12,10 +12,10 @@ use Rattle.calls.proofs.cast_call.Goals as goal
 pub value_said-requires : goal.value_said-requires
 value_said-requires c = ap valid c.cast.ensures ∙ cast_valid _ _
 
-pub returns-in-Refused : goal.returns-in-Refused
+pub returns-in-Err : goal.returns-in-Err
 unfolding answer_by
-returns-in-Refused c = was_refused (λ (a : Value). said text_of (cast_of a c.args.l)) (c.read.ensures ∙ ap (read_as c.args.k) c.field.ensures) c.in-Refused.is c.refused.ensures
+returns-in-Err c = was_refused (λ (a : Value). said text_of (cast_of a c.args.l)) (c.read.ensures ∙ ap (read_as c.args.k) c.field.ensures) c.in-Err.is c.refused.ensures
 
-pub returns-in-Is : goal.returns-in-Is
+pub returns-in-Ok : goal.returns-in-Ok
 unfolding answer_by
-returns-in-Is c = was_read (λ (a : Value). said text_of (cast_of a c.args.l)) (c.read.ensures ∙ ap (read_as c.args.k) c.field.ensures) c.in-Is.is (renamed text_of c.cast.ensures c.value_said.ensures)
+returns-in-Ok c = was_read (λ (a : Value). said text_of (cast_of a c.args.l)) (c.read.ensures ∙ ap (read_as c.args.k) c.field.ensures) c.in-Ok.is (renamed text_of c.cast.ensures c.value_said.ensures)

@@ -7,12 +7,12 @@ use Rattle.calls.proofs.Saying.{was_read, was_refused}
 use Rattle.calls.proofs.one_call.Goals as goal
 
 pub one_said-requires : goal.one_said-requires
-one_said-requires c = (what_reads_is_valid c.args.k _ _ (sym c.read.ensures ∙ ap meaning c.in-Is.is)).ok
+one_said-requires c = (what_reads_is_valid c.args.k _ _ (sym c.read.ensures ∙ ap meaning c.in-Ok.is)).ok
 
-pub returns-in-Refused : goal.returns-in-Refused
+pub returns-in-Err : goal.returns-in-Err
 unfolding answer_by
-returns-in-Refused c = was_refused (one_text c.args.o) (c.read.ensures ∙ ap (read_as c.args.k) c.field.ensures) c.in-Refused.is c.refused.ensures
+returns-in-Err c = was_refused (one_text c.args.o) (c.read.ensures ∙ ap (read_as c.args.k) c.field.ensures) c.in-Err.is c.refused.ensures
 
-pub returns-in-Is : goal.returns-in-Is
+pub returns-in-Ok : goal.returns-in-Ok
 unfolding answer_by
-returns-in-Is c = was_read (one_text c.args.o) (c.read.ensures ∙ ap (read_as c.args.k) c.field.ensures) c.in-Is.is c.one_said.ensures
+returns-in-Ok c = was_read (one_text c.args.o) (c.read.ensures ∙ ap (read_as c.args.k) c.field.ensures) c.in-Ok.is c.one_said.ensures

@@ -15,10 +15,10 @@ use Rattle.calls.proofs.product_call.Goals as goal
 pub value_said-requires : goal.value_said-requires
 value_said-requires c = ap valid c.times.ensures ∙ times_valid _ _ _
 
-pub returns-in-Refused : goal.returns-in-Refused
+pub returns-in-Err : goal.returns-in-Err
 unfolding answer_by
-returns-in-Refused c = was_refused (λ (a : Value). said text_of (times_of a (has_minus (field_at c.args.line.now 4)) (whole_magnitude (field_at c.args.line.now 4)))) (c.read.ensures ∙ ap (read_as c.args.k) c.field.ensures) c.in-Refused.is c.refused.ensures
+returns-in-Err c = was_refused (λ (a : Value). said text_of (times_of a (has_minus (field_at c.args.line.now 4)) (whole_magnitude (field_at c.args.line.now 4)))) (c.read.ensures ∙ ap (read_as c.args.k) c.field.ensures) c.in-Err.is c.refused.ensures
 
-pub returns-in-Is : goal.returns-in-Is
+pub returns-in-Ok : goal.returns-in-Ok
 unfolding answer_by
-returns-in-Is c = was_read (λ (a : Value). said text_of (times_of a (has_minus (field_at c.args.line.now 4)) (whole_magnitude (field_at c.args.line.now 4)))) (c.read.ensures ∙ ap (read_as c.args.k) c.field.ensures) c.in-Is.is (renamed text_of (c.times.ensures ∙ times_said _ c.args.line.now c.whole-n.ensures.1 c.whole-n.ensures.2 c.field-in-Is.ensures) c.value_said.ensures)
+returns-in-Ok c = was_read (λ (a : Value). said text_of (times_of a (has_minus (field_at c.args.line.now 4)) (whole_magnitude (field_at c.args.line.now 4)))) (c.read.ensures ∙ ap (read_as c.args.k) c.field.ensures) c.in-Ok.is (renamed text_of (c.times.ensures ∙ times_said _ c.args.line.now c.whole-n.ensures.1 c.whole-n.ensures.2 c.field-in-Ok.ensures) c.value_said.ensures)

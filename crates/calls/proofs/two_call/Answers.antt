@@ -6,14 +6,14 @@ use Rattle.calls.specs.Answers.{said, two_text, answer_by}
 use Rattle.calls.proofs.Saying.{was_read, was_refused}
 use Rattle.calls.proofs.two_call.Goals as goal
 
-pub returns-in-Refused : goal.returns-in-Refused
+pub returns-in-Err : goal.returns-in-Err
 unfolding answer_by
-returns-in-Refused c = was_refused (λ (a : Value). said (two_text c.args.o a) (read_as c.args.right (field_at c.args.line.now 5))) (c.read.ensures ∙ ap (read_as c.args.left) c.field.ensures) c.in-Refused.is c.refused.ensures
+returns-in-Err c = was_refused (λ (a : Value). said (two_text c.args.o a) (read_as c.args.right (field_at c.args.line.now 5))) (c.read.ensures ∙ ap (read_as c.args.left) c.field.ensures) c.in-Err.is c.refused.ensures
 
-pub returns-in-Refused-read : goal.returns-in-Refused-read
+pub returns-in-Err-read : goal.returns-in-Err-read
 unfolding answer_by
-returns-in-Refused-read c = was_read (λ (a : Value). said (two_text c.args.o a) (read_as c.args.right (field_at c.args.line.now 5))) (c.read.ensures ∙ ap (read_as c.args.left) c.field.ensures) c.in-Is.is (was_refused (two_text c.args.o _) (c.read-in-Is.ensures ∙ ap (read_as c.args.right) c.field-in-Is.ensures) c.in-Refused-read.is c.refused-in-Refused-read.ensures)
+returns-in-Err-read c = was_read (λ (a : Value). said (two_text c.args.o a) (read_as c.args.right (field_at c.args.line.now 5))) (c.read.ensures ∙ ap (read_as c.args.left) c.field.ensures) c.in-Ok.is (was_refused (two_text c.args.o _) (c.read-in-Ok.ensures ∙ ap (read_as c.args.right) c.field-in-Ok.ensures) c.in-Err-read.is c.refused-in-Err-read.ensures)
 
-pub returns-in-Is-read : goal.returns-in-Is-read
+pub returns-in-Ok-read : goal.returns-in-Ok-read
 unfolding answer_by
-returns-in-Is-read c = was_read (λ (a : Value). said (two_text c.args.o a) (read_as c.args.right (field_at c.args.line.now 5))) (c.read.ensures ∙ ap (read_as c.args.left) c.field.ensures) c.in-Is.is (was_read (two_text c.args.o _) (c.read-in-Is.ensures ∙ ap (read_as c.args.right) c.field-in-Is.ensures) c.in-Is-read.is c.two_said.ensures)
+returns-in-Ok-read c = was_read (λ (a : Value). said (two_text c.args.o a) (read_as c.args.right (field_at c.args.line.now 5))) (c.read.ensures ∙ ap (read_as c.args.left) c.field.ensures) c.in-Ok.is (was_read (two_text c.args.o _) (c.read-in-Ok.ensures ∙ ap (read_as c.args.right) c.field-in-Ok.ensures) c.in-Ok-read.is c.two_said.ensures)

@@ -10,8 +10,8 @@ returns-then-text-gt-MAX_LENGTH c = search (check_short, check_long, check_deep,
 pub returns-then-too_deep : goal.returns-then-too_deep
 returns-then-too_deep c = search (check_short, check_long, check_deep, check_bad, check_got)
 
-pub returns-in-Bad : goal.returns-in-Bad
-returns-in-Bad c = search (check_short, check_long, check_deep, check_bad, check_got)
+pub returns-in-None : goal.returns-in-None
+returns-in-None c = search (check_short, check_long, check_deep, check_bad, check_got)
 
-pub returns-in-Got : goal.returns-in-Got
-returns-in-Got c = search (check_short, check_long, check_deep, check_bad, check_got)
+pub returns-in-Some : goal.returns-in-Some
+returns-in-Some c = search (check_short, check_long, check_deep, check_bad, check_got)

@@ -1,10 +1,10 @@
 use mathlib.Core.Path.{refl}
+use Rattle.std.proofs.lemmas.Result.{err_from_is_err_and}
 use Rattle.condition.proofs.Ways.{result_refused, result_judged}
 use Rattle.condition.proofs.result.Goals as goal
 
-pub returns-in-Refused : goal.returns-in-Refused
-returns-in-Refused c = search result_refused
+pub returns-in_err-check : goal.returns-in_err-check
+returns-in_err-check c = let p = err_from_is_err_and c.from_residual.result c.from_residual.ensures.1 in rw (p.1, p.2) (result_refused _ _ _ c.check.ensures _ c.in_err-check.was)
 
-pub returns-in-Accepted : goal.returns-in-Accepted
-returns-in-Accepted c =
-    result_judged _ _ _ c.check.ensures _ _ _ c.in-Accepted.is c.utc.ensures refl c.judge.ensures
+pub returns : goal.returns
+returns c = result_judged _ _ _ c.check.ensures _ _ _ c.in_ok-check.was c.utc.ensures refl c.judge.ensures

@@ -1,26 +1,29 @@
+use native.Mathlib.Omega.{arith}
+use borrow.Author.Rules.{rules}
+use Rattle.std.proofs.lemmas.Slice.Eq.{text_from_reads}
+use Rattle.basis.specs.Choice.{both}
+use Rattle.basis.specs.Letters.{bytes}
+use Rattle.condition_words.specs.Words.{same}
 use Rattle.condition_symbols.specs.Symbols.{named}
 use Rattle.condition_symbols.proofs.kind_named.Goals as goal
 
-pub returns-then-same : goal.returns-then-same
-unfolding named
-returns-then-same c = simp (c.if-same.true, ← c.same.ensures)
+-- a name that was matched byte by byte
+pub returns-in-120 : goal.returns-in-120
+unfolding named same both
+returns-in-120 c = rw (text_from_reads c.args.w.now (bytes "xs:date") (omega arith) (search rules))
 
-pub returns-then-same-2 : goal.returns-then-same-2
-unfolding named
-returns-then-same-2 c = simp (c.if-same-2.true, ← c.same-2.ensures, c.if-same.false, ← c.same.ensures)
+pub returns-in-120-2 : goal.returns-in-120-2
+unfolding named same both
+returns-in-120-2 c = rw (text_from_reads c.args.w.now (bytes "xs:time") (omega arith) (search rules))
 
-pub returns-then-same-3 : goal.returns-then-same-3
-unfolding named
-returns-then-same-3 c = simp (c.if-same-3.true, ← c.same-3.ensures, c.if-same-2.false, ← c.same-2.ensures, c.if-same.false, ← c.same.ensures)
+pub returns-in-120-3 : goal.returns-in-120-3
+unfolding named same both
+returns-in-120-3 c = rw (text_from_reads c.args.w.now (bytes "xs:dateTime") (omega arith) (search rules))
 
-pub returns-then-same-4 : goal.returns-then-same-4
-unfolding named
-returns-then-same-4 c = simp (c.if-same-4.true, ← c.same-4.ensures, c.if-same-3.false, ← c.same-3.ensures, c.if-same-2.false, ← c.same-2.ensures, c.if-same.false, ← c.same.ensures)
+pub returns-in-120-4 : goal.returns-in-120-4
+unfolding named same both
+returns-in-120-4 c = rw (text_from_reads c.args.w.now (bytes "xs:dayTimeDuration") (omega arith) (search rules))
 
-pub returns-then-same-5 : goal.returns-then-same-5
-unfolding named
-returns-then-same-5 c = simp (c.if-same-5.true, ← c.same-5.ensures, c.if-same-4.false, ← c.same-4.ensures, c.if-same-3.false, ← c.same-3.ensures, c.if-same-2.false, ← c.same-2.ensures, c.if-same.false, ← c.same.ensures)
-
-pub returns : goal.returns
-unfolding named
-returns c = simp (c.if-same-5.false, ← c.same-5.ensures, c.if-same-4.false, ← c.same-4.ensures, c.if-same-3.false, ← c.same-3.ensures, c.if-same-2.false, ← c.same-2.ensures, c.if-same.false, ← c.same.ensures)
+pub returns-in-120-5 : goal.returns-in-120-5
+unfolding named same both
+returns-in-120-5 c = rw (text_from_reads c.args.w.now (bytes "xs:yearMonthDuration") (omega arith) (search rules))

@@ -1,20 +1,16 @@
-use Rattle.condition_symbols.proofs.Found.{whole_from_lem, whole_none, whole_long, whole_fits, whole_is}
+use Prim.Native.Nat.{◌^◌, ◌<◌}
+use native.Mathlib.Omega.{arith}
+use Rattle.numerals.specs.Reading.{numeral_at}
+use Rattle.numerals.proofs.Powers.{widened}
+use Rattle.numerals.proofs.Stretches.{stretch_lt}
+use Rattle.condition_symbols.specs.Symbols.{max_digits, whole_of}
 use Rattle.condition_symbols.proofs.whole.Goals as goal
 
-pub overflow_sub-end : goal.overflow_sub-end
-overflow_sub-end c = search whole_from_lem
-
-pub returns-then-end-at-lt1 : goal.returns-then-end-at-lt1
-returns-then-end-at-lt1 c = search whole_none
-
-pub overflow_sub-end-2 : goal.overflow_sub-end-2
-overflow_sub-end-2 c = search whole_from_lem
-
-pub returns-then-end-at-gt-MAX_DIGITS : goal.returns-then-end-at-gt-MAX_DIGITS
-returns-then-end-at-gt-MAX_DIGITS c = search whole_long
-
-pub overflow_cast-result : goal.overflow_cast-result
-overflow_cast-result c = search whole_fits
-
+-- a stretch of at most six digits says less than 1,000,000, which is the cap
 pub returns : goal.returns
-returns c = search whole_is
+unfolding whole_of
+returns c =
+    let n = numeral_at c.args.s.now c.args.from in
+    let f = c.digits-n.ensures in
+    let small : n.value < 10 ^ max_digits = widened n.value n.count max_digits (omega (arith, f.ends)) (stretch_lt c.args.s.now c.args.from) in
+    grind arith

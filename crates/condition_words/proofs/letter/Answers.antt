@@ -1,11 +1,13 @@
-use Rattle.condition_words.proofs.Letters.{letter_small, letter_capital, letter_colon}
+use native.Mathlib.Omega.{arith}
+use Rattle.basis.specs.Choice.{both}
+use Rattle.std.proofs.lemmas.Bool.Decides.{nat_tests}
+use Rattle.condition_words.specs.Words.{letter}
 use Rattle.condition_words.proofs.letter.Goals as goal
 
-pub returns-then-b-ge97 : goal.returns-then-b-ge97
-returns-then-b-ge97 c = search letter_small
+pub returns-then-is_ascii_alphabetic : goal.returns-then-is_ascii_alphabetic
+unfolding letter both
+returns-then-is_ascii_alphabetic c = grind (arith, nat_tests)
 
-pub returns-then-b-ge65 : goal.returns-then-b-ge65
-returns-then-b-ge65 c = search letter_capital
-
-pub returns : goal.returns
-returns c = search letter_colon
+pub returns-else-is_ascii_alphabetic : goal.returns-else-is_ascii_alphabetic
+unfolding letter both
+returns-else-is_ascii_alphabetic c = grind (arith, nat_tests)

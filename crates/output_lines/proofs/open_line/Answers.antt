@@ -1,8 +1,6 @@
-use Rattle.output_lines.proofs.Writing.{one_number}
+use native.Mathlib.Omega.{arith}
+use Rattle.output_lines.proofs.Widths.{one_fits}
 use Rattle.output_lines.proofs.open_line.Goals as goal
 
-pub returns-in-Ticket : goal.returns-in-Ticket
-returns-in-Ticket c = rw c.in-Ticket.is (one_number _ _ c.begun.ensures.0 c.ended.ensures)
-
-pub returns-in-Refused : goal.returns-in-Refused
-returns-in-Refused c = rw c.in-Refused.is c.refused_line.ensures
+pub line_with-requires : goal.line_with-requires
+line_with-requires c = one_fits _ c.in-Ok.ticket (omega arith) (omega arith)

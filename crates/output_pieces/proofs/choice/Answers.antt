@@ -1,25 +1,14 @@
-use mathlib.Core.Path.{◌≡◌}
-use lib.ListN.{length}
 use Rattle.desk.specs.Desk.{fresh_of}
-use Rattle.output_lines.specs.Text.{line_room}
-use Rattle.output_lines.proofs.Writing.{line_fits}
 use Rattle.value.specs.Refusals.{bad_condition, wrong_timetable}
 use Rattle.output_pieces.specs.Pieces.{stopped}
 use Rattle.output_pieces.proofs.Starting.{long_timetable, long_input, both_fit}
 use Rattle.output_pieces.proofs.Leaving.{line_leaves, nothing_leaves}
-use borrow.Author.Rules.{rules}
 use Rattle.output_pieces.proofs.choice.Goals as goal
-
-pub leave-requires : goal.leave-requires
-leave-requires c = (let z : length c.refused_line.result.bytes ≡ line_room = search rules in line_fits c.refused_line.result _ c.refused_line.ensures z, search rules)
 
 pub returns-then-timetable_length-gt-MAX_TIMETABLE : goal.returns-then-timetable_length-gt-MAX_TIMETABLE
 returns-then-timetable_length-gt-MAX_TIMETABLE c =
     rw (long_timetable _ _ c.if-timetable_length-gt-MAX_TIMETABLE.true)
     (line_leaves (stopped (fresh_of _).desk wrong_timetable) c.refused_line.result _ _ _ c.refused_line.ensures c.leave.ensures)
-
-pub leave-requires-then-input_length-gt-MAX_INPUT : goal.leave-requires-then-input_length-gt-MAX_INPUT
-leave-requires-then-input_length-gt-MAX_INPUT c = (let z : length c.refused_line-then-input_length-gt-MAX_INPUT.result.bytes ≡ line_room = search rules in line_fits c.refused_line-then-input_length-gt-MAX_INPUT.result _ c.refused_line-then-input_length-gt-MAX_INPUT.ensures z, search rules)
 
 pub returns-then-input_length-gt-MAX_INPUT : goal.returns-then-input_length-gt-MAX_INPUT
 returns-then-input_length-gt-MAX_INPUT c =

@@ -1,15 +1,8 @@
 use Prim.Native.Nat.{◌-◌}
 use lib.ListN.{length}
 use Rattle.desk_seat.specs.Files.{over}
-use Rattle.output_turns.proofs.Served.{Looking}
 use Rattle.output_turns.proofs.Rounds.{Loop}
 use Rattle.output_turns.proofs.take_turns.Given as goal
-
-abbrev pub invariant-loop-j : goal.invariant-loop-j
-invariant-loop-j l = Looking l.desk l.end l.j
-
-abbrev pub decreases-loop-j : goal.decreases-loop-j
-decreases-loop-j l = l.end - l.j
 
 abbrev pub invariant-loop-count : goal.invariant-loop-count
 invariant-loop-count l = Loop (over l.t) l.initial.room l.initial.desk l.room l.desk l.count

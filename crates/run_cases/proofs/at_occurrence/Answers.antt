@@ -22,34 +22,34 @@ pub text_of-requires : goal.text_of-requires
 text_of-requires c =
     let p = c in
     let b = p in
-    date_time_ok _ (placed_good _ _ _ (sym c.in-At.is ∙ p.placed.ensures) b.requires.0.zoned)
+    date_time_ok _ (placed_good _ _ _ (sym c.in-Some.is ∙ p.placed.ensures) b.requires.0.zoned)
 
-pub returns-in-Beyond : goal.returns-in-Beyond
-returns-in-Beyond c =
+pub returns-in-None : goal.returns-in-None
+returns-in-None c =
     let p = c in
     let o = p in
     let f = o in
     let b = f in
     let h : b.args.place < count_of (span_times b.args.run) = ltb-true _ _ (yes f.reached.ensures f.if-not-reached.false) in
     placed_not _ _
-    (sym c.in-Beyond.is
+    (sym c.in-None.is
     ∙ p.placed.ensures
     ∙ ap (λ (n : ℕ). placed_at n b.args.zone) (has_ticks o.occurrence-t.result _ o.occurrence-t.ensures).ticks)
     (in_years_lem b.args.run b.args.zone _ b.requires.0 b.requires.1 (omega (arith, h)))
 
-pub returns-in-At : goal.returns-in-At
-returns-in-At c =
+pub returns-in-Some : goal.returns-in-Some
+returns-in-Some c =
     let p = c in
     let o = p in
     let f = o in
     let b = f in
     let h : b.args.place < count_of (span_times b.args.run) = ltb-true _ _ (yes f.reached.ensures f.if-not-reached.false) in
     there_shown b.args.run b.args.zone b.args.place b.requires.0 b.requires.1 h
-    c.in-At.d
+    c.in-Some.d
     c.text_of.result
     o.reached-more.result
     (placed_is _ _ _
-    (sym c.in-At.is
+    (sym c.in-Some.is
     ∙ p.placed.ensures
     ∙ ap (λ (n : ℕ). placed_at n b.args.zone) (has_ticks o.occurrence-t.result _ o.occurrence-t.ensures).ticks)
     (in_years_lem b.args.run b.args.zone b.args.place b.requires.0 b.requires.1 h))

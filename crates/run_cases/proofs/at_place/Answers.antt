@@ -18,17 +18,17 @@ pub at_run-requires : goal.at_run-requires
 at_run-requires c =
     let d = c in
     let b = d in
-    (read_spans_good _ _ c.in-Is.x b.requires.1 (ap read_meaning (sym c.in-Is.is) ∙ d.run_read.ensures), b.requires.0)
+    (read_spans_good _ _ c.in-Ok.x b.requires.1 (ap read_meaning (sym c.in-Ok.is) ∙ d.run_read.ensures), b.requires.0)
 
-pub returns-in-Refused : goal.returns-in-Refused
-returns-in-Refused c =
+pub returns-in-Err : goal.returns-in-Err
+returns-in-Err c =
     let d = c in
-    unread_shown _ _ _ _ c.in-Refused.r (yes d.is_run.ensures d.if-not-is_run.false) c.alone-in-Refused.ensures
-    (ap read_meaning (sym c.in-Refused.is) ∙ d.run_read.ensures)
+    unread_shown _ _ _ _ c.in-Err.r (yes d.is_run.ensures d.if-not-is_run.false) c.alone-in-Err.ensures
+    (ap read_meaning (sym c.in-Err.is) ∙ d.run_read.ensures)
 
-pub returns-in-Is : goal.returns-in-Is
-returns-in-Is c =
+pub returns-in-Ok : goal.returns-in-Ok
+returns-in-Ok c =
     let d = c in
-    run_shown _ _ _ _ c.in-Is.x (yes d.is_run.ensures d.if-not-is_run.false)
-    (ap read_meaning (sym c.in-Is.is) ∙ d.run_read.ensures)
+    run_shown _ _ _ _ c.in-Ok.x (yes d.is_run.ensures d.if-not-is_run.false)
+    (ap read_meaning (sym c.in-Ok.is) ∙ d.run_read.ensures)
     c.at_run.ensures

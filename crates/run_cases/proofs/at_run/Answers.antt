@@ -8,16 +8,16 @@ pub at_occurrence-requires : goal.at_occurrence-requires
 at_occurrence-requires c =
     let b = c in (
       b.requires.0,
-      (good_exactly _).only (sym (ap verdict_meaning (sym c.in-Good.is) ∙ c.checked.ensures)),
+      (good_exactly _).only (sym (ap verdict_meaning (sym c.in-Ok.is) ∙ c.checked.ensures)),
       b.requires.1,
     )
 
-pub returns-in-Refused : goal.returns-in-Refused
-returns-in-Refused c =
-    refused_shown _ _ _ _ c.in-Refused.r c.alone.ensures
-    (ap verdict_meaning (sym c.in-Refused.is) ∙ c.checked.ensures)
+pub returns-in-Err : goal.returns-in-Err
+returns-in-Err c =
+    refused_shown _ _ _ _ c.in-Err.r c.alone.ensures
+    (ap verdict_meaning (sym c.in-Err.is) ∙ c.checked.ensures)
 
-pub returns-in-Good : goal.returns-in-Good
-returns-in-Good c =
-    good_shown _ _ _ _ (ap verdict_meaning (sym c.in-Good.is) ∙ c.checked.ensures)
+pub returns-in-Ok : goal.returns-in-Ok
+returns-in-Ok c =
+    good_shown _ _ _ _ (ap verdict_meaning (sym c.in-Ok.is) ∙ c.checked.ensures)
     c.at_occurrence.ensures

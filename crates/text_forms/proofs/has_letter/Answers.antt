@@ -1,25 +1,6 @@
-use mathlib.Core.Path.{refl}
-use native.Mathlib.Omega.{arith}
-use Rattle.text_forms.proofs.Looking.{found, next, ended}
+use mathlib.Core.Path.{◌∙◌}
+use Rattle.text_forms.proofs.Looking.{has_any}
 use Rattle.text_forms.proofs.has_letter.Goals as goal
 
-pub loop-k-init : goal.loop-k-init
-loop-k-init c = record { to = omega arith; rest = refl }
-
-pub bounds-letters-k : goal.bounds-letters-k
-bounds-letters-k c = omega arith
-
-pub returns-then-letters-k : goal.returns-then-letters-k
-returns-then-letters-k c = found _ _ _ c.loop-k.invariant c.loop-k-test.true c.if-letters-k.true
-
-pub overflow_add-k : goal.overflow_add-k
-overflow_add-k c = omega arith
-
-pub loop-k-smaller : goal.loop-k-smaller
-loop-k-smaller c = omega arith
-
-pub loop-k-preserved : goal.loop-k-preserved
-loop-k-preserved c = next _ _ _ c.loop-k.invariant c.loop-k-test.true c.if-letters-k.false
-
 pub returns : goal.returns
-returns c = ended _ _ _ c.loop-k.invariant c.loop-k-test.false
+returns c = c.contains.ensures.value ∙ has_any c.args.letters.now c.args.p

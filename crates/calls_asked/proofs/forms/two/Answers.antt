@@ -5,11 +5,11 @@ use Rattle.calls_asked.proofs.forms.two.Goals as goal
 pub returns-then-not-exactly : goal.returns-then-not-exactly
 returns-then-not-exactly c = no_two c.args.line.now c.args.o c.exactly.ensures c.if-not-exactly.true
 
-pub returns-in-No : goal.returns-in-No
-returns-in-No c = is_two c.args.line.now c.args.o c.exactly.ensures c.if-not-exactly.false (names c.args.line.now 2 c.field.ensures c.kind_named.ensures c.in-No.is) refl
+pub returns-in-None : goal.returns-in-None
+returns-in-None c = is_two c.args.line.now c.args.o c.exactly.ensures c.if-not-exactly.false (names c.args.line.now 2 c.field.ensures c.kind_named.ensures c.in-None.is) refl
 
-pub returns-in-No-kind_named : goal.returns-in-No-kind_named
-returns-in-No-kind_named c = is_two c.args.line.now c.args.o c.exactly.ensures c.if-not-exactly.false (names c.args.line.now 2 c.field.ensures c.kind_named.ensures c.in-Is.is) (names c.args.line.now 4 c.field-in-Is.ensures c.kind_named-in-Is.ensures c.in-No-kind_named.is)
+pub returns-in-None-kind_named : goal.returns-in-None-kind_named
+returns-in-None-kind_named c = is_two c.args.line.now c.args.o c.exactly.ensures c.if-not-exactly.false (names c.args.line.now 2 c.field.ensures c.kind_named.ensures c.in-Some.is) (names c.args.line.now 4 c.field-in-Some.ensures c.kind_named-in-Some.ensures c.in-None-kind_named.is)
 
-pub returns-in-Is-kind_named : goal.returns-in-Is-kind_named
-returns-in-Is-kind_named c = is_two c.args.line.now c.args.o c.exactly.ensures c.if-not-exactly.false (names c.args.line.now 2 c.field.ensures c.kind_named.ensures c.in-Is.is) (names c.args.line.now 4 c.field-in-Is.ensures c.kind_named-in-Is.ensures c.in-Is-kind_named.is)
+pub returns-in-Some-kind_named : goal.returns-in-Some-kind_named
+returns-in-Some-kind_named c = is_two c.args.line.now c.args.o c.exactly.ensures c.if-not-exactly.false (names c.args.line.now 2 c.field.ensures c.kind_named.ensures c.in-Some.is) (names c.args.line.now 4 c.field-in-Some.ensures c.kind_named-in-Some.ensures c.in-Some-kind_named.is)

@@ -1,7 +1,9 @@
+use mathlib.Core.List.{append_assoc}
 use Rattle.calls_replies.specs.ReplyParts.{parts_text}
-use Rattle.calls_replies.proofs.Growing.{then, of_nothing}
 use Rattle.calls_replies.proofs.parts.of_moment.Goals as goal
 
 pub returns : goal.returns
 unfolding parts_text
-returns c = of_nothing c.nothing.ensures (then c.with_date_field-a.ensures.0 (then c.with_date_field-b.ensures.0 (then c.with_date_field-c.ensures.0 (then c.with_clock_field.ensures.0 c.with_zone.ensures))))
+returns c =
+    rw (c.push_zone.ensures, c.push_clock_field.ensures.text, c.push_date_field-3.ensures.text, c.push_date_field-2.ensures.text, c.push_date_field.ensures.text, c.new-reply.ensures)
+    (simp append_assoc)

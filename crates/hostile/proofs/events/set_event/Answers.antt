@@ -1,19 +1,21 @@
-use mathlib.Core.Path.{ap, ◌∙◌}
-use Rattle.hostile.specs.Events.{last_served_with, length_with, issued_with, set_by}
+use Rattle.std.proofs.Common.{◌≡◌, ap, sym, ◌∙◌, arith, true, List, ℕ}
+use Rattle.basis.specs.Letters.{bytes}
+use Rattle.condition_words.specs.Words.{same}
+use Rattle.timetable.specs.Fields.{field_at}
+use Rattle.hostile.proofs.Literals.{literals, each_byte}
+use Rattle.hostile.specs.Events.{set_by}
 use Rattle.hostile.proofs.events.set_event.Goals as goal
 
-pub returns-then-same : goal.returns-then-same
+pub returns-in_ok-last_number-in-issued : goal.returns-in_ok-last_number-in-issued
 unfolding set_by
-returns-then-same c = simp (c.if-same.true, ← c.same.ensures) (c.only_if.ensures ∙ ap last_served_with c.last_number-n.ensures.0)
+returns-in_ok-last_number-in-issued c =
+    let b : same c.field.result.now (bytes "issued") ≡ true = each_byte _ _ (omega arith) (grind arith) in
+    let a : same (field_at c.args.line.now 2) (bytes "issued") ≡ true = ap (λ (w : List ℕ). same w (bytes "issued")) (sym c.field.ensures) ∙ b in
+    grind (arith, literals)
 
-pub returns-then-same-2 : goal.returns-then-same-2
+pub returns-in_ok-last_number-in-108 : goal.returns-in_ok-last_number-in-108
 unfolding set_by
-returns-then-same-2 c = simp (c.if-same-2.true, ← c.same-2.ensures, c.if-same.false, ← c.same.ensures) (c.only_if-then-same-2.ensures ∙ ap length_with c.last_number-n-then-same-2.ensures.0)
-
-pub returns-then-same-3 : goal.returns-then-same-3
-unfolding set_by
-returns-then-same-3 c = simp (c.if-same-3.true, ← c.same-3.ensures, c.if-same-2.false, ← c.same-2.ensures, c.if-same.false, ← c.same.ensures) (c.only_if-then-same-3.ensures ∙ ap issued_with c.last_number-n-then-same-3.ensures.0)
-
-pub returns : goal.returns
-unfolding set_by
-returns c = simp (c.if-same-3.false, ← c.same-3.ensures, c.if-same-2.false, ← c.same-2.ensures, c.if-same.false, ← c.same.ensures)
+returns-in_ok-last_number-in-108 c =
+    let b : same c.field.result.now (bytes "last_served") ≡ true = each_byte _ _ (omega arith) (grind arith) in
+    let a : same (field_at c.args.line.now 2) (bytes "last_served") ≡ true = ap (λ (w : List ℕ). same w (bytes "last_served")) (sym c.field.ensures) ∙ b in
+    grind (arith, literals)

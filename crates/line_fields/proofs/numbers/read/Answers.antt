@@ -1,51 +1,44 @@
-use Prim.Native.Nat.{◌+◌, ◌-◌, ◌*◌}
+use mathlib.Core.Path.{◌≡◌, refl, sym, ◌∙◌}
+use Prim.Native.Nat.{◌≤◌}
+use borrow.Author.Rules.{rules}
 use native.Mathlib.Omega.{arith}
-use borrow.Author.Tests.{ltb-true, ltb-false}
-use lib.ListN.{get_or}
-use mathlib.Core.Path.{sym, ◌∙◌}
-use Rattle.basis.proofs.Tests.{no, yes}
-use Rattle.numerals.proofs.Stretches.{a_digit}
-use Rattle.line_fields.proofs.Within.{start, next, none_read, too_short, too_long, at_other, too_great, at_end}
+use lib.ListN.{length}
+use Rattle.line_fields.proofs.Within.{is_digit_by, next, too_short, too_long, at_other, too_great, at_end}
 use Rattle.line_fields.proofs.numbers.read.Goals as goal
+use Rattle.line_fields.proofs.numbers.read.Goals.{then-is_empty-via-then-is_empty, then-is_empty-via-else-is_empty+then-s-gt-DIGITS}
 
-pub returns-then-s-lt1 : goal.returns-then-s-lt1
-returns-then-s-lt1 c = none_read _ _ _ c.none.ensures (too_short _ _ c.if-s-lt1.true)
+pub returns-then-is_empty-clause-value : goal.returns-then-is_empty-clause-value
+returns-then-is_empty-clause-value c = elim c.then-is_empty.branch [
+  | then-is_empty-via-then-is_empty w ↦ let h : length c.args.s.now ≡ 0 = search rules in sym (too_short _ _ (omega arith))
+  | then-is_empty-via-else-is_empty+then-s-gt-DIGITS w ↦ let h : 1 ≤ length c.args.s.now = search rules in sym (too_long _ _ h w.if-s-gt-DIGITS.true)
+]
 
-pub returns-then-s-gt-DIGITS : goal.returns-then-s-gt-DIGITS
-returns-then-s-gt-DIGITS c = none_read _ _ _ c.none-then-s-gt-DIGITS.ensures (too_long _ _ c.if-s-lt1.false c.if-s-gt-DIGITS.true)
+pub loop-b-init : goal.loop-b-init
+loop-b-init c = record { low = omega arith; rest = refl }
 
-pub loop-i-init : goal.loop-i-init
-loop-i-init c = start _ _
+pub returns-then-not-is_ascii_digit-clause-value : goal.returns-then-not-is_ascii_digit-clause-value
+returns-then-not-is_ascii_digit-clause-value c =
+    sym (at_other _ _ (omega arith) c.if-s-gt-DIGITS.false c.loop-b.invariant c.loop-b-test.true (is_digit_by _ c.is_ascii_digit.ensures.value c.if-not-is_ascii_digit.true))
 
-pub bounds-s-i : goal.bounds-s-i
-bounds-s-i c = omega arith
+pub returns-in_err-checked_mul-clause-value : goal.returns-in_err-checked_mul-clause-value
+returns-in_err-checked_mul-clause-value c =
+    let d = is_digit_by _ c.is_ascii_digit.ensures.value c.if-not-is_ascii_digit.false in
+    c.from_residual.ensures ∙ sym (too_great _ _ (omega arith) c.if-s-gt-DIGITS.false c.loop-b.invariant c.loop-b-test.true d (omega arith))
 
-pub returns-then-not-digit : goal.returns-then-not-digit
-returns-then-not-digit c = none_read _ _ _ c.none-then-not-digit.ensures (at_other _ _ c.if-s-lt1.false c.if-s-gt-DIGITS.false c.loop-i.invariant c.loop-i-test.true (no c.digit.ensures c.if-not-digit.true))
+pub returns-in_err-n-clause-value : goal.returns-in_err-n-clause-value
+returns-in_err-n-clause-value c =
+    let d = is_digit_by _ c.is_ascii_digit.ensures.value c.if-not-is_ascii_digit.false in
+    c.from_residual-in_err-n.ensures ∙ sym (too_great _ _ (omega arith) c.if-s-gt-DIGITS.false c.loop-b.invariant c.loop-b-test.true d (omega arith))
 
-pub overflow_sub-d : goal.overflow_sub-d
-overflow_sub-d c = omega (arith, a_digit _ (yes c.digit.ensures c.if-not-digit.false))
+pub returns-then-most-n-clause-value : goal.returns-then-most-n-clause-value
+returns-then-most-n-clause-value c =
+    let d = is_digit_by _ c.is_ascii_digit.ensures.value c.if-not-is_ascii_digit.false in
+    sym (too_great _ _ (omega arith) c.if-s-gt-DIGITS.false c.loop-b.invariant c.loop-b-test.true d (omega arith))
 
-pub returns-then-beyond : goal.returns-then-beyond
-returns-then-beyond c = none_read _ _ _ c.none-then-beyond.ensures (too_great _ _ c.if-s-lt1.false c.if-s-gt-DIGITS.false c.loop-i.invariant c.loop-i-test.true (yes c.digit.ensures c.if-not-digit.false) (ltb-true _ _ (sym c.beyond.ensures ∙ c.if-beyond.true)))
+pub loop-b-preserved : goal.loop-b-preserved
+loop-b-preserved c =
+    let d = is_digit_by _ c.is_ascii_digit.ensures.value c.if-not-is_ascii_digit.false in
+    next _ _ (omega arith) c.if-s-gt-DIGITS.false c.loop-b.invariant c.loop-b-test.true d _ (omega arith) c.if-most-n.false
 
-pub overflow_mul-v : goal.overflow_mul-v
-overflow_mul-v c = omega (arith, ltb-false c.args.most (c.loop-i.v * 10 + (get_or c.args.s.now c.loop-i.i 0 - 48)) (sym c.beyond.ensures ∙ c.if-beyond.false))
-
-pub overflow_cast-v : goal.overflow_cast-v
-overflow_cast-v c = omega (arith, c.shared_slice_known-in-loop-i-1.given c.loop-i.i)
-
-pub overflow_add-v : goal.overflow_add-v
-overflow_add-v c = omega (arith, ltb-false c.args.most (c.loop-i.v * 10 + (get_or c.args.s.now c.loop-i.i 0 - 48)) (sym c.beyond.ensures ∙ c.if-beyond.false))
-
-pub overflow_add-i : goal.overflow_add-i
-overflow_add-i c = omega arith
-
-pub loop-i-smaller : goal.loop-i-smaller
-loop-i-smaller c = omega arith
-
-pub loop-i-preserved : goal.loop-i-preserved
-loop-i-preserved c = next _ _ c.if-s-lt1.false c.if-s-gt-DIGITS.false c.loop-i.invariant c.loop-i-test.true (yes c.digit.ensures c.if-not-digit.false) (ltb-false _ _ (sym c.beyond.ensures ∙ c.if-beyond.false))
-
-pub returns : goal.returns
-returns c = (sym (at_end _ _ c.if-s-lt1.false c.if-s-gt-DIGITS.false c.loop-i.invariant c.loop-i-test.false), c.loop-i.invariant.low)
+pub returns-clause-value : goal.returns-clause-value
+returns-clause-value c = let h : 1 ≤ length c.args.s.now = search rules in sym (at_end _ _ h c.if-s-gt-DIGITS.false c.loop-b.invariant (omega arith) c.loop-b-test.false)

@@ -1,19 +1,26 @@
-use Rattle.text_durations.proofs.Written.{wrote_nothing, wrote_part, shown_length}
-use native.Mathlib.Omega.{arith}
 use mathlib.Core.Path.{sym, ◌∙◌}
+use mathlib.Core.List.{append_assoc, append-nil}
+use Prim.Native.Nat.{ℕ}
+use native.Mathlib.Omega.{arith}
+use lib.ListN.{length-append}
+use Rattle.text_durations.proofs.Written.{is_dropped, is_shown, shown_length}
 use Rattle.text_durations.proofs.spell.shown.Goals as goal
 
 pub returns-then-is_zero : goal.returns-then-is_zero
-returns-then-is_zero c = wrote_nothing _ _ _ c.fraction_in-u.ensures (sym c.is_zero.ensures ∙ c.if-is_zero.true)
+returns-then-is_zero c = rw (is_dropped c.args.letter c.args.n c.args.ticks c.fraction_in-u.ensures (sym c.is_zero.ensures ∙ c.if-is_zero.true), append-nil)
 
-pub decimal-requires : goal.decimal-requires
-decimal-requires c = omega (arith, shown_length c.args.letter c.args.n c.args.ticks c.fraction_in-u.ensures (sym c.is_zero.ensures ∙ c.if-is_zero.false), c.requires)
+pub push_decimal-requires : goal.push_decimal-requires
+push_decimal-requires c = (omega arith, omega (arith, shown_length c.args.letter c.args.n c.args.ticks c.fraction_in-u.ensures (sym c.is_zero.ensures ∙ c.if-is_zero.false)))
 
-pub with_fraction-requires : goal.with_fraction-requires
-with_fraction-requires c = omega (arith, c.decimal.ensures, shown_length c.args.letter c.args.n c.args.ticks c.fraction_in-u.ensures (sym c.is_zero.ensures ∙ c.if-is_zero.false), c.requires)
+pub push_fraction-requires : goal.push_fraction-requires
+push_fraction-requires c =
+    (omega arith, rw (c.push_decimal.ensures, length-append {A = ℕ}) (omega (arith, shown_length c.args.letter c.args.n c.args.ticks c.fraction_in-u.ensures (sym c.is_zero.ensures ∙ c.if-is_zero.false))))
 
 pub push-requires : goal.push-requires
-push-requires c = omega (arith, c.with_fraction.ensures, c.decimal.ensures, shown_length c.args.letter c.args.n c.args.ticks c.fraction_in-u.ensures (sym c.is_zero.ensures ∙ c.if-is_zero.false), c.requires)
+push-requires c =
+    (omega arith, rw (c.push_fraction.ensures, c.push_decimal.ensures) (simp length-append (omega (arith, shown_length c.args.letter c.args.n c.args.ticks c.fraction_in-u.ensures (sym c.is_zero.ensures ∙ c.if-is_zero.false)))))
 
 pub returns : goal.returns
-returns c = wrote_part _ _ _ c.fraction_in-u.ensures (sym c.is_zero.ensures ∙ c.if-is_zero.false) c.decimal.ensures c.with_fraction.ensures c.push.ensures
+returns c =
+    rw (c.push.ensures, c.push_fraction.ensures, c.push_decimal.ensures, is_shown c.args.letter c.args.n c.args.ticks c.fraction_in-u.ensures (sym c.is_zero.ensures ∙ c.if-is_zero.false))
+    (simp append_assoc)

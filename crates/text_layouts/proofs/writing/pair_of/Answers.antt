@@ -1,21 +1,21 @@
-use borrow.Author.Tests.{eq-eqb, ne_eqb}
+use native.Mathlib.Omega.{arith}
 use Rattle.text_layouts.specs.Writing.{pair_of}
 use Rattle.text_layouts.proofs.Pieces.{pair_hour, pair_minute, pair_second}
 use Rattle.text_layouts.proofs.writing.pair_of.Goals as goal
 
-pub returns-then-p-eq77 : goal.returns-then-p-eq77
+pub returns-in-77 : goal.returns-in-77
 unfolding pair_of
-returns-then-p-eq77 c = simp (eq-eqb _ _ c.if-p-eq77.true)
+returns-in-77 c = rw c.in-77.is
 
-pub returns-then-p-eq68 : goal.returns-then-p-eq68
+pub returns-in-68 : goal.returns-in-68
 unfolding pair_of
-returns-then-p-eq68 c = simp (eq-eqb _ _ c.if-p-eq68.true, ne_eqb _ _ c.if-p-eq77.false)
+returns-in-68 c = rw c.in-68.is
 
-pub returns-then-p-eq104 : goal.returns-then-p-eq104
-returns-then-p-eq104 c = pair_hour c.args.p c.args.d c.clock-t.ensures c.if-p-eq104.true
+pub returns-in-104 : goal.returns-in-104
+returns-in-104 c = pair_hour c.args.p c.args.d c.clock-seconds.ensures c.in-104.is
 
-pub returns-then-p-eq109 : goal.returns-then-p-eq109
-returns-then-p-eq109 c = pair_minute c.args.p c.args.d c.clock-t.ensures c.if-p-eq109.true
+pub returns-in-109 : goal.returns-in-109
+returns-in-109 c = pair_minute c.args.p c.args.d c.clock-seconds.ensures c.in-109.is
 
-pub returns : goal.returns
-returns c = pair_second c.args.p c.args.d c.clock-t.ensures c.if-p-eq77.false c.if-p-eq68.false c.if-p-eq104.false c.if-p-eq109.false
+pub returns-in_default : goal.returns-in_default
+returns-in_default c = pair_second c.args.p c.args.d c.clock-seconds.ensures (λ e. omega arith) (λ e. omega arith) (λ e. omega arith) (λ e. omega arith)

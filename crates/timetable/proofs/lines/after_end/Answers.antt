@@ -6,6 +6,6 @@ pub returns-then-end-t : goal.returns-then-end-t
 unfolding after_end
 returns-then-end-t c = simp (lt-ltb _ _ c.if-end-t.true)
 
-pub returns : goal.returns
+pub returns-else-end-t : goal.returns-else-end-t
 unfolding after_end
-returns c = simp (le-ltb _ _ c.if-end-t.false)
+returns-else-end-t c = simp (le-ltb _ _ c.if-end-t.false)

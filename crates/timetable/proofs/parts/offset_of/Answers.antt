@@ -1,31 +1,32 @@
-use mathlib.Core.Path.{refl}
+use mathlib.Core.Path.{◌∙◌, sym}
+use mathlib.Core.Logic.{inl, inr}
 use native.Mathlib.Omega.{arith}
-use Rattle.timetable.proofs.Parting.{before_stop, before_on, before_end}
+use lib.Dec.{eqb}
+use lib.ListN.{drop}
+use borrow.Author.Rules.{rules}
+use borrow.Author.Tests.{tests}
+use Rattle.std.proofs.lemmas.List.{take_rest, length-drop}
+use Rattle.std.proofs.lemmas.Iterator.{YieldsList-from_slice}
+use Rattle.std.proofs.lemmas.Iterator.Search.{position_from_yields_List}
+use Rattle.timetable.proofs.Parting.{before_end, found_at, found_none}
 use Rattle.timetable.proofs.parts.offset_of.Goals as goal
 
-pub loop-i-init : goal.loop-i-init
-loop-i-init c = refl
+-- past the end
+pub returns-in_default : goal.returns-in_default
+returns-in_default c =
+    let h = c.in_default.ensures.lookup.0 in
+    elim h [ inl p ↦ omega (arith, before_end c.args.c c.args.s.now c.args.at (omega arith)) | inr p ↦ absurd (omega arith) ]
 
-pub bounds-s-i : goal.bounds-s-i
-bounds-s-i c = omega arith
-
-pub returns-then-s-i : goal.returns-then-s-i
-returns-then-s-i c =
+pub returns-in-Some-position : goal.returns-in-Some-position
+returns-in-Some-position c =
     let a = c.args in
-    omega (arith, before_stop a.c a.s.now c.loop-i.i c.loop-i-test.true c.if-s-i.true)
+    let rest = drop a.at a.s.now in
+    let looked = position_from_yields_List (λ b. eqb b a.c) _ _ c.position.result c.position.ensures.ran (YieldsList-from_slice rest (cc (c.in-Some.ensures.lookup.0.2, take_rest a.s.now a.at))) (λ x b q k. search (rules, tests)) in
+    omega (arith, found_at a.c rest c.in-Some-position.i (sym c.in-Some-position.is ∙ looked))
 
-pub overflow_add-i : goal.overflow_add-i
-overflow_add-i c = omega arith
-
-pub loop-i-smaller : goal.loop-i-smaller
-loop-i-smaller c = omega arith
-
-pub loop-i-preserved : goal.loop-i-preserved
-loop-i-preserved c =
+pub returns-in-None : goal.returns-in-None
+returns-in-None c =
     let a = c.args in
-    omega (arith, before_on a.c a.s.now c.loop-i.i c.loop-i-test.true c.if-s-i.false)
-
-pub returns : goal.returns
-returns c =
-    let a = c.args in
-    omega (arith, before_end a.c a.s.now c.loop-i.i c.loop-i-test.false)
+    let rest = drop a.at a.s.now in
+    let looked = position_from_yields_List (λ b. eqb b a.c) _ _ c.position.result c.position.ensures.ran (YieldsList-from_slice rest (cc (c.in-Some.ensures.lookup.0.2, take_rest a.s.now a.at))) (λ x b q k. search (rules, tests)) in
+    omega (arith, c.in-Some.ensures.lookup.0, length-drop a.at a.s.now, found_none a.c rest (sym c.in-None.is ∙ looked))

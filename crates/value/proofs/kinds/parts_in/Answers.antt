@@ -1,22 +1,12 @@
-use mathlib.Core.Path.{refl}
-use native.Mathlib.Omega.{arith}
+use borrow.Author.Rules.{rules}
 use Rattle.value.proofs.Looking.{next, ended}
 use Rattle.value.proofs.kinds.parts_in.Goals as goal
+use Rattle.value.proofs.kinds.parts_in.Goals.{in-89, in-77, in-68, in-104, in_default}
 
-pub loop-k-init : goal.loop-k-init
-loop-k-init c = record { to = omega arith; rest = refl }
-
-pub bounds-letters-k : goal.bounds-letters-k
-bounds-letters-k c = omega arith
-
-pub overflow_add-k : goal.overflow_add-k
-overflow_add-k c = omega arith
-
-pub loop-k-smaller : goal.loop-k-smaller
-loop-k-smaller c = omega arith
-
-pub loop-k-preserved : goal.loop-k-preserved
-loop-k-preserved c = next _ _ _ _ c.loop-k.invariant c.loop-k-test.true c.with_letter-found.ensures
+pub loop-p-preserved : goal.loop-p-preserved
+loop-p-preserved c =
+    next _ _ _ _ c.loop-p.invariant c.loop-p-test.true
+    (elim c.match-p.branch [ in-89 w ↦ search rules | in-77 w ↦ search rules | in-68 w ↦ search rules | in-104 w ↦ search rules | in_default w ↦ search rules ])
 
 pub returns : goal.returns
-returns c = ended _ _ _ c.loop-k.invariant c.loop-k-test.false
+returns c = ended _ _ _ c.loop-p.invariant c.loop-p-test.false

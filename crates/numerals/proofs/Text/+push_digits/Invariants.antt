@@ -1,0 +1,4 @@
+use Rattle.numerals.proofs.Text.+push_digits.Given as goal
+
+abbrev pub decreases-push_digits : goal.decreases-push_digits
+decreases-push_digits g l = l.k
