@@ -40,7 +40,7 @@ pub struct Kept {
 }
 
 // Text that grows, with room for N bytes.
-#[derive(Drop)]
+#[derive(Clone, Copy)]
 pub struct Text<const N: usize> {
     bytes: [u8; N],
     len: usize,
@@ -48,11 +48,21 @@ pub struct Text<const N: usize> {
 
 // Clauses see the bytes of the text. After them are zeros.
 impl<const N: usize> Model for Text<N> {
+    ghost use Rattle.std.specs.Prelude.{◌≡◌, ℕ, List, ◌++◌, ◌-◌, ◌≤◌, length, take, drop, replicate};
+    ghost use Rattle.basis.proofs.Filled.{filled_again, filled_length};
+
     ghost Value = { List ℕ };
 
     ghost view = { λ t. take t.len t.bytes };
 
-    ghost invariant = { λ t. (t.len ≤ N) × (drop t.len t.bytes ≡ replicate (N - t.len) 0) };
+    ghost invariant = { λ t. (t.len ≤ N) × (drop t.len t.bytes ≡ replicate (N - t.len) 0) × (length t.bytes ≡ N) };
+
+    ghost inverse = { λ w. record { bytes = w ++ replicate (N - length w) 0; len = length w } };
+
+    ghost inverse_ok = { λ t h i. record {
+      bytes = filled_again t.bytes t.len N h i;
+      len = filled_length t.bytes t.len N h i;
+    } };
 }
 
 // The byte at an offset, 0 past the end.
@@ -191,14 +201,14 @@ impl<const N: usize> Text<N> {
 }
 
 // How many digits n has without leading zeros.
-fn width(n: u64) -> usize
+pub fn width(n: u64) -> usize
     ensures { result ≡ length (its.decimal n) }
 {
     if n < 10 { 1 } else { width(n / 10) + 1 }
 }
 
 // A number of k digits without its final zeros.
-fn strip(n: u64, k: usize) -> Kept
+pub fn strip(n: u64, k: usize) -> Kept
     ensures { result ≡ its.kept_digits k n }
 {
     if 0 < k && n % 10 == 0 {
