@@ -1,5 +1,5 @@
 -- What the crate of conditions proves of accepted conditions, as a seat and the desk use it: such a text passes Open's
--- checks, it fits a seat, and a judgement of it is never refused.
+-- checks, and it fits a seat. That a judgement of it is never refused is the type of judgements.
 use Rattle.std.specs.Prelude.{Err, Ok, Result}
 use mathlib.Core.Path.{◌≡◌, refl, sym, ◌∙◌}
 use mathlib.Core.Bool.{Bool, true, false}
