@@ -21,5 +21,5 @@ pub fn read(kind: Kind, line: &[u8], n: usize, made: &[u8]) -> Result<Value, Ref
     if n == SECOND && !made.is_empty() {
         return text::read(kind, made);
     }
-    text::read(kind, &line[ends])
+    text::read(kind, &line[ends.start..ends.end])
 }

@@ -5,9 +5,15 @@ ghost use Rattle.timetable.specs.Fields.{has_field, field_at};
 ghost use Rattle.timetable.specs.Carried.{Starts, Stretches, ends_field};
 
 use crate::parts::offset_of;
-use std::ops::Range;
 
 const TAB: u8 = b'\t';
+
+// Where a field starts and where it ends, for a line that has it. A `Range` would say it too, but is not `Copy`.
+#[derive(Clone, Copy)]
+pub struct FieldEnds {
+    pub start: usize,
+    pub end: usize,
+}
 
 // Where the n-th field starts; none where the line has no such field.
 fn start_of(line: &[u8], n: usize) -> Option<usize>
@@ -35,11 +41,12 @@ pub fn has_field(line: &[u8], n: usize) -> bool
 }
 
 // Where the n-th field stands, found in one walk; none where the line has no such field.
-pub fn find(line: &[u8], n: usize) -> Option<Range<usize>>
+pub fn find(line: &[u8], n: usize) -> Option<FieldEnds>
     ensures { Stretches result line.now n }
 {
     let start = start_of(line, n)?;
-    Some(start..offset_of(TAB, line, start))
+    let end = offset_of(TAB, line, start);
+    Some(FieldEnds { start, end })
 }
 
 // The n-th field, without the tabs around it; empty where the line has none.
@@ -47,7 +54,7 @@ pub fn field(line: &[u8], n: usize) -> &[u8]
     ensures { result.now ≡ field_at line.now n }
 {
     match find(line, n) {
-        Some(range) => &line[range],
+        Some(ends) => &line[ends.start..ends.end],
         None => b"",
     }
 }
