@@ -13,7 +13,7 @@ use Rattle.basis.proofs.Tests.{both_left, both_right, both_true}
 use Rattle.calendar.specs.declared.Date.{Date}
 use Rattle.value.specs.Bounds.{max_year_month}
 use Rattle.value.specs.Clocks.{at_clock_of, same_clock}
-use Rattle.value.specs.Rows.{is_moment, has, kept_by, kept, of_kind}
+use Rattle.value.specs.Rows.{parts_in, is_moment, has, layout_of, template_of, kept_by, kept, of_kind}
 use Rattle.value.specs.Values.{ok_date_time, ok_day_time, ok_year_month, date_in}
 use Rattle.value.specs.Kinds.{ok_value}
 use Rattle.value.specs.declared.Offset.TheVariants.{East, West}
@@ -24,13 +24,34 @@ use Rattle.value.specs.contracts.DateTimePartialEq.TheImpl.{eq-value as record_e
 use Rattle.value.specs.declared.DayTime.{DayTime}
 use Rattle.value.specs.declared.YearMonth.{YearMonth}
 use Rattle.value.specs.declared.Kind.{Kind}
+use Rattle.value.specs.declared.OwnParts.{OwnParts}
 use Rattle.value.specs.declared.Value.{Value}
 use Rattle.value.specs.declared.Value.TheVariants as VV
 use Rattle.value.proofs.Signs.{signed_within}
 use Rattle.value.proofs.ClockLaws.{same_clock_self, same_clock_one}
 use Rattle.value.specs.declared.Offset.{Offset}
 
--- the test that a record is what the kind keeps of it: the zone is kept
+-- as the code makes it: the parts that a kind has, its template, and the record whose clock is kept
+module _ (k : Kind) (d t : DateTime) (own : OwnParts) (ep : own ≡ parts_in (layout_of k)) (et : t ≡ template_of k) where
+  abbrev dated : ℕ → ℕ → ℕ → Date
+  dated y m g = record { year = y; month = m; day = g }
+
+  pub kept_by_lem : {y m g : ℕ} (b : Bool) → own.clock ≡ b → y ≡ pick own.year d.year t.year → m ≡ pick own.month d.month t.month
+      → g ≡ pick own.day d.day t.day → at_clock_of (dated y m g) (pick b d t) d.zone ≡ kept k d
+  kept_by_lem b eb ey em eg =
+      (λ i. at_clock_of (dated (ey i) (em i) (eg i)) (pick (sym eb i) d t) d.zone)
+      ∙ (λ i. at_clock_of
+      (dated (pick (ep i).year d.year (et i).year) (pick (ep i).month d.month (et i).month) (pick (ep i).day d.day (et i).day))
+      (pick (ep i).clock d (et i))
+      d.zone)
+
+pub of_kind_by : (k : Kind) (d x : DateTime) → x ≡ kept k d
+    → every (eqb d.year x.year ∷ eqb d.month x.month ∷ eqb d.day x.day ∷ same_clock d x ∷ []) ≡ of_kind k d
+unfolding of_kind
+of_kind_by k d x e =
+    λ i. every (eqb d.year (e i).year ∷ eqb d.month (e i).month ∷ eqb d.day (e i).day ∷ same_clock d (e i) ∷ [])
+
+-- the test that a record equals what the kind keeps of it, as the code makes it: the zone is kept
 zone_kept : (z : Option Offset) → option_eq offset_eq.it z z ≡ true
 zone_kept None = refl
 zone_kept (Some (East m)) = eq-eqb m m refl
@@ -45,9 +66,9 @@ but_the_zone true true true false n e = refl
 but_the_zone true true true true false e = refl
 but_the_zone true true true true true e = e
 
-pub of_kind_by : (k : Kind) (d x : DateTime) → x ≡ kept k d → record_eq.it d x ≡ of_kind k d
+pub of_kind_by_equality : (k : Kind) (d x : DateTime) → x ≡ kept k d → record_eq.it d x ≡ of_kind k d
 unfolding of_kind same_clock
-of_kind_by k d x e =
+of_kind_by_equality k d x e =
     (λ i. record_eq.it d (e i))
     ∙ but_the_zone
     (eqb d.year (kept k d).year)

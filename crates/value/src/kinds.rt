@@ -121,7 +121,7 @@ pub fn kept(kind: Kind, d: DateTime) -> DateTime
     clocks::at_clock_of(e, if own.clock { d } else { t }, d.zone)
 }
 
-#[tactic(auto, using(crate::proofs::KindParts::of_kind_by))]
+#[tactic(auto, using(crate::proofs::KindParts::of_kind_by_equality))]
 pub fn of_kind(kind: Kind, d: DateTime) -> bool
     ensures { result ≡ the.of_kind kind d }
 {
