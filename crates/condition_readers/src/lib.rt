@@ -28,7 +28,7 @@ pub struct Read {
 // The rules that are operands with operators between: a condition is clauses with `or`, a clause is tests with `and`, a
 // sum is terms with `+` or `-`. They are named by values, so that the loop over operands stands once.
 #[derive(Clone, Copy)]
-enum Rule {
+pub enum Rule {
     Condition,
     Clause,
     Sum,
