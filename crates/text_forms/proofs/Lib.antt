@@ -1,3 +1,4 @@
 pub mod Looking
 pub mod Weights
 pub mod RowTests
+pub mod Answers
