@@ -59,10 +59,12 @@ fn literals(given: Given) -> Result<(), Refusal>
 }
 
 // Kinds come before literals.
+#[tactic(auto, unfolding(condition_readers::specs::Meaning::first))]
 fn check_part(part: Part) -> Result<(), Refusal>
     ensures { checked result ≡ meaning.first (by_kinds part.sort) (the.literals part.given) }
 {
-    kinds(part.sort).and(literals(part.given))
+    kinds(part.sort)?;
+    literals(part.given)
 }
 
 // Open's checks of a condition: 7 by length, 8, 7 by grammar, 9, the leftmost bad literal's own number. Neither row nor zone matters.
