@@ -46,8 +46,8 @@ struct Reader<'a> {
 impl Reader<'_> {
     // The operator of a rule.
     #[tactic(auto, unfolding(crate::specs::Carried::joint_at))]
-    fn joint(self, rule: Rule, at: usize) -> Option<Joint>
-        ensures { result ≡ the.joint_at rule self.entry.text.now at }
+    fn joint(&self, rule: Rule, at: usize) -> Option<Joint>
+        ensures { result ≡ the.joint_at rule self.now.text.now at }
     {
         match rule {
             Rule::Condition => condition_symbols::or(self.text, at),
@@ -57,8 +57,8 @@ impl Reader<'_> {
     }
 
     // What was read, with the whole numbers that follow it after `*`.
-    fn multiplied(self, mut left: Read) -> Option<Read>
-        ensures { result ≡ the.multiplied_read self.entry left }
+    fn multiplied(&self, mut left: Read) -> Option<Read>
+        ensures { result ≡ the.multiplied_read self.now left }
     {
         while let Some(by) = condition_symbols::star(self.text, left.end).ok()? {
             left = Read {
@@ -71,8 +71,8 @@ impl Reader<'_> {
 
     // Operands with operators between, taken from the left.
     #[cycle(readers)]
-    fn chain(self, rule: Rule, at: usize, depth: usize, mode: Mode) -> Option<Read>
-        ensures { result ≡ the.chain_read self.entry depth rule at mode }
+    fn chain(&self, rule: Rule, at: usize, depth: usize, mode: Mode) -> Option<Read>
+        ensures { result ≡ the.chain_read self.now depth rule at mode }
     {
         let mut left = self.operand(rule, at, depth, mode)?;
         while let Some(joint) = self.joint(rule, left.end) {
@@ -88,8 +88,8 @@ impl Reader<'_> {
 
     // A clause, a test or a term.
     #[cycle(readers)]
-    fn operand(self, rule: Rule, at: usize, depth: usize, mode: Mode) -> Option<Read>
-        ensures { result ≡ the.operand_read self.entry depth rule at mode }
+    fn operand(&self, rule: Rule, at: usize, depth: usize, mode: Mode) -> Option<Read>
+        ensures { result ≡ the.operand_read self.now depth rule at mode }
     {
         match rule {
             Rule::Condition => self.chain(Rule::Clause, at, depth, mode),
@@ -100,8 +100,8 @@ impl Reader<'_> {
 
     // One sum, or two with a comparison between.
     #[cycle(readers)]
-    fn test(self, at: usize, depth: usize, mode: Mode) -> Option<Read>
-        ensures { result ≡ the.test_read self.entry depth at mode }
+    fn test(&self, at: usize, depth: usize, mode: Mode) -> Option<Read>
+        ensures { result ≡ the.test_read self.now depth at mode }
     {
         let left = self.chain(Rule::Sum, at, depth, mode)?;
         let Some(joint) = condition_symbols::comparison(self.text, left.end) else {
@@ -117,8 +117,8 @@ impl Reader<'_> {
 
     // A condition in parentheses, or a kind's word with what stands in the parentheses after it.
     #[cycle(readers)]
-    fn factor(self, at: usize, depth: usize, mode: Mode) -> Option<Read>
-        ensures { result ≡ the.factor_read self.entry depth at mode }
+    fn factor(&self, at: usize, depth: usize, mode: Mode) -> Option<Read>
+        ensures { result ≡ the.factor_read self.now depth at mode }
     {
         if depth == 0 {
             return None;
@@ -135,8 +135,8 @@ impl Reader<'_> {
     // What stands in the parentheses with which a factor starts: a condition; or after a kind's word a text, a field, or
     // a sum to be cast.
     #[cycle(readers)]
-    fn inner(self, start: Start, depth: usize, mode: Mode) -> Option<Read>
-        ensures { result ≡ the.inner_read self.entry depth start mode }
+    fn inner(&self, start: Start, depth: usize, mode: Mode) -> Option<Read>
+        ensures { result ≡ the.inner_read self.now depth start mode }
     {
         match start {
             Start::Open { end } => self.chain(Rule::Condition, end, depth, mode),
