@@ -25,7 +25,8 @@ impl Model for HexBytes {
 
 impl HexBytes {
     pub fn as_slice(&self) -> &[u8]
-        ensures { result.now ≡ self.now }
+        ensures value { result.now ≡ self.now }
+        ensures within { length self.now ≤ the.most_named }
     {
         &self.bytes[..self.count]
     }
