@@ -1,5 +1,5 @@
 -- docs/LINES.md, "Library example": which call of the desk a line is, and what it holds.
-use Rattle.std.specs.Prelude.{List, ℕ, Option, Some, None, option_map}
+use Rattle.std.specs.Prelude.{List, ℕ, Option, Some, None, option_map, unwrap_or}
 use Rattle.basis.specs.Choice.{pick}
 use Rattle.basis.specs.Letters.{bytes}
 use Rattle.timetable.specs.Lines.{line_end}
@@ -34,3 +34,10 @@ call_at input i = call_in (line_from input i)
 -- "TEXT is all that follows the tab before it"
 abbrev pub condition_at : List ℕ → ℕ → List ℕ
 condition_at input i = after_tab (line_from input i)
+
+-- N of `close`, read of any line's second field; 0 where that is no number
+abbrev pub ticket_in : List ℕ → ℕ
+ticket_in line = unwrap_or (number_of four_bytes (field_at line 2)) 0
+
+abbrev pub ticket_at : List ℕ → ℕ → ℕ
+ticket_at input i = ticket_in (line_from input i)

@@ -53,3 +53,16 @@ pub fn condition_at(input: &[u8], at: usize) -> &[u8]
 {
     after_tab(line_at(input, at))
 }
+
+fn ticket_in(line: &[u8]) -> u32
+    ensures { result ≡ the.ticket_in line.now }
+{
+    read(field(line, 2), FOUR_BYTES).map_or(0, |ticket| ticket as u32)
+}
+
+// The ticket of `close→N`, and of any other line the number in its second field; 0 where that is no number.
+pub fn ticket_at(input: &[u8], at: usize) -> u32
+    ensures { result ≡ the.ticket_at input.now at }
+{
+    ticket_in(line_at(input, at))
+}
