@@ -48,9 +48,12 @@ fn write_within(rt: &impl Print, v: Value, long: usize) {
 
 // `record→ROOM→V`: the record goes to the writer as it is, and no maker has seen it.
 pub fn write_record(rt: &impl Print, line: &[u8]) {
-    match (read(field(line, 2), ROOM), record_at(line, 3)) {
-        (Some(long), Some(v)) => write_within(rt, v, long),
-        _ => tell_no_call(rt),
+    let Some(long) = read(field(line, 2), ROOM) else {
+        return tell_no_call(rt);
+    };
+    match record_at(line, 3) {
+        Some(v) => write_within(rt, v, long),
+        None => tell_no_call(rt),
     }
 }
 
